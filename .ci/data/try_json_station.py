@@ -26,7 +26,7 @@ def made(words, lines, *more):
         os.remove(os.path.join(folder, name))
     trace = os.path.join(folder, "trace")
     with open(lines, "rb") as given:
-        done = subprocess.run([program, "station", *more, "--trace", trace, *words], stdin=given, capture_output=True, timeout=60, check=False)
+        done = subprocess.run([program, "station", *more, "--trace", trace, "--trace-frames", *words], stdin=given, capture_output=True, timeout=60, check=False)
     traced = Path(trace).read_bytes() if os.path.exists(trace) else b""
     return done.stdout, done.stderr, traced, done.returncode
 

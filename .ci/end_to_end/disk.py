@@ -6,7 +6,8 @@
 PROGRAM answers the kept conversation KEPT with LIBRARY, made of disk.c, before it. Its page must be whole and synced under another name,
 and the folder synced after the page has its own, before MCF is written; that must be seen to be missed where syncing does nothing. Then
 each call that changes a file or writes a turn is the one before or after which the process is killed, and the one that fails: no file of a
-page is ever cut short, and MCF is never written for a page that isn't there. Prints how many runs there were; ends with status 1, and with
+page is ever cut short, and MCF is never written for a page that isn't there. And where 50 numbers are taken, the second page of a call is
+tried under the number after the first one's alone. Prints how many runs there were; ends with status 1, and with
 what was wrong, at the first one that is."""
 import os
 import subprocess
@@ -16,12 +17,14 @@ from pathlib import Path
 
 
 class Run:
-    """One run of the station into an empty folder: what it said, what its calls were, and what it left."""
+    """One run of the station into a folder where the first numbers are taken: what it said, what its calls were, and what it left."""
 
-    def __init__(self, program, library, kept, **env):
+    def __init__(self, program, library, kept, taken=0, **env):
         with tempfile.TemporaryDirectory() as room:
             folder, log = Path(room) / "pages", Path(room) / "log"
             folder.mkdir()
+            for number in range(1, taken + 1):
+                (folder / f"page-{number}.pbm").touch()
             words = [program, "station", "--answer", "--out", str(folder)]
             with open(f"{kept}.lines", "rb") as lines:
                 ran = subprocess.run(
@@ -74,6 +77,12 @@ def main(program, library, kept):
     wrong = missed(whole, before) or ("its page is another" if whole.pages() != {"page-1.pbm": page} else None)
     if not wrong and not missed(Run(program, library, kept, DISK_SYNCS="none"), before):
         wrong = "a station that syncs nothing isn't seen"
+    if not wrong:
+        two = Run(program, library, Path(kept).with_name("reference_room_for_one_page"), 50)
+        runs += 1
+        tried = [call.split("page-")[1] for call, _ in two.calls if call.startswith("link DIR/page-")]
+        if tried != [f"{number}.pbm" for number in range(1, 53)]:
+            wrong = f"two pages where 50 numbers are taken: {len(tried)} names are tried, up to {tried[-1:]}"
     for at in range(1, len(whole.calls) + 1):
         for does in ("kill", "after", "fail"):
             if wrong:

@@ -56,6 +56,94 @@ try_unwritten() {
     count=$((count + 1))
 }
 
+# The mode of a page's file: its owner's alone, less the umask, and with --mode that mode whatever the umask is. And those of
+# `frames --pages` are as the umask leaves them.
+try_modes() {
+    kept=$top/.ci/conversations/worked_answerer
+    while read -r umask mode wanted; do
+        rm -rf "$work/stored"
+        mkdir "$work/stored"
+        (umask "$umask"; exec "$program" station --answer --out "$work/stored" $mode) < "$kept.lines" > "$work/output" 2> "$work/error" ||
+            fails "station --answer $mode with umask $umask: status $?"
+        [ "$(stat -c %a "$work/stored/page-1.pbm")" = "$wanted" ] || fails "umask $umask $mode: mode $(stat -c %a "$work/stored/page-1.pbm")"
+        is_same "$work/output" "$kept.expected" "the answers with $mode"
+        count=$((count + 1))
+    done << 'CASES'
+022 --json 600
+000 --json 600
+077 --mode=0640 640
+777 --mode=751 751
+022 --mode=0000 0
+000 --mode=600 600
+CASES
+    (umask 027; exec "$program" frames --pages "$work/stored" "$top/docs/examples/line.bits") > "$work/output" 2> "$work/error" || :
+    [ "$(stat -c %a "$work/stored/page-2.pbm")" = 640 ] || fails "frames --pages with umask 027: mode $(stat -c %a "$work/stored/page-2.pbm")"
+    count=$((count + 1))
+}
+
+# answers_so NAME WANTED WORDS: the answerer of a kept conversation with more words, which ends with status 1, leaves as many pages, and
+# says DCN last; its standard error is WANTED.
+answers_so() {
+    kept=$top/.ci/conversations/$1 wanted=$2 status=0
+    shift 2
+    rm -rf "$work/stored"
+    mkdir "$work/stored"
+    "$program" station --answer --out "$work/stored" "$@" < "$kept.lines" > "$work/output" 2> "$work/error" || status=$?
+    [ "$status" = 1 ] && [ "$(cat "$work/error")" = "$wanted" ] || fails "$* ended with status $status"
+    [ "$(tail -n 1 "$work/output")" = done ] || fails "$* doesn't end with done"
+    count=$((count + 1))
+}
+
+# The limits of a call: the page that would pass one isn't stored, and DCN is said in place of its confirmation, as to `stop`.
+try_limits() {
+    stopped="a page is dropped, and the call stopped: --most-pages or --most-octets"
+    two=reference_room_for_one_page
+    answers_so $two "$stopped
+end stopped pages 1" --limit 1 --most-pages 1
+    first=$(stat -c %s "$work/stored/page-1.pbm")
+    [ "$(ls "$work/stored")" = page-1.pbm ] || fails "--most-pages 1 left other files"
+    cp "$work/output" "$work/wanted"
+    answers_so $two "$stopped
+end stopped pages 1" --limit 1 --most-octets "$first"
+    is_same "$work/output" "$work/wanted" "what is said at --most-octets"
+    answers_so $two "$stopped
+end stopped pages 0" --limit 1 --most-octets "$((first - 1))"
+    [ -z "$(ls "$work/stored")" ] || fails "--most-octets left a file"
+    kept=$top/.ci/conversations/$two
+    rm -rf "$work/stored"
+    mkdir "$work/stored"
+    "$program" station --answer --out "$work/stored" --limit 1 --most-pages 2 --most-octets "$((2 * first))" --most-seconds 3600 \
+        < "$kept.lines" > "$work/output" 2> "$work/error" || fails "limits that aren't reached: status $?"
+    is_same "$work/output" "$kept.expected" "the answers with limits that aren't reached"
+    cat "$work/stored"/* > "$work/pages"
+    is_same "$work/pages" "$kept.pages" "the pages with limits that aren't reached"
+    # a good frame that is unknown, every 20 s: only --most-seconds ends it
+    { for at in $(seq 1000 20000 201000); do
+        printf 'quiet %s\nrx %s v21 hdlc 74 7E7EDF47A85AD6FAF901\nquiet %s\n' "$at" "$((at + 5000))" "$((at + 10000))"
+    done; } > "$work/lines"
+    "$program" station --answer --out "$work/stored" < "$work/lines" > "$work/output" 2> "$work/error" || :
+    before=$(wc -l < "$work/output")
+    [ "$(cat "$work/error")" = "end line-lost pages 0" ] || fails "a good frame every 20 s doesn't hold the line"
+    status=0
+    "$program" station --answer --out "$work/stored" --most-seconds 60 < "$work/lines" > "$work/output" 2> "$work/error" || status=$?
+    printf '%s\n' "the call is stopped: --most-seconds" "end stopped pages 0" > "$work/wanted"
+    is_same "$work/error" "$work/wanted" "what is told at --most-seconds"
+    [ "$status $(tail -n 1 "$work/output")" = "1 done" ] && [ "$(wc -l < "$work/output")" -lt "$before" ] || fails "--most-seconds: status $status"
+    count=$((count + 3))
+}
+
+# A folder that can't be written, as root can't write /proc, is found before a line is read; and nothing is left of looking.
+try_unwritable_folder() {
+    status=0
+    echo "no line" | "$program" station --answer --out /proc > "$work/output" 2> "$work/error" || status=$?
+    [ "$status $(head -1 "$work/error")" = "1 fault 8" ] || fails "a folder that can't be written: status $status"
+    rm -rf "$work/stored"
+    mkdir "$work/stored"
+    echo "end 1" | "$program" station --answer --out "$work/stored" > "$work/output" 2> "$work/error" || :
+    [ "$(cat "$work/error")" = "end line-lost pages 0" ] && [ -z "$(ls "$work/stored")" ] || fails "a station left a file where it looked"
+    count=$((count + 2))
+}
+
 # A station, or `frames --pages`, that is killed while it writes a page leaves no file of the page's name: only a part file, as it was.
 try_killed() {
     for words in "station --answer --out $work/stored" "frames --pages $work/stored -"; do
@@ -133,6 +221,8 @@ quiet 1\n|Quiet 1|column 1: no line of a station begins with this word
 |quiet 1\r|column 7: a time is expected here, 1 to 15 digits
 |quiet 1000000000000000|column 7: a time is expected here, 1 to 15 digits
 |quiet 1 1|column 9: such a line ends after its time
+|missed 1 1|column 10: such a line ends after its time
+|missed|column 8: a time is expected here, 1 to 15 digits
 |quiet 1\040|column 9: such a line ends after its time
 quiet 5\nquiet 6\n|busy 5|column 6: the time is before that of the line before, or too long after it
 quiet 5\n|quiet 35006|column 7: the time is before that of the line before, or too long after it
@@ -185,12 +275,56 @@ LINES
     count=$((count + 3))
 }
 
+# A trace has a line for the frames of a block that follow each other, and with --trace-frames one for each; the lines say the same frames.
+try_trace_frames() {
+    kept=$top/.ci/conversations/worked_caller
+    works decode --code mmr --width 1728 "$top/docs/examples/a4.mmr" "$work/third.pbm"
+    for option in "" --trace-frames; do
+        rm -f "$work/trace$option"
+        "$program" station --call --trace "$work/trace$option" $option "$work/third.pbm" < "$kept.lines" > "$work/output" 2> "$work/error" || :
+        [ "$(grep -c " said PPS " "$work/trace$option")" -ge 1 ] || fails "a trace $option has no PPS"
+        count=$((count + 1))
+    done
+    rm "$work/third.pbm"
+    python3 -B -c 'import re, sys
+whole, each = (open(name).read().splitlines() for name in sys.argv[1:])
+runs = [line for line in whole if re.search(r" FCD \d+\.\.\d+$", line)]
+wide = []
+for line in whole:
+    said, _, last = line.partition("..")
+    first = said.rpartition(" ")
+    wide += [f"{first[0]} {number}" for number in range(int(first[2]), int(last) + 1)] if last else [line]
+short = [re.sub(r"( FCD \d+) \d+$", r"\1", line) for line in each]
+sys.exit(not runs or [re.sub(r"( FCD \d+) \d+$", r"\1", line) for line in wide] != short)' "$work/trace" "$work/trace--trace-frames" ||
+        fails "the lines of frames in a trace"
+}
+
 # Records of a trace, of how a call ended and of a fault say what the lines say.
 try_station_records() {
     rm -rf "$work/stored"
     mkdir "$work/stored"
     runs=$(python3 -B "$data/try_json_station.py" "$program" "$work/stored") || fails "station --json"
     count=$((count + runs))
+}
+
+# `--from N`: what a caller sends of a document of more pages is what it sends of those from the Nth on; and why there are none.
+try_from() {
+    kept=$top/.ci/conversations/worked_caller
+    narrow=$(octets "50 34 0A 38 20 31 0A 30")
+    cat "$narrow" "$kept.pbm" "$kept.pbm" > "$work/three.pbm"
+    cat "$narrow" "$kept.pbm" > "$work/two.pbm"
+    for words in "--from 2 $work/two.pbm" "--from 3 $work/three.pbm" "--from 1 $kept.pbm"; do
+        "$program" station --call $words < "$kept.lines" > "$work/output" 2> "$work/error" || fails "station --call $words: status $?"
+        is_same "$work/output" "$kept.expected" "the answers of station --call $words"
+        is_same "$work/error" "$kept.error" "the last line of station --call $words"
+        count=$((count + 1))
+    done
+    explains "fault 28" "$work/three.pbm: it has pages up to 3, and --from is 4" station --call --from 4 "$work/three.pbm"
+    cat "$kept.pbm" "$narrow" "$narrow" > "$work/three.pbm"
+    explains "fault 26" "$work/three.pbm: page 2 is 8 pixels wide, and a call carries 1728, 2048 or 2432" station --call "$work/three.pbm"
+    explains "fault 26" "$work/three.pbm: page 3 is 8 pixels wide, and a call carries 1728, 2048 or 2432" station --call --from 3 \
+        "$work/three.pbm"
+    rm "$work/two.pbm" "$work/three.pbm"
 }
 
 # Two processes that are joined: each line is answered at once, and the pages arrive.
@@ -214,6 +348,15 @@ try_disk() {
     runs=$(python3 -B "$top/.ci/end_to_end/disk.py" "$program" "$work/disk.so" "$top/.ci/conversations/worked_answerer") ||
         fails "pages on a disk that fails"
     rm "$work/disk.so"
+    count=$((count + runs))
+}
+
+# Memory that is refused once: the line is lost, and the call goes on.
+try_memory_refused() {
+    ${CC:-cc} -std=gnu11 -Wall -Wextra -O1 -shared -fPIC -o "$work/memory.so" "$top/.ci/end_to_end/memory.c" || fails "memory.c isn't compiled"
+    runs=$(python3 -B "$top/.ci/end_to_end/memory.py" "$program" "$work/memory.so" "$top/.ci/conversations/worked_answerer") ||
+        fails "a station without memory"
+    rm "$work/memory.so"
     count=$((count + runs))
 }
 
@@ -251,15 +394,27 @@ IN|a station answers or calls: either --answer or --call is needed
 --call|--call needs IN, the file of the document
 --answer --call --out DIR|--answer and --call can't be used together
 --answer --call IN|--answer and --call can't be used together
---answer --out DIR IN|--frame, --fine and IN are for a station with --call
---answer --out DIR --fine|--frame, --fine and IN are for a station with --call
---answer --frame 64|--frame, --fine and IN are for a station with --call
+--answer --out DIR IN|--frame, --fine, --from and IN are for a station with --call
+--answer --out DIR --fine|--frame, --fine, --from and IN are for a station with --call
+--answer --out DIR --from 1|--frame, --fine, --from and IN are for a station with --call
+--answer --frame 64|--frame, --fine, --from and IN are for a station with --call
+--call --from 0 IN|
 --answer --out DIR --limit 0|
 --answer --out DIR --t1 0|
 --call -|IN can't be standard input, where the lines come
---call --out DIR IN|--out, --standard, --widest and --limit are for a station with --answer
---call --limit 1 IN|--out, --standard, --widest and --limit are for a station with --answer
---call --widest 1728 IN|--out, --standard, --widest and --limit are for a station with --answer
+--call --out DIR IN|--out, --standard, --widest, --limit, --mode and --most-.. are for a station with --answer
+--call --most-pages 1 IN|--out, --standard, --widest, --limit, --mode and --most-.. are for a station with --answer
+--call --most-octets 1 IN|--out, --standard, --widest, --limit, --mode and --most-.. are for a station with --answer
+--call --most-seconds 1 IN|--out, --standard, --widest, --limit, --mode and --most-.. are for a station with --answer
+--answer --out DIR --most-pages 0|
+--call --mode 600 IN|--out, --standard, --widest, --limit, --mode and --most-.. are for a station with --answer
+--answer --out DIR --mode 64|a mode is three octal digits, perhaps after a 0, as 0640
+--answer --out DIR --mode 1640|a mode is three octal digits, perhaps after a 0, as 0640
+--answer --out DIR --mode 06400|a mode is three octal digits, perhaps after a 0, as 0640
+--answer --out DIR --mode 0680|a mode is three octal digits, perhaps after a 0, as 0640
+--answer --out DIR --mode rwx|a mode is three octal digits, perhaps after a 0, as 0640
+--call --limit 1 IN|--out, --standard, --widest, --limit, --mode and --most-.. are for a station with --answer
+--call --widest 1728 IN|--out, --standard, --widest, --limit, --mode and --most-.. are for a station with --answer
 --call --t4 x IN|
 CASES
     faults "fault 8" station --answer --out "$work/missing"
@@ -267,13 +422,19 @@ CASES
     faults "fault 26" station --call "$(octets "50 34 0A 38 20 31 0A 30")"
     try_taken_numbers
     try_unwritten
+    try_unwritable_folder
+    try_modes
+    try_limits
     try_killed
     try_no_lines
     try_no_line_words
     try_trace
+    try_trace_frames
     try_station_records
+    try_from
     try_joined
     try_disk
+    try_memory_refused
     try_pool
     python3 -B "$top/bench/fuzz/reference_station.py" --dry > "$work/output" || fails "reference_station.py: $(cat "$work/output")"
     FAXTOOL=$program timeout 600 python3 -B "$top/bench/fuzz/fuzz_station.py" --times 300 --seed 36 > "$work/output" ||

@@ -10,7 +10,7 @@ _faxtool_options() {
         frames) echo --data --order --pages --salvage --json --diagram --caller --answerer --explain --help ;;
         call) echo --script --lose --spoil --busy --seed --calls --times --code --frame --modems --fine --out --expect --bits --diagram --json --explain --help ;;
         identify) echo --explain --help ;;
-        station) echo --answer --call --out --code --modems --standard --widest --limit --frame --fine --t1 --t2 --t4 --t5 --hear --trace --json --explain --help ;;
+        station) echo --answer --call --out --code --modems --standard --widest --limit --mode --most-pages --most-octets --most-seconds --frame --fine --from --t1 --t2 --t4 --t5 --hear --trace --trace-frames --json --explain --help ;;
         version) echo --proof --help ;;
         *) echo --help ;;
     esac
@@ -34,6 +34,11 @@ _faxtool_values() {
         --expect) echo normal ;;
         --widest) echo 1728 2048 2432 ;;
         --limit) echo 2 10 ;;
+        --mode) echo 0600 0640 ;;
+        --most-pages) echo 100 ;;
+        --most-octets) echo 100000000 ;;
+        --most-seconds) echo 3600 ;;
+        --from) echo 2 ;;
         --t1) echo 35000 ;;
         --t2) echo 7000 ;;
         --t4) echo 3000 ;;

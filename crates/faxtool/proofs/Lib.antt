@@ -1,4 +1,5 @@
 -- The lemmas of the program.
 mod ApartLemmas
 mod CommandLemmas
+mod FromLemmas
 mod JobLemmas

@@ -1,6 +1,6 @@
 -- The commands of the program, what each command is of the values that clap reads, and why words are refused.
 use Rattle.std.specs.Prelude.{◌≡◌, ◌≢◌, ◌≤◌, ◌<◌, ◌^◌, ◌⊎◌, ℕ, Bool, true, false, List, [], ◌∷◌, Option, Some, None}
-use Rattle.std.specs.Prelude.{codes, map, pos, if◌then◌else◌, is_some, option_map, string_bytes, not, ◌&&◌, ◌||◌, ◌+◌}
+use Rattle.std.specs.Prelude.{codes, map, pos, if◌then◌else◌, is_some, nat_eq, nat_le, option_map, string_bytes, not, ◌&&◌, ◌||◌, ◌+◌, ◌*◌, ◌-◌}
 use Rattle.std.specs.Str.{bytes_eq}
 use Rattle.std.specs.Str.Parse.{IsNumeral, digits_value, without_leading_plus}
 use Rattle.clap.specs.Words.{App, IsAmong, Row, Rule, Text, fault_of, first_of, kind_of, new_app}
@@ -28,7 +28,10 @@ use Rattle.calls.specs.declared.losses.BadLine.{BadLine}
 use Rattle.calls.specs.declared.options.CallOptions.{CallOptions}
 use Rattle.page_files.specs.declared.options.DecodeOptions.{DecodeOptions}
 use Rattle.page_files.specs.declared.options.PageForm.{PageForm}
+use Rattle.faxtool.specs.declared.args.station_words.GivenLimits.{GivenLimits}
 use Rattle.faxtool.specs.declared.args.station_words.GivenWaits.{GivenWaits}
+use Rattle.faxtool.specs.declared.files.output.Rights.{Rights}
+use Rattle.faxtool.specs.declared.files.output.Rights.TheVariants.{Mode, Private}
 use Rattle.faxtool.specs.declared.commands.Command.{Command}
 use Rattle.faxtool.specs.declared.commands.Command.TheVariants.{Answer, Call, Captures, Code, Decode, Dial, Drive, Frames, Identify, Show, Version}
 use Rattle.faxtool.specs.declared.args.words.Request.{Request}
@@ -180,22 +183,29 @@ with_station app codings modems = with_rule (with_rule (with_rule (with_rule (wi
     (flag_rule (codes "call"))) (file_option_rule (codes "out"))) (choice_rule (codes "code") codings (codes "mmr")))
     (choice_rule (codes "modems") modems (codes "v17"))
 
+-- the command with the limits of a call
+abbrev pub with_limits : App → App
+with_limits app = with_rule (with_rule (with_rule app (number_rule (codes "most-pages") 1 4294967295))
+    (number_rule (codes "most-octets") 1 4294967295)) (number_rule (codes "most-seconds") 1 4294967295)
+
 -- the command with the options for an answerer only, and those for a caller only
 abbrev pub with_station_choices : App → ValueParser → ValueParser → App
-with_station_choices app sizes widths = with_rule (with_rule (with_rule (with_rule (with_rule app (flag_rule (codes "standard")))
-    (named_rule (codes "widest") widths)) (number_rule (codes "limit") 1 1000)) (named_rule (codes "frame") sizes))
-    (flag_rule (codes "fine"))
+with_station_choices app sizes widths = with_rule (with_rule (with_rule (with_limits (with_rule (with_rule (with_rule (with_rule app
+    (flag_rule (codes "standard"))) (named_rule (codes "widest") widths)) (number_rule (codes "limit") 1 1000))
+    (option_rule (codes "mode")))) (named_rule (codes "frame") sizes)) (flag_rule (codes "fine")))
+    (number_rule (codes "from") 1 4294967295)
 
 -- the command with how long the four waits run, and whether what is heard, and until when, is said
 abbrev pub with_waits : App → App
 with_waits app = with_rule (with_rule (with_rule (with_rule (with_rule app (millis_rule (codes "t1"))) (millis_rule (codes "t2")))
     (millis_rule (codes "t4"))) (millis_rule (codes "t5"))) (flag_rule (codes "hear"))
 
--- `station`: which station it is, its options, its waits, the file of its trace, records or not, and the file of the document
+-- `station`: which station it is, its options, its waits, the file of its trace, a line a frame in it or not, records or not, and the file
+-- of the document
 abbrev pub station_app : ValueParser → ValueParser → ValueParser → ValueParser → App
-station_app codings sizes modems widths = with_explain (with_rule (with_rule (with_rule (with_waits (with_station_choices (with_station
-    (new_app (codes "station")) codings modems) sizes widths)) (file_option_rule (codes "trace"))) (flag_rule (codes "json")))
-    (optional_file_rule (codes "in")))
+station_app codings sizes modems widths = with_explain (with_rule (with_rule (with_rule (with_rule (with_waits (with_station_choices
+    (with_station (new_app (codes "station")) codings modems) sizes widths)) (file_option_rule (codes "trace")))
+    (flag_rule (codes "trace-frames"))) (flag_rule (codes "json"))) (optional_file_rule (codes "in")))
 
 -- the program, which wants one of its commands
 abbrev pub empty_app : App
@@ -337,7 +347,7 @@ pub record AreDecodeOptionsIn (rows : List Row) (options : DecodeOptions) : Type
   pub verbose_is : options.verbose ≡ is_named (codes "true") (first_of (codes "verbose") rows)
   pub records_is : options.records ≡ is_named (codes "true") (first_of (codes "json") rows)
 
--- the number of the page that is decoded: 1 if no number is given
+-- the number of the page that is decoded, or sent first: 1 if no number is given
 abbrev pub page_of : Option ℕ → ℕ
 page_of None = 1
 page_of (Some page) = page
@@ -504,15 +514,47 @@ abbrev pub limit_of : Option ℕ → ℕ
 limit_of None = 2
 limit_of (Some limit) = limit
 
+-- an octet is an octal digit, 0 to 7
+abbrev pub is_octal : ℕ → Bool
+is_octal octet = nat_le 48 octet && nat_le octet 55
+
+-- the mode of three octal digits: what a file's owner may do, its group, and all others
+abbrev pub mode_of : ℕ → ℕ → ℕ → Option ℕ
+mode_of user group others = if is_octal user && (is_octal group && is_octal others)
+    then Some (64 * (user - 48) + 8 * (group - 48) + (others - 48)) else None
+
+-- the mode that a text says: three octal digits, perhaps after a 0
+abbrev pub mode_named : Text → Option ℕ
+mode_named (user ∷ group ∷ others ∷ []) = mode_of user group others
+mode_named (first ∷ user ∷ group ∷ others ∷ []) = if nat_eq first 48 then mode_of user group others else None
+mode_named text = None
+
+-- who may read and write the files of pages, by a value of `--mode`: their owner alone, if there is none
+abbrev pub rights_named : Option Text → Option Rights
+rights_named None = Some Private
+rights_named (Some text) = option_map Mode (mode_named text)
+
+-- a limit of the call was given
+abbrev pub has_limits : List Row → Bool
+has_limits rows = is_some (first_of (codes "most-pages") rows)
+    || (is_some (first_of (codes "most-octets") rows) || is_some (first_of (codes "most-seconds") rows))
+
+-- the limits of the call, if given
+pub record AreLimitsIn (rows : List Row) (limits : GivenLimits) : Type 0 where
+  pub pages_are : ReadsNumber (codes "most-pages") rows limits.pages
+  pub octets_are : ReadsNumber (codes "most-octets") rows limits.octets
+  pub seconds_are : ReadsNumber (codes "most-seconds") rows limits.seconds
+
 -- an option for an answerer only was given
 abbrev pub has_answerer : List Row → Bool
 has_answerer rows = is_some (first_of (codes "out") rows) || (is_named (codes "true") (first_of (codes "standard") rows) ||
-    (is_some (first_of (codes "widest") rows) || is_some (first_of (codes "limit") rows)))
+    (is_some (first_of (codes "widest") rows) || (is_some (first_of (codes "limit") rows)
+    || (is_some (first_of (codes "mode") rows) || has_limits rows))))
 
 -- an option for a caller only was given
 abbrev pub has_caller : List Row → Bool
 has_caller rows = is_some (first_of (codes "frame") rows) || (is_named (codes "true") (first_of (codes "fine") rows) ||
-    is_some (first_of (codes "in") rows))
+    (is_some (first_of (codes "from") rows) || is_some (first_of (codes "in") rows)))
 
 -- the lengths of the waits, if given, and whether what is heard, and until when, is said
 pub record AreWaitsIn (rows : List Row) (waits : GivenWaits) : Type 0 where
@@ -534,7 +576,8 @@ caps_in rows coding = record {
 }
 
 -- the values of the command `station` are those of an answerer
-pub record IsAnswerOf (rows : List Row) (caps : Caps) (limit : ℕ) (waits : GivenWaits) (out : Text) (trace : Option Text) : Type 0 where
+pub record IsAnswerOf (rows : List Row) (caps : Caps) (limit : ℕ) (limits : GivenLimits) (waits : GivenWaits) (out : Text)
+    (rights : Rights) (trace : Option Text) (frames : Bool) : Type 0 where
   pub answers : is_named (codes "true") (first_of (codes "answer") rows) ≡ true
   pub calls : is_named (codes "true") (first_of (codes "call") rows) ≡ false
   pub alone : has_caller rows ≡ false
@@ -544,18 +587,26 @@ pub record IsAnswerOf (rows : List Row) (caps : Caps) (limit : ℕ) (waits : Giv
   pub given : Option ℕ
   pub limit_given : ReadsNumber (codes "limit") rows given
   pub limit_is : limit ≡ limit_of given
+  pub limits_are : AreLimitsIn rows limits
   pub waits_are : AreWaitsIn rows waits
   pub out_is : first_of (codes "out") rows ≡ Some out
+  pub rights_are : rights_named (first_of (codes "mode") rows) ≡ Some rights
   pub trace_is : first_of (codes "trace") rows ≡ trace
+  pub frames_is : frames ≡ is_named (codes "true") (first_of (codes "trace-frames") rows)
 
 -- The values of `station` are those of a caller. Its document isn't standard input, from which its lines come.
-pub record IsDialOf (rows : List Row) (options : CallOptions) (waits : GivenWaits) (trace : Option Text) (input : Text) : Type 0 where
+pub record IsDialOf (rows : List Row) (options : CallOptions) (from : ℕ) (waits : GivenWaits) (trace : Option Text) (frames : Bool)
+    (input : Text) : Type 0 where
   pub calls : is_named (codes "true") (first_of (codes "call") rows) ≡ true
   pub answers : is_named (codes "true") (first_of (codes "answer") rows) ≡ false
   pub alone : has_answerer rows ≡ false
   pub options_are : AreOptionsIn rows options
+  pub number : Option ℕ
+  pub number_given : ReadsNumber (codes "from") rows number
+  pub from_is : from ≡ page_of number
   pub waits_are : AreWaitsIn rows waits
   pub trace_is : first_of (codes "trace") rows ≡ trace
+  pub frames_is : frames ≡ is_named (codes "true") (first_of (codes "trace-frames") rows)
   pub input_is : first_of (codes "in") rows ≡ Some input
   pub apart : bytes_eq input (codes "-") ≡ false
 
@@ -589,10 +640,12 @@ IsCommandOf met (Drive command) = (rows : List Row)
     (option_map string_bytes command.diagram) (string_bytes command.input)
 IsCommandOf met (Answer command) = (rows : List Row)
     × (met ≡ Some (codes "station", rows))
-    × IsAnswerOf rows command.caps command.limit command.waits (string_bytes command.out) (option_map string_bytes command.trace)
+    × IsAnswerOf rows command.caps command.limit command.limits command.waits (string_bytes command.out) command.rights
+    (option_map string_bytes command.trace) command.frames
 IsCommandOf met (Dial command) = (rows : List Row)
     × (met ≡ Some (codes "station", rows))
-    × IsDialOf rows command.options command.waits (option_map string_bytes command.trace) (string_bytes command.input)
+    × IsDialOf rows command.options command.from command.waits (option_map string_bytes command.trace) command.frames
+    (string_bytes command.input)
 IsCommandOf met (Version command) = (rows : List Row)
     × (met ≡ Some (codes "version", rows))
     × (command.proof ≡ is_named (codes "true") (first_of (codes "proof") rows))

@@ -2,6 +2,7 @@
 pub mod Apart
 pub mod Bounds
 pub mod Jobs
+pub mod NoLines
 pub mod Table
 pub mod Folders
 pub mod Told

@@ -11,6 +11,7 @@ pub(crate) mod station;
 pub(crate) mod version;
 
 ghost use Rattle.faxtool.specs.Runs.{completeness_of};
+ghost use Rattle.faxtool.specs.Told.{name_in, name_shown};
 ghost use Rattle.std.specs.Prelude.{◌≡◌};
 
 use crate::commands::call::ScriptCommand;
@@ -111,7 +112,9 @@ pub const NO_NAMES: Names<'static> = Names {
 
 impl<'a> Names<'a> {
     /// Returns the name of a file, as messages show it; that of the input if there is no such file.
-    pub fn shown(self, part: Part) -> &'a str {
+    pub fn shown(self, part: Part) -> &'a str
+        ensures { result.now ≡ name_shown (name_in self part) part }
+    {
         let named = match part {
             Part::Input => None,
             Part::Answerer => self.answerer,
@@ -127,7 +130,9 @@ impl<'a> Names<'a> {
 }
 
 /// A name as messages have it.
-fn shown_name<'a>(named: &'a str, part: Part) -> &'a str {
+fn shown_name<'a>(named: &'a str, part: Part) -> &'a str
+    ensures { result.now ≡ name_shown named.now part }
+{
     match part {
         Part::Output | Part::Diagram | Part::Printed if named == STANDARD => "standard output",
         _ if named == STANDARD => "standard input",

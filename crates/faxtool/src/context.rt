@@ -2,7 +2,8 @@
 
 ghost use Rattle.faults.specs.Faults.{IsOutside};
 ghost use Rattle.faults.specs.declared.fault.ToolFault.TheVariants.{No};
-ghost use Rattle.std.specs.Prelude.{◌≡◌, ◌≢◌, ◌⊎◌, [], IfErr, IfOk, None, Some};
+ghost use Rattle.faxtool.specs.Told.{part_of};
+ghost use Rattle.std.specs.Prelude.{◌≡◌, ◌≢◌, ◌⊎◌, [], IfErr, IfOk, None, Some, option_map, true};
 
 use crate::explain::is_explained;
 use faults::{NO_MEMORY, ToolFault};
@@ -45,6 +46,13 @@ pub enum Cause {
         page: usize,
         /// Its width in pixels.
         width: u32,
+    },
+    /// A document has so many pages, and is to be sent from a later one on.
+    FewerPages {
+        /// Its pages.
+        count: usize,
+        /// The number of the first page that is to be sent, from 1.
+        from: u32,
     },
     /// Each row of a page ends after this number of pixels, and not after those that were given.
     RowsOf(u32),
@@ -110,7 +118,9 @@ impl<'a> Context<'a> {
     }
 
     /// The system.
-    pub fn rt(&self) -> &'a HostRuntime {
+    pub fn rt(&self) -> &'a HostRuntime
+        ensures { result ≡ self.now.rt }
+    {
         self.rt
     }
 
@@ -134,7 +144,9 @@ impl<'a> Context<'a> {
     }
 
     /// Whether faults are explained in words: if asked for, on a terminal, and if the environment says so.
-    pub fn explains(&self) -> bool {
+    pub fn explains(&self) -> bool
+        ensures { self.now.messages.explain ≡ true → result ≡ true }
+    {
         self.messages.explain || is_explained(self.rt)
     }
 
@@ -220,12 +232,16 @@ impl<'a> Context<'a> {
     }
 
     /// Why a file could not be read or written, if that is known.
-    pub fn reason(&self) -> Option<ErrorKind> {
+    pub fn reason(&self) -> Option<ErrorKind>
+        ensures { result ≡ option_map (λ failed. failed.1) self.now.noted.failed }
+    {
         self.noted.failed.map(|failed| failed.1)
     }
 
     /// Which file a fault is about.
-    pub fn part_of(&self, fault: ToolFault) -> Part {
+    pub fn part_of(&self, fault: ToolFault) -> Part
+        ensures { result ≡ part_of fault self.now.noted.failed self.now.noted.unread }
+    {
         match (fault, self.noted.failed) {
             (ToolFault::AtLine(_), _) => Part::Script,
             (ToolFault::No(8), Some((part, _kind))) => part,

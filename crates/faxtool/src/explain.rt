@@ -1,6 +1,7 @@
 //! How a fault is shown: a line, and one of words where they are asked for.
 
 ghost use Rattle.faxtool.specs.declared.args.words.Outcome.TheVariants.{Fault};
+ghost use Rattle.faxtool.specs.Told.{IsFirstNotCallable};
 ghost use Rattle.raster.specs.Pixels.{IsWidth};
 ghost use Rattle.faults.specs.Faults.{IsOutside};
 ghost use Rattle.std.specs.Prelude.{◌≡◌, IfErr, IfSome};
@@ -21,7 +22,7 @@ use faults::{
 };
 use page_code::Coding;
 use page_files::{PageForm, refused_at, refused_in};
-use raster::read_pbm;
+use raster::{Page, read_pbm};
 use run_tables::Order;
 use signals::PageWidth;
 use std::alloc::{AllocError, Global};
@@ -254,10 +255,17 @@ fn cause_of(form: Option<PageForm>, fault: ToolFault, context: &Context<'_>) -> 
 fn width_not_callable(rt: &HostRuntime, images: &[u8]) -> Option<Cause> {
     let mut images = images;
     let document = read_pbm(rt.alloc(), &mut images, false).ok()?;
-    for (number, page) in document.pages().iter().enumerate() {
+    first_not_callable(document.pages(), 0)
+}
+
+/// Returns the first of these pages that a call can't carry; so many pages are before them.
+pub(crate) fn first_not_callable(pages: &[Page], before: usize) -> Option<Cause>
+    ensures { IsFirstNotCallable before pages.now result }
+{
+    for (at, page) in pages.iter().enumerate() {
         let width = page.width();
         if PageWidth::of_pixels(width).is_none() {
-            let page = number.saturating_add(1);
+            let page = before.saturating_add(at).saturating_add(1);
             return Some(Cause::NotCallable { page, width });
         }
     }

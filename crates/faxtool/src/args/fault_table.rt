@@ -25,7 +25,7 @@ pub const FAULTS: &str =
   22  in a list of frames: a content of which a field is missing or cut short
   26  a page's width isn't 1728, 2048 or 2432 pixels, the widths that a call carries
   27  code was given several images
-  28  a file has fewer pages than --page says
+  28  a file has fewer pages than --page or --from says
   29  a file reads as no page in any way that is tried, and begins as no known format
   30  at a line: not a command of a script, or a wrong count or blank
   31  at a line: none that a station knows, or its time runs back

@@ -3,14 +3,15 @@ ghost use Rattle.std.specs.Prelude.{◌≡◌, IfOk, MatchResult, Some, codes, f
 ghost use Rattle.std.specs.Str.{bytes_eq};
 ghost use Rattle.clap.specs.Words.{first_of, found_of, rows_of};
 ghost use Rattle.faxtool.specs.Jobs.{AreWaitsIn, HasNoCommand, IsCommandOf, caps_in, has_answerer, has_caller, limit_of, is_named, takes_t6};
-ghost use Rattle.faxtool.specs.Jobs.{widest_named};
+ghost use Rattle.faxtool.specs.Jobs.{AreLimitsIn, has_limits, is_octal, mode_named, mode_of, rights_named, widest_named};
 
 use crate::args::unfit::Unfit;
 use crate::args::words::{
-    coding_in, copy_of, is_named, modems_named, number_in, options_in, text_in,
+    coding_in, copy_of, is_named, modems_named, number_in, options_in, page_of, text_in,
 };
 use crate::commands::Command;
 use crate::commands::station::{AnswerCommand, DialCommand};
+use crate::files::output::Rights;
 use clap::ArgMatches;
 use page_code::Coding;
 use signals::{Caps, PageWidth};
@@ -29,6 +30,17 @@ pub struct GivenWaits {
     pub t5: Option<u32>,
     /// True if it says what it hears and until when it waits.
     pub hears: bool,
+}
+
+/// The limits of an answerer's call, if given.
+#[derive(Clone, Copy, Debug, PartialEq, Eq)]
+pub struct GivenLimits {
+    /// The most pages that are stored.
+    pub pages: Option<u32>,
+    /// The most octets of their files.
+    pub octets: Option<u32>,
+    /// The seconds after which the call is stopped.
+    pub seconds: Option<u32>,
 }
 
 /// Returns the command of one station, if all its values are given and its options go together.
@@ -73,12 +85,18 @@ fn answer_command(
     let Some(out) = text_in(matches, "out") else {
         return Ok(Err(Unfit::NoFolder));
     };
+    let Some(rights) = rights_named(text_in(matches, "mode")) else {
+        return Ok(Err(Unfit::NoMode));
+    };
     Ok(Ok(Command::Answer(AnswerCommand {
         caps: caps_in(matches, coding),
         limit: limit_of(number_in(matches, "limit")),
+        limits: limits_in(matches),
         waits: waits_in(matches),
         out: String::from_str(alloc, out)?,
+        rights,
         trace: copy_of(alloc, text_in(matches, "trace"))?,
+        frames: is_named(text_in(matches, "trace-frames"), "true"),
     })))
 }
 
@@ -106,8 +124,10 @@ fn dial_command(
     }
     Ok(Ok(Command::Dial(DialCommand {
         options,
+        from: page_of(number_in(matches, "from")),
         waits: waits_in(matches),
         trace: copy_of(alloc, text_in(matches, "trace"))?,
+        frames: is_named(text_in(matches, "trace-frames"), "true"),
         input: String::from_str(alloc, input)?,
     })))
 }
@@ -127,6 +147,17 @@ fn has_answerer(matches: &ArgMatches<'_>) -> bool
         || is_named(text_in(matches, "standard"), "true")
         || text_in(matches, "widest").is_some()
         || text_in(matches, "limit").is_some()
+        || text_in(matches, "mode").is_some()
+        || has_limits(matches)
+}
+
+// Whether a limit of the call was given.
+fn has_limits(matches: &ArgMatches<'_>) -> bool
+    ensures { result ≡ has_limits (rows_of (found_of matches.now)) }
+{
+    text_in(matches, "most-pages").is_some()
+        || text_in(matches, "most-octets").is_some()
+        || text_in(matches, "most-seconds").is_some()
 }
 
 // Whether an option for a caller only was given.
@@ -135,7 +166,46 @@ fn has_caller(matches: &ArgMatches<'_>) -> bool
 {
     text_in(matches, "frame").is_some()
         || is_named(text_in(matches, "fine"), "true")
+        || text_in(matches, "from").is_some()
         || text_in(matches, "in").is_some()
+}
+
+// Who may read and write the files of pages: their owner alone, if no mode is given.
+fn rights_named(text: Option<&str>) -> Option<Rights>
+    ensures { result ≡ rights_named (option_map (λ text. text.now) text.entry) }
+{
+    match text {
+        Some(text) => Some(Rights::Mode(mode_named(text)?)),
+        None => Some(Rights::Private),
+    }
+}
+
+// The mode that three octal digits say, perhaps after a 0.
+fn mode_named(text: &str) -> Option<u32>
+    ensures { result ≡ mode_named text.now }
+{
+    match text.as_bytes() {
+        [user, group, others] => mode_of(*user, *group, *others),
+        [b'0', user, group, others] => mode_of(*user, *group, *others),
+        _ => None,
+    }
+}
+
+// The mode of three octal digits.
+fn mode_of(user: u8, group: u8, others: u8) -> Option<u32>
+    ensures { result ≡ mode_of user group others }
+{
+    if !is_octal(user) || !is_octal(group) || !is_octal(others) {
+        return None;
+    }
+    let digits = [user - b'0', group - b'0', others - b'0'];
+    Some(64 * u32::from(digits[0]) + 8 * u32::from(digits[1]) + u32::from(digits[2]))
+}
+
+fn is_octal(octet: u8) -> bool
+    ensures { result ≡ is_octal octet }
+{
+    octet >= b'0' && octet <= b'7'
 }
 
 // How many pages wait in memory at most.
@@ -145,6 +215,17 @@ fn limit_of(given: Option<u32>) -> u32
     match given {
         Some(limit) => limit,
         None => 2,
+    }
+}
+
+// The limits of the call.
+fn limits_in(matches: &ArgMatches<'_>) -> GivenLimits
+    ensures { AreLimitsIn (rows_of (found_of matches.now)) result }
+{
+    GivenLimits {
+        pages: number_in(matches, "most-pages"),
+        octets: number_in(matches, "most-octets"),
+        seconds: number_in(matches, "most-seconds"),
     }
 }
 

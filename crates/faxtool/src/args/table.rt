@@ -363,6 +363,12 @@ const MILLIS: Argument<'static> = Argument {
     ..FILE_OPTION
 };
 
+/// A limit of a call.
+const MOST: Argument<'static> = Argument {
+    parser: Some(ValueParser::Signed(1, 4_294_967_295)),
+    ..FILE_OPTION
+};
+
 const STATION_ARGUMENTS: &[Argument<'static>] = &[
     Argument {
         id: "answer",
@@ -414,6 +420,30 @@ const STATION_ARGUMENTS: &[Argument<'static>] = &[
         ..FILE_OPTION
     },
     Argument {
+        id: "mode",
+        shown: &["MODE"],
+        help: "The mode of the pages' files in octal, as 0640, whatever the umask is; 0600 less the umask if not said (with --answer)",
+        ..FILE_OPTION
+    },
+    Argument {
+        id: "most-pages",
+        shown: &["N"],
+        help: "The most pages that are stored; a further one is dropped, and the call stopped in its place (with --answer)",
+        ..MOST
+    },
+    Argument {
+        id: "most-octets",
+        shown: &["N"],
+        help: "The most octets of the pages' files; a page that would exceed them is dropped, and the call stopped (with --answer)",
+        ..MOST
+    },
+    Argument {
+        id: "most-seconds",
+        shown: &["S"],
+        help: "The seconds after which the call is stopped, at the next quiet line; the page under way is dropped (with --answer)",
+        ..MOST
+    },
+    Argument {
         id: "frame",
         shown: &["N"],
         parser: Some(ValueParser::Names(&["256", "64"])),
@@ -424,6 +454,13 @@ const STATION_ARGUMENTS: &[Argument<'static>] = &[
         id: "fine",
         help: "Sends 7.7 lines a millimetre in place of 3.85 (with --call)",
         ..FLAG
+    },
+    Argument {
+        id: "from",
+        shown: &["N"],
+        parser: Some(ValueParser::Signed(1, 4_294_967_295)),
+        help: "Sends the pages of IN from the Nth on, and not from the first (with --call)",
+        ..FILE_OPTION
     },
     Argument {
         id: "t1",
@@ -454,6 +491,11 @@ const STATION_ARGUMENTS: &[Argument<'static>] = &[
         id: "trace",
         help: "The file that what is heard and said is written to, with its time",
         ..FILE_OPTION
+    },
+    Argument {
+        id: "trace-frames",
+        help: "Writes a line in the trace for each frame of a block, and not one for all of them (with --trace)",
+        ..FLAG
     },
     Argument {
         id: "json",

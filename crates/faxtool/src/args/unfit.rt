@@ -52,6 +52,8 @@ pub enum Unfit {
     AnswererAsCaller,
     /// An answerer without `--out`.
     NoFolder,
+    /// A mode that is none.
+    NoMode,
     /// A caller with an option for an answerer.
     CallerAsAnswerer,
     /// A caller without IN.
@@ -90,10 +92,12 @@ impl Unfit {
             Unfit::TimesAndJson => "--times prints a table, and can't be used with --json",
             Unfit::NoStation => "a station answers or calls: either --answer or --call is needed",
             Unfit::BothStations => "--answer and --call can't be used together",
-            Unfit::AnswererAsCaller => "--frame, --fine and IN are for a station with --call",
+            Unfit::AnswererAsCaller =>
+                "--frame, --fine, --from and IN are for a station with --call",
             Unfit::NoFolder => "--answer needs --out, the folder of the pages",
+            Unfit::NoMode => "a mode is three octal digits, perhaps after a 0, as 0640",
             Unfit::CallerAsAnswerer =>
-                "--out, --standard, --widest and --limit are for a station with --answer",
+                "--out, --standard, --widest, --limit, --mode and --most-.. are for a station with --answer",
             Unfit::NoDocument => "--call needs IN, the file of the document",
             Unfit::DocumentStandard => "IN can't be standard input, where the lines come",
         }

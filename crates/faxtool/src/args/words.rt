@@ -1,6 +1,7 @@
 //! The words that the program is called with.
 ghost use Rattle.std.specs.Prelude.{◌≡◌, ◌≢◌, IfOk, IfSome, MatchOption, MatchResult, Some, codes, false, true};
-ghost use Rattle.std.specs.Prelude.{ℕ, Option, map, option_map, string_bytes};
+ghost use Rattle.faxtool.specs.declared.args.unfit.Unfit.TheVariants.{NoRate, NoScript, ScriptAndLine, ScriptAndLose};
+ghost use Rattle.std.specs.Prelude.{ℕ, Option, if◌then◌else◌, is_some, map, option_map, string_bytes};
 ghost use Rattle.clap.specs.Words.{first_of, found_of, kind_of, rows_of, subcommand_rows_of};
 ghost use Rattle.clap.specs.declared.error.kind.ErrorKind.TheVariants.{OutOfMemory};
 ghost use Rattle.faxtool.specs.Jobs.{AreDecodeOptionsIn, AreOptionsIn, HasNoCommand, HasNoOptions, IsCommandOf, IsOutcomeOf, IsRefusalOf};
@@ -262,8 +263,8 @@ fn decode_command(
     })))
 }
 
-// The number of the page that is decoded.
-fn page_of(given: Option<u32>) -> u32
+// The number of the page that is decoded, or sent first.
+pub(crate) fn page_of(given: Option<u32>) -> u32
     ensures { result ≡ page_of given }
 {
     given.unwrap_or(1)
@@ -410,7 +411,9 @@ fn has_line(matches: &ArgMatches<'_>) -> bool
 }
 
 // Why a script and options of a bad line don't go together.
-fn script_and_line(matches: &ArgMatches<'_>) -> Unfit {
+fn script_and_line(matches: &ArgMatches<'_>) -> Unfit
+    ensures { result ≡ (if is_some (first_of (codes "lose") (rows_of (found_of matches.now))) then ScriptAndLose else ScriptAndLine) }
+{
     match text_in(matches, "lose") {
         Some(_rate) => Unfit::ScriptAndLose,
         None => Unfit::ScriptAndLine,
@@ -418,7 +421,9 @@ fn script_and_line(matches: &ArgMatches<'_>) -> Unfit {
 }
 
 // Why there is no rate of lost items.
-fn no_rate(matches: &ArgMatches<'_>) -> Unfit {
+fn no_rate(matches: &ArgMatches<'_>) -> Unfit
+    ensures { result ≡ (if is_some (first_of (codes "lose") (rows_of (found_of matches.now))) then NoRate else NoScript) }
+{
     match text_in(matches, "lose") {
         Some(_rate) => Unfit::NoRate,
         None => Unfit::NoScript,

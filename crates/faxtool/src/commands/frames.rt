@@ -12,6 +12,7 @@ use crate::explain::notice;
 use crate::files::apart::CommandFiles;
 use crate::files::images::store_page;
 use crate::files::input::{self, Source};
+use crate::files::output::Rights;
 use crate::files::progress::Watch;
 use crate::files::{output, printed};
 use captures::{
@@ -83,7 +84,9 @@ impl Runs for FramesCommand {
 
 impl FramesCommand {
     /// How the frames are listed.
-    fn how(&self) -> ListOptions {
+    fn how(&self) -> ListOptions
+        ensures { result ≡ record { most = self.now.most; order = self.now.order; form = self.now.form } }
+    {
         ListOptions {
             most: self.most.map(|most| most as usize),
             order: self.order,
@@ -250,7 +253,7 @@ impl Folder<'_, '_> {
         if page.rows().is_empty() {
             return Ok(());
         }
-        let file = match store_page(self.context.rt(), self.name, first, &page) {
+        let file = match store_page(self.context.rt(), self.name, Rights::Umask, first, &page) {
             Ok(file) => file,
             Err(refused) => return Err(refused.noted(self.context)),
         };

@@ -1,38 +1,43 @@
 //! One end of a call, by lines of text on standard input and output.
 
 pub(crate) mod ending;
+pub(crate) mod folder;
 pub(crate) mod no_line;
 pub(crate) mod trace;
 
 ghost use Rattle.faults.specs.Faults.{IsOutside};
-ghost use Rattle.faxtool.specs.Runs.{IsHalt, IsNoDocument};
-ghost use Rattle.std.specs.Prelude.{◌≡◌, IfErr, IfOk, IfSome};
+ghost use Rattle.conversations.specs.Clocks.{duration};
+ghost use Rattle.faxtool.specs.Runs.{IsHalt, IsNoDocument, SendsFrom, end_word, given_wait};
+ghost use Rattle.std.specs.Prelude.{◌≡◌, ◌<◌, ◌-◌, IfErr, IfOk, IfSome, drop, length, map, unwrap_or};
+ghost use Rattle.raster.specs.PbmText.{with_fine};
+ghost use Rattle.stations.specs.declared.waiting.Wait.{Wait as AnyWait};
+ghost use Rattle.terminals.specs.Timing.{wait_millis};
 
-use crate::args::station_words::GivenWaits;
+use crate::args::station_words::{GivenLimits, GivenWaits};
 use crate::commands::station::ending::end_station;
+use crate::commands::station::folder::{CallLimits, Folder};
 use crate::commands::station::no_line::{LastLine, NoLine, no_line};
 use crate::commands::station::trace::Trace;
 use crate::commands::{Completeness, NO_NAMES, Names, Runs};
-use crate::context::{Context, Part};
-use crate::explain::notice_as;
+use crate::context::{Cause, Context, Part};
+use crate::explain::first_not_callable;
 use crate::files::apart::CommandFiles;
-use crate::files::images::store_page;
 use crate::files::input::read_images;
+use crate::files::output::Rights;
 use crate::files::printed::{self, Printed};
 use crate::files::progress::Watch;
 use crate::files::{STANDARD, output};
 use calls::{CallOptions, end_word};
-use conversations::{
-    Conversation, ConverseFault, Durations, Ending, Keeper, PageStore, Says, converse, keep_pages,
-};
+use conversations::{Conversation, ConverseFault, Durations, Ending, Keeper, Says, converse};
 use faults::{FAILED, NO_MEMORY, ToolFault};
 use page_files::PageForm;
-use raster::{Page, read_pbm};
+use raster::laws::pbm_round_trip;
+use raster::{Document, Page, read_pbm, write_pbm};
 use signals::{Caps, Wish};
 use stations::{CallEnd, Caller, CallerFault, LimitedAnswerer, Limits, StoppableCaller, Turn};
-use std::alloc::AllocError;
+use std::alloc::{AllocError, Global};
 use std::io;
-use std::io::{BufReader, BufWriter, ErrorKind};
+use std::io::{BufReader, BufWriter, ErrorKind, Read, Write};
 use terminals::{Stoppable, Terminal};
 
 /// How many octets of standard input are read at a time.
@@ -79,7 +84,9 @@ pub(crate) struct Talked {
 }
 
 /// The word of why a call ended, or that it goes on.
-pub(crate) fn word_of(end: Option<CallEnd>) -> &'static str {
+pub(crate) fn word_of(end: Option<CallEnd>) -> &'static str
+    ensures { result.now ≡ end_word end }
+{
     match end {
         Some(CallEnd::By(end)) => end_word(Some(end)),
         Some(CallEnd::Stopped) => "stopped",
@@ -89,7 +96,9 @@ pub(crate) fn word_of(end: Option<CallEnd>) -> &'static str {
 }
 
 /// How long the waits of a station run.
-fn durations(given: GivenWaits) -> Durations {
+fn durations(given: GivenWaits) -> Durations
+    ensures { (wait : AnyWait) → duration result wait ≡ unwrap_or (given_wait given wait) (wait_millis wait) }
+{
     let usual = Durations::of_t30();
     Durations {
         t1: given.t1.unwrap_or(usual.t1),
@@ -125,78 +134,6 @@ impl Keeper<StoppableCaller> for NoPages {
     }
 }
 
-/// The folder that the pages of an answerer go to.
-#[derive(Drop)]
-struct Folder<'a> {
-    rt: &'a HostRuntime,
-    name: &'a str,
-    records: bool,
-    stored: u64,
-    next: u64,
-    failed: Option<io::ErrorKind>,
-}
-
-impl PageStore for Folder<'_> {
-    ghost use Rattle.std.specs.Prelude.{◌≡◌, ◌+◌};
-
-    ghost stores = { λ old page new. new.stored ≡ old.stored + 1 };
-
-    ghost refuses = { λ old page new. new.stored ≡ old.stored };
-
-    type Refused = ToolFault;
-
-    // The file is on disk then. Standard error says so if it has another number than the page.
-    fn store(&mut self, page: Page) -> Result<(), ToolFault> {
-        let Some(number) = self.stored.checked_add(1) else {
-            return Err(FAILED);
-        };
-        if page.rows().is_empty() {
-            // no station stores such a page
-            return Err(FAILED);
-        }
-        match store_page(self.rt, self.name, self.next, &page) {
-            Ok(written) => {
-                self.stored = number;
-                self.next = written.saturating_add(1);
-                if written != number {
-                    self.tell_other(number, written);
-                }
-                Ok(())
-            }
-            Err(refused) => {
-                self.failed = refused.kind;
-                Err(refused.fault)
-            }
-        }
-    }
-}
-
-impl Folder<'_> {
-    /// Tells on standard error that a page's file has another number than the page.
-    fn tell_other(&self, number: u64, written: u64) {
-        let Ok(words) = format!(in self.rt.alloc(); "page {number} written as page-{written}.pbm")
-        else {
-            return;
-        };
-        let _told = notice_as(self.rt, self.records, words.as_str());
-    }
-}
-
-impl Keeper<LimitedAnswerer> for Folder<'_> {
-    ghost use Rattle.conversations.specs.Answering.{StoresAll};
-    ghost use Rattle.std.specs.Prelude.{◌≡◌, ◌+◌};
-
-    ghost keeps = { λ old c new after kept.
-        StoresAll (λ first page then. then.stored ≡ first.stored + 1) (λ first page then. then.stored ≡ first.stored)
-        c after old new kept };
-
-    type Refused = ToolFault;
-
-    fn keep(&mut self, conversation: &mut Conversation<LimitedAnswerer>) -> Option<ToolFault> {
-        keep_pages(conversation, self)
-    }
-}
-
 /// The fault of a follower or a keeper: `NoMemory` (9), or `Io` (8).
 fn outside(fault: ToolFault) -> ToolFault
     ensures { IsOutside result }
@@ -207,12 +144,19 @@ fn outside(fault: ToolFault) -> ToolFault
     }
 }
 
-/// Why the lines go no further; `line` is the last one that was read. Why they can't be read is noted.
-fn halted_by(context: &mut Context<'_>, fault: ConverseFault<ToolFault>, line: &[u8]) -> Halted
+/// Why the lines of a reader go no further. Why they can't be read is noted.
+fn halted_by<R: Read + Drop>(
+    context: &mut Context<'_>,
+    fault: ConverseFault<ToolFault>,
+    reader: &LastLine<R>,
+) -> Halted
     ensures { IsHalt result }
 {
     match fault {
-        ConverseFault::Line(number) => Halted::Line(number, no_line(context.alloc(), line)),
+        ConverseFault::Line(_) => {
+            let why = no_line(context.alloc(), reader.line());
+            Halted::Line(reader.number(), why)
+        }
         ConverseFault::NoMemory | ConverseFault::Writer(ErrorKind::OutOfMemory) => {
             Halted::Fault(NO_MEMORY)
         }
@@ -232,7 +176,8 @@ struct Answers<'a> {
     trace: Trace<'a>,
 }
 
-/// Takes the lines of standard input until the call is over, and writes the answer to each. If the input ends before, the line is lost.
+/// Takes the lines of standard input until the call is over, and writes the answer to each. If the input ends before, the line is lost. A line
+/// for which memory is refused is lost too, and the call goes on.
 fn talk<S: Stoppable, K: Keeper<S, Refused = ToolFault>>(
     context: &mut Context<'_>,
     conversation: &mut Conversation<S>,
@@ -245,25 +190,31 @@ fn talk<S: Stoppable, K: Keeper<S, Refused = ToolFault>>(
     let input = BufReader::with_capacity(alloc, READ_AT_ONCE, context.rt().reader())?;
     let mut reader = LastLine::new(alloc, input);
     let Answers { writer, trace } = answers;
-    match converse(alloc, &mut reader, conversation, keeper, writer, trace) {
-        Ok(Ending::Over | Ending::Lost) => Ok(()),
-        Ok(Ending::Unkept(fault)) => Err(Halted::Fault(outside(fault))),
-        Err(fault) => Err(halted_by(context, fault, reader.line())),
+    for _lost in 0..u64::MAX {
+        let fault = match converse(alloc, &mut reader, conversation, keeper, writer, trace) {
+            Ok(Ending::Over | Ending::Lost) => return Ok(()),
+            Ok(Ending::Unkept(fault)) => return Err(Halted::Fault(outside(fault))),
+            Err(fault) => fault,
+        };
+        if fault != ConverseFault::NoMemory || !reader.skip_line()? {
+            return Err(halted_by(context, fault, &reader));
+        }
+        writer.write_all(b"wait\n")?;
+        writer.flush()?;
     }
+    Err(Halted::Fault(NO_MEMORY))
 }
 
-/// Talks, and notes why standard output failed. Returns why the lines went no further, if that is so. Errors: `Io` (8) if the trace can't be
-/// opened, and that is noted; `NoMemory` (9).
+/// Talks, and notes why standard output failed. Returns why the lines went no further, if that is so. Errors: `NoMemory` (9).
 fn talk_out<S: Stoppable, K: Keeper<S, Refused = ToolFault>>(
     context: &mut Context<'_>,
     conversation: &mut Conversation<S>,
     keeper: &mut K,
-    trace: Option<&str>,
+    trace: Trace<'_>,
 ) -> Result<Option<Halted>, ToolFault>
     ensures halted { IfOk result (λ halted. IfSome halted IsHalt) }
     ensures fault { IfErr result IsOutside }
 {
-    let trace = Trace::open(context, trace)?;
     let writer = printed::print(context)?;
     let mut answers = Answers { writer, trace };
     let talked = talk(context, conversation, keeper, &mut answers);
@@ -280,12 +231,18 @@ pub struct AnswerCommand {
     pub caps: Caps,
     /// How many pages wait in memory at most, 1 to 1,000.
     pub limit: u32,
+    /// What its call may have at most, if given.
+    pub limits: GivenLimits,
     /// How long its waits run.
     pub waits: GivenWaits,
     /// The name of the folder that the stored pages go to.
     pub out: String,
+    /// Who may read and write their files.
+    pub rights: Rights,
     /// The name of the file that the trace goes to, if one is given.
     pub trace: Option<String>,
+    /// Whether the trace has a line for each frame of a block.
+    pub frames: bool,
 }
 
 impl Runs for AnswerCommand {
@@ -316,7 +273,7 @@ impl Runs for AnswerCommand {
 
     fn run(&self, context: &mut Context<'_>) -> Result<Completeness, ToolFault> {
         // before a line is read
-        output::check_folder(context, self.out.as_str(), Part::Output)?;
+        output::check_makes(context, self.out.as_str(), self.rights, Part::Output)?;
         let talked = self.talk(context)?;
         end_station(context, &talked, false)
     }
@@ -341,25 +298,45 @@ impl AnswerCommand {
         let terminal = Terminal::new(context.alloc(), station, first);
         let conversation = Conversation::new_answerer(terminal, durations(self.waits));
         let mut conversation = conversation.saying(says(self.waits));
-        let mut folder = Folder {
-            rt: context.rt(),
-            name: self.out.as_str(),
-            records: context.is_json(),
-            stored: 0,
-            next: 1,
-            failed: None,
-        };
-        let trace = self.trace.as_deref();
+        let limits = CallLimits::of(self.limits);
+        let (name, records) = (self.out.as_str(), context.is_json());
+        let mut folder = Folder::new(context.rt(), name, self.rights, records, limits);
+        let trace = Trace::open(context, self.trace.as_deref(), self.frames)?;
         let halted = talk_out(context, &mut conversation, &mut folder, trace)?;
-        if let Some(kind) = folder.failed {
+        if let Some(kind) = folder.failed() {
             context.blame(Part::Output, kind);
         }
         Ok(Talked {
             end: conversation.end(),
-            pages: folder.stored,
+            pages: folder.stored(),
             halted,
         })
     }
+}
+
+/// The pages of a document after so many, with the same lines. Errors: `NoMemory` (9).
+fn pages_after(
+    alloc: Global,
+    document: Document,
+    before: usize,
+    fine: bool,
+) -> Result<Document, ToolFault>
+    requires some { before < length document }
+    requires lines { map (with_fine fine) document ≡ document }
+    ensures rest { IfOk result (λ rest. rest ≡ drop before document) }
+    ensures fault { IfErr result IsOutside }
+{
+    if before == 0 {
+        return Ok(document);
+    }
+    let mut octets = Vec::new(alloc);
+    // as images: they read as these pages
+    pbm_round_trip();
+    let pages = document.pages().get(before..).unwrap_or(&[]);
+    write_pbm(pages, &mut octets)?;
+    drop(document);
+    let mut images = octets.as_slice();
+    Ok(read_pbm(alloc, &mut images, fine)?)
 }
 
 /// Runs a caller by lines of text.
@@ -367,10 +344,14 @@ impl AnswerCommand {
 pub struct DialCommand {
     /// What it is run with.
     pub options: CallOptions,
+    /// The number of the first page that it sends, from 1.
+    pub from: u32,
     /// How long its waits run.
     pub waits: GivenWaits,
     /// The name of the file that the trace goes to, if one is given.
     pub trace: Option<String>,
+    /// Whether the trace has a line for each frame of a block.
+    pub frames: bool,
     /// The name of the document's file.
     pub input: String,
 }
@@ -410,14 +391,39 @@ impl Runs for DialCommand {
 }
 
 impl DialCommand {
-    /// Returns the caller, with the document of its file. Errors: the first fault of the file, `WidthNotCallable` (26), `Io` (8) if the
-    /// file can't be read, and that is noted; `NoMemory` (9).
-    fn caller(&self, context: &mut Context<'_>) -> Result<Caller, ToolFault>
-        ensures { IfErr result (IsNoDocument self.now.options.fine) }
+    /// Returns the pages that are sent: those of its file from a number on. Errors: the first fault of the file, `FewerPages` (28), `Io` (8)
+    /// if the file can't be read, and that is noted; `NoMemory` (9).
+    fn document(&self, context: &mut Context<'_>) -> Result<Document, ToolFault>
+        ensures { SendsFrom self.now.options.fine self.now.from result }
     {
         read_images(context, self.input.as_str(), Watch::Silent)?;
         let mut images = context.octets();
         let document = read_pbm(context.alloc(), &mut images, self.options.fine)?;
+        let count = document.pages().len();
+        let before = self.pages_before();
+        if before < count {
+            return pages_after(context.alloc(), document, before, self.options.fine);
+        }
+        let from = self.from;
+        context.note_cause(Cause::FewerPages { count, from });
+        Err(ToolFault::No(28))
+    }
+
+    /// How many pages of its file come before those that it sends.
+    fn pages_before(&self) -> usize
+        ensures { result ≡ self.now.from - 1 }
+    {
+        self.from.saturating_sub(1) as usize
+    }
+
+    /// Returns the caller, with the pages that are sent. Errors: those of `document`, and `WidthNotCallable` (26).
+    fn caller(&self, context: &mut Context<'_>) -> Result<Caller, ToolFault>
+        ensures { IfErr result (IsNoDocument self.now.options.fine self.now.from) }
+    {
+        let document = self.document(context)?;
+        if let Some(cause) = first_not_callable(document.pages(), self.pages_before()) {
+            context.note_cause(cause);
+        }
         let wish = Wish {
             modems: self.options.modems,
             coding: self.options.coding,
@@ -438,7 +444,7 @@ impl DialCommand {
         let terminal = Terminal::new(context.alloc(), station, Turn::Silent);
         let conversation = Conversation::new_caller(terminal, durations(self.waits));
         let mut conversation = conversation.saying(says(self.waits));
-        let trace = self.trace.as_deref();
+        let trace = Trace::open(context, self.trace.as_deref(), self.frames)?;
         let halted = talk_out(context, &mut conversation, &mut NoPages, trace)?;
         let caller = conversation.terminal().station().station();
         Ok(Talked {

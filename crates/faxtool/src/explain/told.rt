@@ -42,6 +42,10 @@ impl fmt::Display for Told<'_> {
                 f,
                 "{name}: page {page} is {width} pixels wide, and a call carries 1728, 2048 or 2432"
             ),
+            Some(Cause::FewerPages { count, from }) => write!(
+                f,
+                "{name}: it has pages up to {count}, and --from is {from}"
+            ),
             Some(Cause::RowsOf(width)) => write!(
                 f,
                 "{}; each row ends after {width} pixels: try --width {width}",

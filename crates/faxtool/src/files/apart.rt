@@ -1,7 +1,7 @@
 //! The files of a command that have to be apart: no two that are written are the same file, nor one that is read and one that is written.
 
-ghost use Rattle.faxtool.specs.Apart.{IsApartOutcome};
-ghost use Rattle.std.specs.Prelude.{IfErr};
+ghost use Rattle.faxtool.specs.Apart.{AddsFile, IsApartOutcome, MayAddFile, are_both_printed, are_one, first_like, first_two, is_same};
+ghost use Rattle.std.specs.Prelude.{◌≡◌, IfErr, OnOk, codes, false, option_map, true};
 
 use crate::args::words::{Outcome, unfit};
 use crate::commands::Runs;
@@ -46,7 +46,9 @@ pub struct CommandFiles<'a> {
 }
 
 impl CommandFiles<'_> {
-    fn add(&mut self, role: &'static str, name: &str, is_written: bool) -> Result<(), AllocError> {
+    fn add(&mut self, role: &'static str, name: &str, is_written: bool) -> Result<(), AllocError>
+        ensures { OnOk result (AddsFile role.now name.now is_written self.old.files.items self.new.files.items) }
+    {
         let alloc = self.rt.alloc();
         let identity = identity_of(self.rt, name, is_written)?;
         let name = String::from_str(alloc, name)?;
@@ -63,17 +65,23 @@ impl CommandFiles<'_> {
     }
 
     /// Adds a file that is read. Errors: memory was refused.
-    pub fn reads(&mut self, role: &'static str, name: &str) -> Result<(), AllocError> {
+    pub fn reads(&mut self, role: &'static str, name: &str) -> Result<(), AllocError>
+        ensures { OnOk result (AddsFile role.now name.now false self.old.files.items self.new.files.items) }
+    {
         self.add(role, name, false)
     }
 
     /// Adds a file that is written. Errors: memory was refused.
-    pub fn writes(&mut self, role: &'static str, name: &str) -> Result<(), AllocError> {
+    pub fn writes(&mut self, role: &'static str, name: &str) -> Result<(), AllocError>
+        ensures { OnOk result (AddsFile role.now name.now true self.old.files.items self.new.files.items) }
+    {
         self.add(role, name, true)
     }
 
     /// Adds a file that is written, if one is named. Errors: memory was refused.
-    pub fn may_write(&mut self, role: &'static str, name: Option<&str>) -> Result<(), AllocError> {
+    pub fn may_write(&mut self, role: &'static str, name: Option<&str>) -> Result<(), AllocError>
+        ensures { OnOk result (MayAddFile role.now (option_map (λ name. name.now) name.entry) self.old.files.items self.new.files.items) }
+    {
         match name {
             Some(name) => self.writes(role, name),
             None => Ok(()),
@@ -81,7 +89,9 @@ impl CommandFiles<'_> {
     }
 
     /// Adds standard output, which what is printed goes to. Errors: memory was refused.
-    pub fn prints(&mut self) -> Result<(), AllocError> {
+    pub fn prints(&mut self) -> Result<(), AllocError>
+        ensures { OnOk result (AddsFile (codes "what is printed") (codes "-") true self.old.files.items self.new.files.items) }
+    {
         self.writes("what is printed", STANDARD)
     }
 
@@ -95,18 +105,32 @@ impl CommandFiles<'_> {
         }
         Ok(())
     }
+}
 
-    /// Returns the first two files that aren't apart.
-    fn first_two(&self) -> Option<(&CommandFile, &CommandFile)> {
-        for (at, file) in self.files.iter().enumerate() {
-            for other in self.files.iter().skip(at.saturating_add(1)) {
-                if are_one(file, other) {
-                    return Some((file, other));
-                }
-            }
+/// Returns the first two files that aren't apart.
+fn first_two(files: &[CommandFile]) -> Option<(&CommandFile, &CommandFile)>
+    ensures { option_map (λ two. (two.0.now, two.1.now)) result ≡ first_two files.now }
+{
+    let mut left = files;
+    while let [file, more @ ..] = left {
+        if let Some(other) = first_like(file, more) {
+            return Some((file, other));
         }
-        None
+        left = more;
     }
+    None
+}
+
+/// Returns the first file that isn't apart from another one.
+fn first_like<'a>(file: &CommandFile, files: &'a [CommandFile]) -> Option<&'a CommandFile>
+    ensures { option_map (λ other. other.now) result ≡ first_like file.now files.now }
+{
+    for other in files {
+        if are_one(file, other) {
+            return Some(other);
+        }
+    }
+    None
 }
 
 /// Returns which file a name leads to. Errors: memory was refused.
@@ -171,7 +195,9 @@ fn in_folder(rt: &HostRuntime, name: &str) -> Result<Identity, AllocError> {
 }
 
 /// Returns whether two files of a command aren't apart: one of them is written, and they are the same file or both standard output.
-fn are_one(one: &CommandFile, other: &CommandFile) -> bool {
+fn are_one(one: &CommandFile, other: &CommandFile) -> bool
+    ensures { result ≡ are_one one.now other.now }
+{
     if !one.is_written && !other.is_written {
         return false;
     }
@@ -179,12 +205,16 @@ fn are_one(one: &CommandFile, other: &CommandFile) -> bool {
 }
 
 /// Returns whether two files are both standard output.
-fn are_both_printed(one: &CommandFile, other: &CommandFile) -> bool {
+fn are_both_printed(one: &CommandFile, other: &CommandFile) -> bool
+    ensures { result ≡ are_both_printed one.now other.now }
+{
     let are_written = one.is_written && other.is_written;
     are_written && one.name.as_str() == STANDARD && other.name.as_str() == STANDARD
 }
 
-fn is_same(one: &Identity, other: &Identity) -> bool {
+fn is_same(one: &Identity, other: &Identity) -> bool
+    ensures { result ≡ is_same one.now other.now }
+{
     match (one, other) {
         (Identity::File(device, number), Identity::File(other_device, other_number)) => {
             device == other_device && number == other_number
@@ -206,7 +236,7 @@ pub fn check_apart<C: Runs>(rt: &HostRuntime, words: &[&str], command: &C) -> Re
         files: Vec::new(rt.alloc()),
     };
     command.add_files(&mut files)?;
-    let Some((one, other)) = files.first_two() else {
+    let Some((one, other)) = first_two(files.files.as_slice()) else {
         return Ok(());
     };
     let text = if are_both_printed(one, other) {

@@ -2,13 +2,14 @@
 
 ghost use Rattle.calls.specs.Calls.{HaveRows};
 ghost use Rattle.faults.specs.Faults.{IsOutside};
+ghost use Rattle.faxtool.specs.Folders.{image_octets};
 ghost use Rattle.std.specs.Prelude.{◌≡◌, ◌<◌, ◌≤◌, IfErr, IfOk, length};
 
 use crate::context::{Context, Part};
-use crate::files::output::{self, PartFile, make_in, sync_folder};
+use crate::files::output::{self, PartFile, Rights, make_in, sync_folder};
 use faults::ToolFault;
 use raster::{Page, write_pbm};
-use std::alloc::Global;
+use std::alloc::{AllocError, Global};
 use std::io::{BufWriter, ErrorKind, Write};
 use std::{fs, io, slice};
 
@@ -75,15 +76,31 @@ impl From<io::Error> for NotStored {
     }
 }
 
-/// Stores a page: writes it into a new file of a folder, `page-N.pbm` with the first free number from this one on, and returns the number.
+/// The octets of a page's image. Errors: memory was refused.
+pub fn image_octets(alloc: Global, page: &Page) -> Result<u64, AllocError>
+    ensures { IfOk result (λ octets. octets ≡ image_octets page.now) }
+{
+    let rows = page.rows().len();
+    let header = format!(in alloc; "P4\n{} {rows}\n", page.width())?;
+    let stride = ((page.width() + 7) / 8) as usize;
+    Ok((header.len() + stride * rows) as u64)
+}
+
+/// Stores a page: writes it into a new file of these rights in a folder, `page-N.pbm` with the first free number from this one on, and returns the number.
 /// The file has that name only once it is whole and synced; then the folder is synced. If that fails, no file of it is left. Errors: `Io`
 /// (8), `NoMemory` (9).
-pub fn store_page(rt: &HostRuntime, folder: &str, first: u64, page: &Page) -> Result<u64, NotStored>
+pub fn store_page(
+    rt: &HostRuntime,
+    folder: &str,
+    rights: Rights,
+    first: u64,
+    page: &Page,
+) -> Result<u64, NotStored>
     requires { 0 < length page.now.rows }
     ensures number { IfOk result (λ number. first ≤ number) }
     ensures fault { IfErr result (λ refused. IsOutside refused.fault) }
 {
-    let mut made = make_in(rt, folder, false)?;
+    let mut made = make_in(rt, folder, rights)?;
     let stored = fill_page(rt, folder, first, page, &mut made);
     // it is the page's file by another name, or isn't whole
     made.remove(rt);

@@ -1,7 +1,8 @@
 //! Files that are read.
 
 ghost use Rattle.faults.specs.Faults.{IsOutside};
-ghost use Rattle.std.specs.Prelude.{IfErr};
+ghost use Rattle.faxtool.specs.Bounds.{KeepsFirst, begins_image};
+ghost use Rattle.std.specs.Prelude.{◌≡◌, IfErr};
 
 use crate::context::{Context, Part};
 use crate::files::STANDARD;
@@ -60,7 +61,9 @@ impl Read for Source<'_> {
 
 impl Source<'_> {
     /// Keeps the first octets that were read. If there is no memory for them, no later ones are kept.
-    fn keep(&mut self, read: &[u8]) {
+    fn keep(&mut self, read: &[u8])
+        ensures { KeepsFirst self.old.room self.old.octets.items read.now self.new.octets.items }
+    {
         let kept = read.get(..self.room.min(read.len())).unwrap_or(&[]);
         if self.octets.extend_from_slice(kept).is_ok() {
             self.room = self.room.saturating_sub(kept.len());
@@ -95,7 +98,9 @@ impl Source<'_> {
 }
 
 /// Returns whether an image may begin with these octets.
-fn begins_image(octets: &[u8]) -> bool {
+fn begins_image(octets: &[u8]) -> bool
+    ensures { result ≡ begins_image octets.now }
+{
     match octets {
         [] | [80] | [80, 52, ..] => true,
         _ => false,

@@ -2,14 +2,16 @@
 //! so what is there under a name is always whole.
 
 ghost use Rattle.faults.specs.Faults.{IsOutside};
-ghost use Rattle.std.specs.Prelude.{◌≡◌, IfErr};
+ghost use Rattle.std.specs.IoError.{error_kind};
+ghost use Rattle.std.specs.Prelude.{◌≡◌, ◌&&◌, IfErr, IfOk, None, Some, if◌then◌else◌, length, nat_eq, nat_lt};
+ghost use Rattle.std.specs.declared.io.ErrorKind.TheVariants.{WriteZero};
 
 use crate::context::{Cause, Context, Part};
 use crate::files::STANDARD;
 use faults::ToolFault;
 use std::fs::{File, OpenOptions, Permissions};
 use std::io::{ErrorKind, IsTerminal, Write};
-use std::os::unix::fs::OpenOptionsExt;
+use std::os::unix::fs::{OpenOptionsExt, PermissionsExt};
 use std::{fs, io, process};
 
 /// How many names are tried for the new file beside a place.
@@ -24,6 +26,17 @@ enum Place {
     Regular(Permissions),
     /// A device, a pipe, a link or a folder.
     Other,
+}
+
+/// Who may read and write a new file.
+#[derive(Clone, Copy, Debug, PartialEq, Eq)]
+pub enum Rights {
+    /// Who the umask lets.
+    Umask,
+    /// Its owner alone.
+    Private,
+    /// Whom these nine bits let, whatever the umask is.
+    Mode(u32),
 }
 
 /// A new file that this run has made in the folder of a place, its name, and why writing it failed.
@@ -80,6 +93,23 @@ pub fn check_folder(context: &mut Context<'_>, name: &str, part: Part) -> Result
     context.checked(checked, part)
 }
 
+/// Checks that a name is that of a folder in which a new file of these rights can be made: one is, and is removed. Errors: `Io` (8), and
+/// that is noted; `NoMemory` (9).
+pub fn check_makes(
+    context: &mut Context<'_>,
+    name: &str,
+    rights: Rights,
+    part: Part,
+) -> Result<(), ToolFault>
+    ensures { IfErr result IsOutside }
+{
+    check_folder(context, name, part)?;
+    let rt = context.rt();
+    let made = context.checked(make_in(rt, name, rights), part)?;
+    made.remove(rt);
+    Ok(())
+}
+
 /// Writes octets as the whole content of a file, or on standard output. Errors: `Io` (8) if it can't be written, and that is noted;
 /// `NoMemory` (9).
 pub fn save(
@@ -121,7 +151,7 @@ fn target_of(rt: &HostRuntime, name: &str) -> io::Result<Target> {
     }
     check_writable(rt, name)?;
     match place_of(rt, name)? {
-        Place::Free => Ok(Target::Beside(make_in(rt, folder_of(name), false)?)),
+        Place::Free => Ok(Target::Beside(make_in(rt, folder_of(name), Rights::Umask)?)),
         Place::Regular(permissions) => replacing(rt, name, permissions),
         Place::Other => Ok(Target::Itself(File::create(rt, name)?)),
     }
@@ -130,7 +160,7 @@ fn target_of(rt: &HostRuntime, name: &str) -> io::Result<Target> {
 /// Makes the new file beside a regular one: before its first octet it gets the permissions of the old one. It belongs to who runs the
 /// program, and other names of the old file (hard links) keep the old content.
 fn replacing(rt: &HostRuntime, name: &str, permissions: Permissions) -> io::Result<Target> {
-    let made = make_in(rt, folder_of(name), true)?;
+    let made = make_in(rt, folder_of(name), Rights::Private)?;
     match made.file.set_permissions(permissions) {
         Ok(()) => Ok(Target::Beside(made)),
         Err(error) => {
@@ -172,30 +202,33 @@ fn folder_of(place: &str) -> &str {
     }
 }
 
-/// Makes a new file in a folder, under the first name that is free, of the process and a number. A private one can be read by its owner
-/// alone.
-pub fn make_in(rt: &HostRuntime, folder: &str, private: bool) -> io::Result<PartFile> {
+/// Makes a new file in a folder, under the first name that is free, of the process and a number. It has its rights before its first octet.
+pub fn make_in(rt: &HostRuntime, folder: &str, rights: Rights) -> io::Result<PartFile> {
     let process = process::id(rt.process());
     // a file that is there is never written; one that a killed run has left stays
     for number in 1..=MOST_NAMES {
         let name = format!(in rt.alloc(); "{folder}/faxtool-{process}-{number}.part")?;
-        if let Some(file) = make(rt, name.as_str(), private)? {
-            return Ok(PartFile {
+        if let Some(file) = make(rt, name.as_str(), rights)? {
+            let made = PartFile {
                 file,
                 name,
                 failed: None,
-            });
+            };
+            return made.with(rt, rights);
         }
     }
     Err(io::Error::from(ErrorKind::AlreadyExists))
 }
 
 /// Makes a new file if its name is free.
-fn make(rt: &HostRuntime, name: &str, private: bool) -> io::Result<Option<File>> {
+fn make(rt: &HostRuntime, name: &str, rights: Rights) -> io::Result<Option<File>> {
     let mut options = OpenOptions::new();
     options.write(true).create_new(true);
-    if private {
-        options.mode(0o600);
+    match rights {
+        Rights::Umask => {}
+        Rights::Private | Rights::Mode(_) => {
+            options.mode(0o600);
+        }
     }
     match options.open(rt, name) {
         Ok(file) => Ok(Some(file)),
@@ -205,7 +238,10 @@ fn make(rt: &HostRuntime, name: &str, private: bool) -> io::Result<Option<File>>
 }
 
 /// Why octets aren't written, if that is so.
-fn why_failed(written: &io::Result<usize>, octets: &[u8]) -> Option<ErrorKind> {
+fn why_failed(written: &io::Result<usize>, octets: &[u8]) -> Option<ErrorKind>
+    ensures ok { IfOk written.now (λ count. result ≡ (if nat_eq count 0 && nat_lt 0 (length octets.now) then Some WriteZero else None)) }
+    ensures err { IfErr written.now (λ error. result ≡ Some (error_kind error)) }
+{
     match written {
         Ok(0) if !octets.is_empty() => Some(ErrorKind::WriteZero),
         Ok(_) => None,
@@ -219,6 +255,21 @@ impl PartFile {
         ensures { result ≡ self.now.failed }
     {
         self.failed
+    }
+
+    /// The file with the mode of its rights, if they are one. If it can't have it, it is removed. Errors: the system's.
+    fn with(self, rt: &HostRuntime, rights: Rights) -> io::Result<PartFile> {
+        let set = match rights {
+            Rights::Umask | Rights::Private => Ok(()),
+            Rights::Mode(mode) => self.file.set_permissions(Permissions::from_mode(mode)),
+        };
+        match set {
+            Ok(()) => Ok(self),
+            Err(error) => {
+                self.remove(rt);
+                Err(error)
+            }
+        }
     }
 
     /// Removes the file.

@@ -1,5 +1,8 @@
 //! How far reading is, shown on standard error where that takes long.
 
+ghost use Rattle.faxtool.specs.declared.files.progress.Watch.TheVariants.{Silent};
+ghost use Rattle.std.specs.Prelude.{◌≡◌, ◌+◌, ◌-◌, ◌^◌, None, min};
+
 use std::io::{Eprint, IsTerminal, Write};
 use std::time::Instant;
 
@@ -26,7 +29,10 @@ pub struct Progress<'a> {
 
 impl<'a> Progress<'a> {
     /// Nothing was read yet.
-    pub fn new(rt: &'a HostRuntime, watch: Watch) -> Progress<'a> {
+    pub fn new(rt: &'a HostRuntime, watch: Watch) -> Progress<'a>
+        ensures none { (result.octets ≡ 0) × (result.shown ≡ 2) }
+        ensures silent { watch ≡ Silent → result.begun ≡ None }
+    {
         // Only reading is shown: coding, decoding and a call's events are single calls of proved functions, which neither read nor write
         // meanwhile.
         let begun = if watch == Watch::Shown && rt.stderr().is_terminal() {
@@ -43,7 +49,11 @@ impl<'a> Progress<'a> {
     }
 
     /// Counts octets that were read.
-    pub fn read(&mut self, octets: usize) {
+    pub fn read(&mut self, octets: usize)
+        ensures counted { self.new.octets ≡ min (self.old.octets + octets) (2 ^ 64 - 1) }
+        ensures begun { self.new.begun ≡ self.old.begun }
+        ensures silent { self.old.begun ≡ None → self.new.shown ≡ self.old.shown }
+    {
         self.octets = self.octets.saturating_add(octets as u64);
         let Some(begun) = self.begun else {
             return;

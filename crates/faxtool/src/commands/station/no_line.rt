@@ -1,6 +1,7 @@
 //! Why a station doesn't answer a line, and at which column of it.
 
-ghost use Rattle.std.specs.Prelude.{◌≡◌};
+ghost use Rattle.std.specs.Prelude.{◌≡◌, ◌≤◌, ◌+◌, ◌↔◌, IsTrue, [], false, length, max, min, IfOk, if◌then◌else◌, ◌-◌, ◌^◌};
+ghost use Rattle.faxtool.specs.NoLines.{AreDigits, IsNoLine, IsWrongAt, after_word, first_word, word_at};
 ghost use Rattle.faxtool.specs.Told.{line_words};
 
 use conversations::{Channel, Kind, LineRefused, MOST_OCTETS, read_line};
@@ -14,20 +15,51 @@ pub(crate) struct LastLine<R> {
     reader: R,
     line: Vec<u8>,
     is_ended: bool,
+    ended: u64,
 }
 
 impl<R: Read + Drop> LastLine<R> {
-    pub(crate) fn new(alloc: Global, reader: R) -> LastLine<R> {
+    /// The reader, of which nothing was read.
+    pub(crate) fn new(alloc: Global, reader: R) -> LastLine<R>
+        ensures { (result.line.items ≡ []) × (result.is_ended ≡ false) × (result.ended ≡ 0) }
+    {
         LastLine {
             reader,
             line: Vec::new(alloc),
             is_ended: false,
+            ended: 0,
         }
     }
 
     /// The line that was read last, without its LF, as far as it was read and there was memory for it.
-    pub(crate) fn line(&self) -> &[u8] {
+    pub(crate) fn line(&self) -> &[u8]
+        ensures { result.now ≡ self.now.line.items }
+    {
         self.line.as_slice()
+    }
+
+    /// The number of the line that was read last, from 1; 0 if no octet was read.
+    pub(crate) fn number(&self) -> u64
+        ensures { result ≡ (if self.now.is_ended then self.now.ended else min (self.now.ended + 1) (2 ^ 64 - 1)) }
+    {
+        if self.is_ended {
+            self.ended
+        } else {
+            self.ended.saturating_add(1)
+        }
+    }
+
+    /// Reads on to the end of the line that was begun. Returns whether the line has one. Errors: those of the reader.
+    pub(crate) fn skip_line(&mut self) -> io::Result<bool>
+        ensures { IfOk result (λ ends. ends ≡ self.new.is_ended) }
+    {
+        let mut octet = [0];
+        for _octet in 0..u64::MAX {
+            if self.is_ended || self.read(&mut octet)? == 0 {
+                break;
+            }
+        }
+        Ok(self.is_ended)
     }
 
     fn keep(&mut self, octet: u8) {
@@ -37,6 +69,7 @@ impl<R: Read + Drop> LastLine<R> {
         }
         if octet == b'\n' {
             self.is_ended = true;
+            self.ended = self.ended.saturating_add(1);
         } else if self.line.len() <= MOST_OCTETS {
             let _kept = self.line.push(octet);
         }
@@ -122,30 +155,47 @@ struct Words<'a> {
 
 impl<'a> Words<'a> {
     /// The next word, up to a space or the line's end.
-    fn next_word(&mut self) -> &'a [u8] {
-        let rest = self.line.get(self.at..).unwrap_or(&[]);
-        for place in 0..rest.len() {
-            if rest[place] == b' ' {
-                return rest.get(..place).unwrap_or(rest);
-            }
-        }
-        rest
+    fn next_word(&self) -> &'a [u8]
+        ensures word { result.now ≡ word_at self.now.line.now self.now.at }
+        ensures within { self.now.at + length result.now ≤ max self.now.at (length self.now.line.now) }
+    {
+        first_word(self.line.get(self.at..).unwrap_or(&[]))
     }
 
     /// Goes on after a word and the space after it.
-    fn skip(&mut self, word: &[u8]) {
-        self.at = self.at.saturating_add(word.len()).saturating_add(1);
+    fn skip(&mut self, word: &[u8])
+        requires { self.old.at + length word.now ≤ 400020 }
+        ensures { self.new ≡ record self.old { at = self.old.at + length word.now + 1 } }
+    {
+        self.at += word.len() + 1;
     }
 }
 
+/// The octets before the first space, or all of them.
+fn first_word(octets: &[u8]) -> &[u8]
+    ensures word { result.now ≡ first_word octets.now }
+    ensures within { length result.now ≤ length octets.now }
+{
+    for place in 0..octets.len() {
+        if octets[place] == b' ' {
+            return &octets[..place];
+        }
+    }
+    octets
+}
+
 /// Returns whether octets are decimal digits, 1 to `most` of them.
-fn are_digits(octets: &[u8], most: usize) -> bool {
+fn are_digits(octets: &[u8], most: usize) -> bool
+    ensures { IsTrue result ↔ AreDigits most octets.now }
+{
     let is_number = octets.iter().all(|octet| octet.is_ascii_digit());
     is_number && !octets.is_empty() && octets.len() <= most
 }
 
 /// Returns why a line, without its LF, isn't answered: it is too long or isn't a line of a station, or else its time runs back.
-pub(crate) fn no_line(alloc: Global, line: &[u8]) -> NoLine {
+pub(crate) fn no_line(alloc: Global, line: &[u8]) -> NoLine
+    ensures { IsNoLine line.now result }
+{
     if line.len() > MOST_OCTETS {
         return NoLine {
             column: MOST_OCTETS + 1,
@@ -168,11 +218,14 @@ pub(crate) fn no_line(alloc: Global, line: &[u8]) -> NoLine {
 }
 
 /// Returns what is wrong with a line that says nothing, and goes to the word that is wrong.
-fn wrong_word(words: &mut Words<'_>) -> Wrong {
+fn wrong_word(words: &mut Words<'_>) -> Wrong
+    requires { (words.old.at ≡ 0) × (length words.old.line.now ≤ 400000) }
+    ensures { IsWrongAt words.old.line.now words.new.at result × (words.new.line ≡ words.old.line) }
+{
     let word = words.next_word();
     let receives = matches!(word, b"rx");
     match word {
-        b"quiet" | b"busy" | b"not-ready" | b"ready" | b"stop" | b"end" | b"rx" => {}
+        b"quiet" | b"busy" | b"not-ready" | b"ready" | b"missed" | b"stop" | b"end" | b"rx" => {}
         _ => return Wrong::Word,
     }
     words.skip(word);

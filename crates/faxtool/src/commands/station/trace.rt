@@ -1,7 +1,7 @@
 //! What a station heard and said, as text with its time.
 
 ghost use Rattle.faults.specs.Faults.{IsOutside};
-ghost use Rattle.std.specs.Prelude.{◌≡◌, IfErr, None, OnOk};
+ghost use Rattle.std.specs.Prelude.{◌≡◌, IfErr, None, OnOk, codes, if◌then◌else◌, nat_eq, ◌+◌};
 
 use crate::context::{Context, Part};
 use crate::explain::notice_as;
@@ -9,6 +9,7 @@ use captures::{ContentText, write_traced, write_traced_check};
 use conversations::{Follower, Heard, Kind, Said, TimedLine, heard_as};
 use faults::ToolFault;
 use hdlc::Deframer;
+use signals::{Signal, read};
 use stations::Listening;
 use std::alloc::Global;
 use std::fs::{File, OpenOptions};
@@ -27,6 +28,7 @@ pub(crate) struct Trace<'a> {
 struct TraceFile {
     alloc: Global,
     records: bool,
+    frames: bool,
     writer: BufWriter<File>,
     heard: Deframer,
     said: Deframer,
@@ -49,11 +51,12 @@ impl Follower for Trace<'_> {
 }
 
 impl<'a> Trace<'a> {
-    /// The trace that goes to a file, after what is there; or none. Errors: `Io` (8) if the file can't be opened, and that is noted;
-    /// `NoMemory` (9).
+    /// The trace that goes to a file, after what is there; or none. It has a line for each frame of a block, or one for all that follow each
+    /// other. Errors: `Io` (8) if the file can't be opened, and that is noted; `NoMemory` (9).
     pub(crate) fn open(
         context: &mut Context<'a>,
         name: Option<&str>,
+        frames: bool,
     ) -> Result<Trace<'a>, ToolFault>
         ensures { IfErr result IsOutside }
     {
@@ -72,6 +75,7 @@ impl<'a> Trace<'a> {
         let file = TraceFile {
             alloc,
             records: context.is_json(),
+            frames,
             writer: BufWriter::new(alloc, writer)?,
             heard: Deframer::new(alloc),
             said: Deframer::new(alloc),
@@ -147,10 +151,13 @@ impl<'a> Trace<'a> {
 
 impl TraceFile {
     /// The lines of what is said or heard at a time.
-    fn lines_at(&self, at: u64, said: bool) -> TraceLines {
+    fn lines_at(&self, at: u64, said: bool) -> TraceLines
+        ensures { result ≡ record { alloc = self.now.alloc; records = self.now.records; frames = self.now.frames; at = at; said = said } }
+    {
         TraceLines {
             alloc: self.alloc,
             records: self.records,
+            frames: self.frames,
             at,
             said,
         }
@@ -162,14 +169,83 @@ impl TraceFile {
 struct TraceLines {
     alloc: Global,
     records: bool,
+    frames: bool,
     at: u64,
     said: bool,
 }
 
+/// Frames of a block whose numbers follow each other, and the octets of data in the last one.
+#[derive(Clone, Copy, Debug, PartialEq, Eq)]
+struct FrameRun {
+    first: u8,
+    last: u8,
+    octets: usize,
+}
+
+impl FrameRun {
+    /// Whether a frame has the number after that of the last one.
+    fn is_before(self, frame: FrameRun) -> bool
+        ensures { result ≡ nat_eq (self.last + 1) frame.first }
+    {
+        u16::from(self.last) + 1 == u16::from(frame.first)
+    }
+
+    /// The frames with a further one.
+    fn with(self, frame: FrameRun) -> FrameRun
+        ensures { result ≡ record { first = self.first; last = frame.last; octets = frame.octets } }
+    {
+        FrameRun {
+            first: self.first,
+            ..frame
+        }
+    }
+}
+
 impl TraceLines {
     /// The word of what is said or heard.
-    fn word(self) -> &'static str {
+    fn word(self) -> &'static str
+        ensures { result.now ≡ (if self.said then codes "said" else codes "heard") }
+    {
         if self.said { "said" } else { "heard" }
+    }
+
+    /// The frame of a block that a content is, where such a one has no line of its own.
+    fn frame_of(self, content: &[u8]) -> Option<FrameRun> {
+        if self.records || self.frames {
+            return None;
+        }
+        match read(content) {
+            Ok(Signal::Fcd { number, octets }) => Some(FrameRun {
+                first: number,
+                last: number,
+                octets: octets.len(),
+            }),
+            _ => None,
+        }
+    }
+
+    /// Writes the line of frames that follow each other: `FCD 0..255`; of one alone it is that of its content. Errors: `Io` (8) from the
+    /// writer.
+    fn write_run<W: Write>(self, run: Option<FrameRun>, writer: &mut W) -> Result<(), ToolFault>
+        ensures { IfErr result IsOutside }
+    {
+        let Some(
+            FrameRun {
+                first,
+                last,
+                octets,
+            },
+        ) = run
+        else {
+            return Ok(());
+        };
+        let (at, word) = (self.at, self.word());
+        if first == last {
+            writeln!(writer, "{at} {word} FCD {first} {octets}")?;
+        } else {
+            writeln!(writer, "{at} {word} FCD {first}..{last}")?;
+        }
+        Ok(())
     }
 
     /// Writes the line of a content: the time, a word, and what the content says. Errors: `Io` (8) from the writer, `NoMemory` (9).
@@ -201,7 +277,7 @@ impl TraceLines {
     }
 }
 
-/// Writes a line for each content that waits. Errors: `Io` (8) from the writer, `NoMemory` (9).
+/// Writes a line for each content that waits, or one for frames that follow each other. Errors: `Io` (8) from the writer, `NoMemory` (9).
 fn write_contents<W: Write>(
     deframer: &mut Deframer,
     lines: TraceLines,
@@ -209,8 +285,20 @@ fn write_contents<W: Write>(
 ) -> Result<(), ToolFault>
     ensures fault { IfErr result IsOutside }
 {
+    let mut run: Option<FrameRun> = None;
     while let Some(content) = deframer.next() {
-        lines.write_content(content, writer)?;
+        match (run, lines.frame_of(content)) {
+            (Some(before), Some(frame)) if before.is_before(frame) => run = Some(before.with(
+                frame,
+            )),
+            (_, frame) => {
+                lines.write_run(run, writer)?;
+                run = frame;
+                if frame.is_none() {
+                    lines.write_content(content, writer)?;
+                }
+            }
+        }
     }
-    Ok(())
+    lines.write_run(run, writer)
 }
