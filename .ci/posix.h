@@ -57,11 +57,12 @@ int stat(const char *name, struct stat *out);
 ssize_t readlink(const char *name, char *to, size_t room);
 pid_t getpid(void);
 
-/* poll.h, time.h */
+/* poll.h, sched.h, time.h */
 enum { POLLIN = 1, POLLOUT = 4, CLOCK_MONOTONIC = 1 };
 struct pollfd { int fd; short events, revents; };
 struct timespec { long tv_sec, tv_nsec; };
 int poll(struct pollfd *files, unsigned long count, int millis);
+int sched_yield(void);
 int clock_gettime(int clock, struct timespec *out);
 
 /* signal.h */

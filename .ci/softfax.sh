@@ -45,7 +45,7 @@ builds() {
 # the headers of POSIX, in a few lines
 mkdir -p "$work/posix/sys"
 cp "$top/.ci/posix.h" "$work/posix/"
-for name in errno fcntl poll signal stdarg strings termios time unistd sys/ioctl sys/stat; do
+for name in errno fcntl poll sched signal stdarg strings termios time unistd sys/ioctl sys/stat; do
     echo '#include <posix.h>' > "$work/posix/$name.h"
 done
 for name in stdio stdlib string; do printf '#include_next <%s.h>\n#include <posix.h>\n' $name > "$work/posix/$name.h"; done

@@ -1,7 +1,7 @@
 /* class1-test FOLDER [--tell]: calls of softfax on two ptys, over two Class 1 modems of t31.c and bits.c's line, so that class1.c and tty.c
  * are tested without libspandsp. Each kind of call is tried on each line, also with modems that have other ways. Then modems that fail:
- * each has to be named in words. Status 1: a call fails, a page is on disk that isn't the document's, a confirmed one is missing, or an end
- * doesn't hang up. --tell: what happens in each call, on standard error. FOLDER is for the pages, and empty. */
+ * each has to be named in words. Status 1: a call fails, a page is on disk that isn't the document's, a confirmed one is missing, XOFF stops
+ * no tty, or an end doesn't hang up. --tell: what happens in each call, on standard error. FOLDER is for the pages, and empty. */
 #include "on_pty.h"
 #include "stopped.h"
 #include <stdio.h>
@@ -21,7 +21,7 @@ static const line_kind LINES[] = {
 };
 enum { LINES_COUNT = sizeof LINES / sizeof LINES[0] };
 
-static const soft_ways WAYS[] = {{0}, {.echoes = 1, .fixed = 1}, {.silent = 1, .fixed = 1}};
+static const soft_ways WAYS[] = {{0}, {.echoes = 1, .fixed = 1}, {.silent = 1, .fixed = 1}, {.xoff = 1}};
 enum { WAYS_COUNT = sizeof WAYS / sizeof WAYS[0] };
 
 static const char *folder;
@@ -43,10 +43,11 @@ static int try_call(
     if (caller_why != NULL) is_right = is_right && strcmp(came.caller, caller_why) == 0;
     if (answerer_why != NULL) is_right = is_right && strcmp(came.answerer, answerer_why) == 0;
     if (caller_why != NULL && strcmp(caller_why, "normal") == 0) is_right = is_right && trial_went_well(kind, &came);
+    is_right = is_right && (came.stops > 0) == caller_way->ways.xoff;
     if (!is_right || kind->tells != NULL) {
-        fprintf(stderr, "%s: modems %u coding %u pages %u seed %u: caller %s, answerer %s, confirmed %u, equal %u, wrong %u, %u s\n",
+        fprintf(stderr, "%s: modems %u coding %u pages %u seed %u: caller %s, answerer %s, confirmed %u, equal %u, wrong %u, %u s, %u XOFFs\n",
             kind->line.name, kind->modems, kind->coding, kind->pages, (uint32_t)kind->seed, came.caller, came.answerer,
-            (uint32_t)came.confirmed, came.equal, came.wrong, came.seconds);
+            (uint32_t)came.confirmed, came.equal, came.wrong, came.seconds, came.stops);
     }
     return is_right;
 }

@@ -2,6 +2,7 @@
 #include <errno.h>
 #include <fcntl.h>
 #include <poll.h>
+#include <sched.h>
 #include <stdio.h>
 #include <stdlib.h>
 #include <string.h>
@@ -10,12 +11,13 @@
 #include <unistd.h>
 
 enum { XON = 17, XOFF = 19, MOST_INPUT = 4095 /* a tty has no more ready for a program */ };
-enum { SOON = 2000, LATEST = 12000 }; /* tries: these at once, and those after them a millisecond later each */
+enum { AT_ONCE = 50, SOON = 1000, LATEST = 11000 }; /* tries: these at once, then when others have run, then a millisecond later each */
 
 /* Lets the kernel go on; returns whether it is worth another try. */
 static int wait_a_while(int *tries)
 {
     if (++*tries > SOON) poll(NULL, 0, 1);
+    else if (*tries > AT_ONCE) sched_yield();
     if (*tries < LATEST) return 1;
     fprintf(stderr, "a pty doesn't carry what was written\n");
     return 0;

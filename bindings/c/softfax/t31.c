@@ -7,9 +7,10 @@
 #include <stdlib.h>
 #include <string.h>
 
-enum { ETX = 3, DLE = 16, CAN = 24, LAST_FRAME = 0x10, FLAG = 0x7e, FLAGS_BEFORE = 37, FLAGS_AFTER = 2 };
+enum { ETX = 3, DLE = 16, XON = 17, XOFF = 19, CAN = 24, LAST_FRAME = 0x10, FLAG = 0x7e, FLAGS_BEFORE = 37, FLAGS_AFTER = 2 };
 enum { BEFORE_CED = 200, CED = 2600, AFTER_CED = 75 };
 enum { MOST_BITS = 1 << 19, MOST_FRAMES = 8 };
+enum { AFTER_XOFF = 100, MOST_AHEAD = 500, LEAST_AHEAD = 100 }; /* octets that may still come; milliseconds of a page that has come */
 enum doing { IDLE, DIALS, BEFORE_ANSWER, IN_CED, ANSWERED, SILENCE, FTH, FTM, SENDS, FRH, FRM, FRM_DATA };
 
 struct soft {
@@ -20,7 +21,8 @@ struct soft {
     modem *modem;
     g3_deframer deframer;
     int doing, escaped, is_last, is_trained, is_noisy;
-    int64_t now, until;
+    int64_t now, until, connected;
+    int is_full, after;           /* is_full: it has said XOFF; after: octets that have come since */
     char line[80];
     int filled;
     uint32_t carrier;
@@ -85,7 +87,8 @@ static int set_carrier(soft *it, const char *number)
 static void begin_burst(soft *it, int doing)
 {
     it->bits = 0;
-    it->length = it->escaped = 0;
+    it->length = it->escaped = it->is_full = 0;
+    it->connected = it->now;
     if (doing == FTH) memset(it->said, FLAG, FLAGS_BEFORE), it->bits = FLAGS_BEFORE * 8, it->carrier = G3_V21;
     else modem_of_sound.begin_carrier(it->modem, it->carrier, it->brief, it->said, 0);
     result(it, "CONNECT", doing);
@@ -153,8 +156,21 @@ static void take_host_data(soft *it, uint8_t octet)
     else if (it->doing == FTH && it->length < MOST_CONTENT) it->frame[it->length++] = octet;
 }
 
+/* Says XOFF while more of a page has come than the line needs for a while. */
+static void hold_back(soft *it)
+{
+    int64_t ahead = (int64_t)it->length * 8000 / rate_of(it->carrier) - (it->now - it->connected);
+    int is_full = it->is_full ? ahead > LEAST_AHEAD : ahead > MOST_AHEAD;
+    uint8_t says = is_full ? XOFF : XON;
+    if (it->doing != FTM || !it->ways.xoff || is_full == it->is_full) return;
+    put(it, &says, 1);
+    it->is_full = is_full;
+    it->after = 0;
+}
+
 static void take_host_octet(soft *it, uint8_t octet)
 {
+    if (it->doing == FTM && it->is_full && ++it->after > AFTER_XOFF) return; /* lost */
     if (it->doing == FTH || it->doing == FTM) take_host_data(it, octet);
     else if (octet == CAN && it->doing != IDLE) result(it, "OK", IDLE);
     else if (octet == '\r') {
@@ -233,6 +249,7 @@ static void t31_step(soft *it, const int16_t *in, int16_t *out)
     while ((count = it->host.read(it->host.user, octets, sizeof octets)) > 0) {
         for (int i = 0; i < count; i++) take_host_octet(it, octets[i]);
     }
+    hold_back(it);
     if (it->doing != SENDS && it->doing != FTM && it->doing != IN_CED) hear(it, in);
     go_on(it, out);
 }
