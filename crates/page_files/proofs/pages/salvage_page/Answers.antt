@@ -7,8 +7,8 @@ use Rattle.page_files.proofs.DecodedPages.{refused_code}
 use Rattle.page_files.proofs.DecodedRows.{has_row}
 use Rattle.page_files.proofs.pages.salvage_page.Goals as goal
 
-pub returns-in-Page-clause-salvaged : goal.returns-in-Page-clause-salvaged
-returns-in-Page-clause-salvaged g c =
+pub returns-in_ok-rows-in-Page-clause-salvaged : goal.returns-in_ok-rows-in-Page-clause-salvaged
+returns-in_ok-rows-in-Page-clause-salvaged g c =
     let form = c.args.form in
     let bits = bits_of form.order c.args.octets.now in
     let page = c.in-Page.page in
@@ -17,12 +17,12 @@ returns-in-Page-clause-salvaged g c =
     record {
       page = page;
       read = read.reads;
-      rows_are = c.in_ok-rows.ensures.rows;
-      written = c.in_ok-rows.ensures.written (has_row form.coding form.width bits page.rows c.in-Page.bits read.reads.reads);
+      rows_are = c.in_ok-rows-in-Page.ensures.rows;
+      written = c.in_ok-rows-in-Page.ensures.written (has_row form.coding form.width bits page.rows c.in-Page.bits read.reads.reads);
     }
 
-pub returns-in-Refused-clause-salvaged : goal.returns-in-Refused-clause-salvaged
-returns-in-Refused-clause-salvaged g c =
+pub returns-in_ok-rows-in-Refused-clause-salvaged : goal.returns-in_ok-rows-in-Refused-clause-salvaged
+returns-in_ok-rows-in-Refused-clause-salvaged g c =
     let form = c.args.form in
     let bits = bits_of form.order c.args.octets.now in
     let code = c.in-Refused.code in
