@@ -8,7 +8,7 @@ use Rattle.std.proofs.KnownBytes.{Appends-nil, Appends-trans}
 use Rattle.std.proofs.lemmas.Bool.{and_parts, cases_eq, eq-eqb, eqb-true, le-leb, leb-true, ne_eqb}
 use Rattle.std.proofs.lemmas.List.{append-nil, get_or-set_other, get_or-set_same, length-append, length-set}
 use Rattle.std.proofs.lemmas.List.Concat.{flat_map-append}
-use Rattle.raster.specs.Pbm.{ReadsImages, read_images}
+use Rattle.raster.specs.Pbm.{AreImages, ReadsImages, read_images}
 use Rattle.raster.specs.declared.fault.RasterFault.{RasterFault}
 use Rattle.stations.specs.CallerFields.{AreCallable}
 use Rattle.stations.specs.Layers.{Document}
@@ -27,6 +27,7 @@ use Rattle.call_tallies.specs.ManyCalls.{few_in, few_row, mild_in, mild_row, one
 use Rattle.call_tallies.specs.Seconds.{CountsSeconds, Histogram, TellsSeconds, seconds_row}
 use Rattle.call_tallies.specs.Totals.{one_if, total}
 use Rattle.faults.specs.declared.fault.ToolFault.{ToolFault}
+use Rattle.faults.specs.declared.fault.ToolFault.TheVariants.{No}
 use Rattle.calls.specs.declared.losses.BadLine.{BadLine}
 use Rattle.call_tallies.specs.declared.many_calls.Counted.{Counted}
 use Rattle.call_tallies.specs.declared.many_calls.OneCall.{OneCall}
@@ -159,6 +160,12 @@ one_ran options bad images made tally new seconds longer before at after call ra
       (sym (flat_map-append one_line ran.calls (call ∷ []) ∙ ap (λ l. flat_map one_line ran.calls ++ l) (append-nil (one_line call))))
       (Appends-trans before at after (flat_map one_line ran.calls) (one_line call) ran.written line);
 }
+
+-- why no call of images was run, if they were read
+pub images_refused : (fine : Bool) (images : List ℕ) (document : Document) (fault : ToolFault) → AreImages fine images document →
+    IsOutside fault ⊎ (¬ AreCallable document × (fault ≡ No 26)) → RefusesDriven fine images fault
+images_refused fine images document fault read (inl outside) = inl outside
+images_refused fine images document fault read (inr not) = inr (inr (document, read, not.0, not.1))
 
 -- a fault of a later call is one of the outside, since the first call could be run
 pub fault_later : ReadsImages → (options : CallOptions) (bad : BadLine) (images : List ℕ) (calls : List OneCall) (made : ℕ)

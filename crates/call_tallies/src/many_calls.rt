@@ -2,12 +2,13 @@
 
 ghost use Rattle.calls.specs.BadLines.{Going, RefusesDriven, Stands, is_marked};
 ghost use Rattle.faults.specs.Faults.{IsOutside};
-ghost use Rattle.call_tallies.specs.ManyCalls.{CountsAll, IsCallOf, IsDrivenTo, TellsMany, counts_in, counts_with, frames_again};
+ghost use Rattle.call_tallies.specs.ManyCalls.{CountsAll, IsCallOf, TellsMany, counts_in, counts_with, frames_again};
 ghost use Rattle.call_tallies.specs.ManyCalls.{counts_words, ends_words, is_delivery, is_loss, is_spoiling, one_line};
 ghost use Rattle.call_tallies.specs.FewTries.{slower_speeds};
 ghost use Rattle.call_tallies.specs.Totals.{one_if};
 ghost use Rattle.faults.specs.declared.fault.ToolFault.TheVariants.{No};
 ghost use Rattle.line_sim.specs.Fates.{entries_of};
+ghost use Rattle.raster.specs.Pbm.{AreImages};
 ghost use Rattle.stations.specs.CallerFields.{AreCallable};
 ghost use Rattle.std.specs.Io.KnownBytes.{Appends};
 ghost use Rattle.std.specs.Prelude.{◌≡◌, ◌≤◌, ◌+◌, ◌↔◌, ◌⊎◌, [], ◌∷◌, IfErr, IfOk, IsTrue, OnOk, length};
@@ -24,9 +25,9 @@ use faults::{FAILED, NO_MEMORY, ToolFault};
 use line_sim::{DrivenCall, Ending, Entry, Event, Kind, Step};
 use rand_pcg::Lcg64Xsh32;
 use raster::laws::pbm_reads_exactly;
-use raster::{Document, read_pbm};
+use raster::read_pbm;
 use signals::{Modems, Wish};
-use stations::End;
+use stations::{CodedDocument, End};
 use std::alloc::Global;
 use std::io::Write;
 
@@ -198,6 +199,7 @@ fn count_fates(
 ) -> Result<Counted, ToolFault>
     ensures counted { IfOk result (λ counted. (first : Going) → Stands call.old line.now generator.old first →
         CountsAll line.now spare first call.new counted) }
+    ensures document { OnOk result (call.new.live.caller.document ≡ call.old.live.caller.document) }
     ensures fault { IfErr result IsOutside }
 {
     let mut counts = CallCounts::new();
@@ -241,16 +243,17 @@ fn is_borne(line: &BadLine, few: bool) -> bool
     line.calls >= 3 && line.busy == 0 && few
 }
 
-/// Runs the call of a number, of a document, over a bad line. Errs with 26 if no call can have the width of a page, with `NO_MEMORY`, and
-/// with `FAILED` (8) if a number would be 2^64.
+/// Runs the call of a number, of a document, over a bad line, and returns the document for the next call. Errs with 26 if no call can have
+/// the width of a page, with `NO_MEMORY`, and with `FAILED` (8) if a number would be 2^64.
 fn run_call(
     alloc: Global,
-    document: Document,
+    document: CodedDocument,
     options: &CallOptions,
     line: &BadLine,
     number: u64,
-) -> Result<OneCall, ToolFault>
-    ensures is { IfOk result (IsCallOf options.now line.now number document) }
+) -> Result<(OneCall, CodedDocument), ToolFault>
+    ensures is { IfOk result (λ ran. IsCallOf options.now line.now number document ran.0) }
+    ensures document { IfOk result (λ ran. ran.1 ≡ document) }
     ensures refused { IfErr result (λ fault. IsOutside fault ⊎ (¬ AreCallable document × (fault ≡ No 26))) }
 {
     let wish = Wish {
@@ -260,17 +263,17 @@ fn run_call(
     };
     let caps = answerer_caps(options.modems);
     let patience = patience_of(line);
-    let mut call = match DrivenCall::new(alloc, document, wish, caps, patience) {
+    let mut call = match DrivenCall::of_coded(alloc, document, wish, caps, patience) {
         Ok(call) => call,
         Err(fault) => return Err(fault_of(fault)),
     };
     let mut generator = generator_of(line, number);
     let spare = slower_speeds(options.modems);
     let counted = count_fates(&mut call, line, &mut generator, spare)?;
-    let ending = call.into_live().into_ending();
+    let (ending, document) = call.into_live().into_ending_and_document();
     let seconds = seconds_in(&counted.clocks, counted.counts.waited, ending.caller_end)?;
     let few = is_borne(line, counted.few);
-    Ok(OneCall {
+    let ran = OneCall {
         number,
         caller_end: ending.caller_end,
         confirmed: ending.confirmed,
@@ -279,23 +282,23 @@ fn run_call(
         counts: counted.counts,
         seconds,
         few,
-    })
+    };
+    Ok((ran, document))
 }
 
-/// Reads images, and runs the call of a number, of their document. Errs as `drive_many` does.
-fn one_call(
+/// Reads images as a document, and codes its pages as the calls send them. Errs with the first fault of the images, and with `NO_MEMORY`.
+fn coded_images(
     alloc: Global,
     images: &[u8],
     options: &CallOptions,
-    line: &BadLine,
-    number: u64,
-) -> Result<OneCall, ToolFault>
-    ensures is { IfOk result (IsDrivenTo options.now line.now number images.now) }
+) -> Result<CodedDocument, ToolFault>
+    ensures read { IfOk result (AreImages options.now.fine images.now) }
     ensures refused { IfErr result (RefusesDriven options.now.fine images.now) }
 {
     let mut input = images;
     let document = read_pbm(alloc, &mut input, options.fine)?;
-    run_call(alloc, document, options, line, number)
+    let coded = CodedDocument::coded(alloc, document, options.coding)?;
+    Ok(coded)
 }
 
 /// Writes a call's number and how it ended for both stations, without the end of the line. Errs with `FAILED` (8) if the writer fails, and
@@ -359,10 +362,12 @@ pub fn drive_many<W: Write>(
     pbm_reads_exactly();
     let mut tally = Tally::new();
     let mut seconds = Seconds::new(alloc)?;
+    let mut document = coded_images(alloc, images, options)?;
     for number in 0..times {
-        // The images are read again for each call, since a call takes its document; only numbers are kept of it. The call draws from the
-        // stream of its number, so it is the call that runs alone with that number.
-        let call = one_call(alloc, images, options, line, number)?;
+        // A call takes its document and gives it back; only numbers are kept of it. The call draws from the stream of its number, so it is
+        // the call that runs alone with that number.
+        let (call, again) = run_call(alloc, document, options, line, number)?;
+        document = again;
         write_call(&call, writer)?;
         tally.add(&call)?;
         seconds.add(&call)?;

@@ -46,7 +46,8 @@ pub fn set_answerer(
     line: &BadLine,
     generator: &mut Lcg64Xsh32,
 ) -> Option<Entry>
-    ensures { (g : Going) → Stands call.old line.now generator.old g → IsSet line.now g call.new generator.new result }
+    ensures set { (g : Going) → Stands call.old line.now generator.old g → IsSet line.now g call.new generator.new result }
+    ensures document { call.new.live.caller.document ≡ call.old.live.caller.document }
 {
     if line.busy == 0 {
         return None;
@@ -60,7 +61,8 @@ pub fn set_answerer(
 
 /// Makes the next step of a call, by a fate of the generator if one is due.
 pub fn next_step(call: &mut DrivenCall, line: &BadLine, generator: &mut Lcg64Xsh32) -> Option<Step>
-    ensures { (g : Going) → Stands call.old line.now generator.old g → Draws line.now g call.old call.new generator.new result }
+    ensures draws { (g : Going) → Stands call.old line.now generator.old g → Draws line.now g call.old call.new generator.new result }
+    ensures document { call.new.live.caller.document ≡ call.old.live.caller.document }
 {
     if call.is_fate_due() {
         let fate = draw(line, generator);

@@ -117,7 +117,7 @@ fn read_page(
         .page(alloc, octets, Order::LsbFirst, width, params.fine)
     {
         Ok(PageRead::Page(page, _used)) => Ok(Captured::Page(page)),
-        Ok(PageRead::Refused(refused)) => Ok(Captured::Unread {
+        Ok(PageRead::Refused(refused, _rows)) => Ok(Captured::Unread {
             mark,
             fault: refused.fault,
         }),

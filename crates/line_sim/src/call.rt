@@ -13,9 +13,8 @@ use crate::channel::{Channel, fcd_count};
 use crate::event::{Entry, Event, NONE_SHOWN, Shown};
 use crate::fault::WorldFault;
 use crate::sender::{FromAnswerer, FromCaller};
-use raster::Document;
 use signals::{Caps, Wish};
-use stations::{Answerer, AnswererIn, Caller, CallerIn, Turn};
+use stations::{Answerer, AnswererIn, Caller, CallerIn, CodedDocument, Turn};
 use std::alloc::{AllocError, Global};
 
 /// The entry of an event that no station answers.
@@ -58,7 +57,7 @@ impl Call {
     /// `WidthNotCallable` if no call can have the width of a page.
     pub(crate) fn new(
         alloc: Global,
-        document: Document,
+        document: CodedDocument,
         wish: Wish,
         caps: Caps,
     ) -> Result<Call, WorldFault>
@@ -66,7 +65,7 @@ impl Call {
         requires ecm { caps.ecm ≡ true }
         ensures { NewCall document wish caps result }
     {
-        let caller = Caller::new(alloc, document, wish)?;
+        let caller = Caller::of_coded(alloc, document, wish)?;
         let (answerer, turn) = Answerer::new(alloc, caps);
         let to_answerer = Channel::new(alloc, FromCaller);
         let mut to_caller = Channel::new(alloc, FromAnswerer);

@@ -17,7 +17,7 @@ use crate::laws::{calls_bear, driven_calls_end};
 use crate::live::LiveCall;
 use raster::Document;
 use signals::{Caps, Wish};
-use stations::Turn;
+use stations::{CodedDocument, Turn};
 use std::alloc::{AllocError, Global};
 use std::marker::Model;
 
@@ -295,7 +295,8 @@ impl LiveCall {
     /// Does an event that no station hears of, if there is one, and returns its entry.
     fn event_if(&mut self, event: Option<Event>) -> Option<Entry>
         requires { IsUnheardIf event }
-        ensures { ActsIf event self.old self.new result }
+        ensures acts { ActsIf event self.old self.new result }
+        ensures document { self.new.caller.document ≡ self.old.caller.document }
     {
         match event {
             Some(event) => Some(self.event(event)),
@@ -339,7 +340,28 @@ impl DrivenCall {
         requires ecm { caps.ecm ≡ true }
         ensures { NewDriven document wish caps patience result }
     {
-        let live = LiveCall::new(alloc, document, wish, caps)?;
+        DrivenCall::of_coded(
+            alloc,
+            CodedDocument::uncoded(alloc, document),
+            wish,
+            caps,
+            patience,
+        )
+    }
+
+    /// Returns what `new` returns for the document alone, of a caller with the codes of its pages.
+    pub fn of_coded(
+        alloc: Global,
+        document: CodedDocument,
+        wish: Wish,
+        caps: Caps,
+        patience: Patience,
+    ) -> Result<DrivenCall, WorldFault>
+        requires receiver { caps.receiver ≡ true }
+        requires ecm { caps.ecm ≡ true }
+        ensures { NewDriven document wish caps patience result }
+    {
+        let live = LiveCall::of_coded(alloc, document, wish, caps)?;
         Ok(DrivenCall {
             live,
             patience,
@@ -352,6 +374,7 @@ impl DrivenCall {
     /// if a growth was refused. By the law `busy_calls_end` a call in which this is done before any of its steps ends all the same.
     pub fn set_busy(&mut self, busy: bool) -> Entry
         ensures sets { (p : PatienceValue) (d : Driven) → ShowsDriven self.old p d → SetsBusy p busy self.new d result }
+        ensures document { self.new.live.caller.document ≡ self.old.live.caller.document }
     {
         self.live.event(Event::Busy(busy))
     }
@@ -391,8 +414,9 @@ impl DrivenCall {
     /// Makes one step with the fate of the item that is first under way, and returns its events' entries; None if the call is over. The
     /// fate is ignored if none is due. If a growth was refused in the step, its entry shows it, and the event before it was done.
     pub fn step(&mut self, fate: Fate) -> Option<Step>
-        ensures { (p : PatienceValue) (d : Driven) → ShowsDriven self.old p d → first_fate d.fates ≡ plain_fate fate →
+        ensures steps { (p : PatienceValue) (d : Driven) → ShowsDriven self.old p d → first_fate d.fates ≡ plain_fate fate →
             Steps p self.old self.new d result }
+        ensures document { self.new.live.caller.document ≡ self.old.live.caller.document }
     {
         let few_dis = self.dis < self.patience.calls;
         let few_rnrs = self.rnrs < self.patience.busy;

@@ -19,11 +19,11 @@ use crate::call::Call;
 use crate::event::{Entry, Event, LineItem};
 use crate::fault::WorldFault;
 use crate::laws::headline;
-use crate::world::has_full_pages;
+use crate::world::are_full_pages;
 use raster::{Document, Page};
 use signals::{Caps, Side, Wish};
-use stations::End;
 use stations::laws::{layers_hold, signals_hold};
+use stations::{CodedDocument, End};
 use std::alloc::Global;
 use std::marker::Model;
 
@@ -82,10 +82,25 @@ impl LiveCall {
         ensures new { NewCall document wish caps result }
         ensures holds { IfOk result HoldsLive }
     {
+        LiveCall::of_coded(alloc, CodedDocument::uncoded(alloc, document), wish, caps)
+    }
+
+    /// Returns what `new` returns for the document alone, of a caller with the codes of its pages.
+    pub fn of_coded(
+        alloc: Global,
+        document: CodedDocument,
+        wish: Wish,
+        caps: Caps,
+    ) -> Result<LiveCall, WorldFault>
+        requires receiver { caps.receiver ≡ true }
+        requires ecm { caps.ecm ≡ true }
+        ensures new { NewCall document wish caps result }
+        ensures holds { IfOk result HoldsLive }
+    {
         headline();
         layers_hold();
         signals_hold();
-        has_full_pages(&document);
+        are_full_pages(document.pages());
         let call = Call::new(alloc, document, wish, caps)?;
         Ok(LiveCall { call })
     }
@@ -158,6 +173,19 @@ impl LiveCall {
         ensures answerer { (w : WorldValue) → Shows self w → result.answerer_end ≡ w.answerer.ending }
         ensures safe { IsSafe self.caller.document result.pages.items result.confirmed result.caller_end result.answerer_end }
     {
+        let (ending, _document) = self.into_ending_and_document();
+        ending
+    }
+
+    /// Returns what `into_ending` returns, and the document with the codes of its pages that the caller was made with, for a further call.
+    pub fn into_ending_and_document(self) -> (Ending, CodedDocument)
+        ensures pages { (w : WorldValue) → Shows self w → result.0.pages.items ≡ w.answerer.pages }
+        ensures confirmed { (w : WorldValue) → Shows self w → result.0.confirmed ≡ confirmed w.caller }
+        ensures caller { (w : WorldValue) → Shows self w → result.0.caller_end ≡ w.caller.ending }
+        ensures answerer { (w : WorldValue) → Shows self w → result.0.answerer_end ≡ w.answerer.ending }
+        ensures safe { IsSafe self.caller.document result.0.pages.items result.0.confirmed result.0.caller_end result.0.answerer_end }
+        ensures document { result.1 ≡ self.caller.document }
+    {
         headline();
         layers_hold();
         signals_hold();
@@ -165,11 +193,12 @@ impl LiveCall {
         let confirmed = call.caller.confirmed();
         let caller_end = call.caller.end();
         let answerer_end = call.answerer.end();
-        Ending {
+        let ending = Ending {
             pages: call.answerer.into_pages(),
             confirmed,
             caller_end,
             answerer_end,
-        }
+        };
+        (ending, call.caller.into_coded())
     }
 }

@@ -5,6 +5,7 @@ ghost use Rattle.line_sim.specs.Line.{World as WorldValue, Outcome, new_world};
 ghost use Rattle.line_sim.specs.PageMachine.{AtMostTwo};
 ghost use Rattle.line_sim.specs.Report.{Keeps, KeepsRun, RunsTo, Tells, TellsWhole};
 ghost use Rattle.line_sim.specs.Represents.{Becomes, BecomesSome, NewWorld, Shows, fields_state};
+ghost use Rattle.raster.specs.Pages.{IsDocument};
 ghost use Rattle.stations.specs.Laws.{Each};
 ghost use Rattle.stations.specs.Layers.{IsFullPage};
 ghost use Rattle.line_sim.specs.Octets.{ComeNext, sender_to, under_way_to};
@@ -15,8 +16,9 @@ use crate::event::{Entry, Event};
 use crate::fault::WorldFault;
 use crate::laws::{counted, headline};
 use crate::report::Report;
-use raster::Document;
+use raster::{Document, Page};
 use signals::{Caps, Side, Wish};
+use stations::CodedDocument;
 use stations::laws::{layers_hold, signals_hold};
 use std::alloc::{AllocError, Global};
 use std::marker::Model;
@@ -64,7 +66,7 @@ impl World {
         layers_hold();
         signals_hold();
         has_full_pages(&document);
-        let call = Call::new(alloc, document, wish, caps)?;
+        let call = Call::new(alloc, CodedDocument::uncoded(alloc, document), wish, caps)?;
         Ok(World {
             call,
             transcript: Vec::new(alloc),
@@ -185,7 +187,15 @@ impl World {
 pub(crate) fn has_full_pages(document: &Document)
     ensures { Each IsFullPage document.now }
 {
-    for page in document.pages() {
+    are_full_pages(document.pages());
+}
+
+/// Each page of a document's has rows, all of its width, and not too many.
+pub(crate) fn are_full_pages(pages: &[Page])
+    requires { IsDocument pages.now }
+    ensures { Each IsFullPage pages.now }
+{
+    for page in pages {
         let _rows = page.rows(); // for the proof: what holds of every page
     }
 }

@@ -8,9 +8,9 @@ use Rattle.raster.specs.declared.coding.Coding.{Coding}
 use Rattle.page_code.specs.declared.page.Progress.{Progress}
 use Rattle.page_code.specs.Codings.{read_rows}
 use Rattle.page_code.specs.RowsSoFar.{AreRowsSoFar, IsReadTo, ReadsOn}
-use Rattle.page_code.specs.PageReaders.{IsPageRead, IsPageRefused, IsRead, PageReading}
+use Rattle.page_code.specs.PageReaders.{HasRowsBefore, IsPageRead, IsPageRefused, IsRead, PageReading}
 use Rattle.page_code.specs.declared.page_reader.PageRead.{PageRead}
-use Rattle.page_code.proofs.PageReaders.{finish_only, finish_reads, finish_refuses, reading_of}
+use Rattle.page_code.proofs.PageReaders.{finish_only, finish_reads, finish_refuses, reading_of, salvaged}
 use Rattle.raster.specs.Packed.{bits_of}
 use Rattle.raster.specs.declared.packed.Order.{Order}
 
@@ -39,6 +39,20 @@ page_refused coding bits old new fault wide differs (inr on) =
       counted = subst (λ w. AreRowsSoFar coding w bits (length new.page.rows)) on.0.width on.2;
       row_start = (new.page.rows, refl, subst (λ w. IsReadTo coding w bits new.page.rows new.place) on.0.width on.0.read);
     }
+
+-- the whole rows that were read before the refusal
+pub rows_before : (coding : Coding) (bits : List Bool) (old new : Progress) (fault : CodeFault) → IsWidth old.page.width
+    → fault.kind ≢ NoMemory → ReadsOn coding bits old new (Err fault)
+    → HasRowsBefore coding old.page.width old.page.fine bits (record { fault = fault; rows = length new.page.rows; row_start = new.place })
+    new.page
+rows_before coding bits old new fault wide differs (inl memory) = absurd (differs memory)
+rows_before coding bits old new fault wide differs (inr on) = record {
+  width_is = on.0.width;
+  fine_is = on.0.fine;
+  whole = salvaged coding old.page.width bits old new wide refl (on.0, on.2);
+  counted = refl;
+  row_start = subst (λ w. IsReadTo coding w bits new.page.rows new.place) on.0.width on.0.read;
+}
 
 -- what a reader reads octets as
 pub read_now : (coding : Coding) (order : Order) (old : Progress) (count : ℕ) (kept : List ℕ) (now : PageReading)

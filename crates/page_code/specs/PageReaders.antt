@@ -11,7 +11,7 @@ use Rattle.page_code.specs.declared.page_reader.PageRead.TheVariants.{Page, Refu
 use Rattle.page_code.specs.declared.page_reader.RefusedCode.{RefusedCode}
 use Rattle.page_code.specs.Codings.{IsLongestIn, ReadsIn, read_rows}
 use Rattle.page_code.specs.PageCodes.{ReadsPage, RefusesPage}
-use Rattle.page_code.specs.RowsSoFar.{AreRowsSoFar, IsReadTo}
+use Rattle.page_code.specs.RowsSoFar.{AreRowsSoFar, AreWholeRows, IsReadTo}
 use Rattle.page_code.specs.TurnedCodes.{AreTurned}
 
 -- A reader of a page that comes in pieces: the code, the order of bits, the page read so far, the place in the bits after its rows, the
@@ -64,12 +64,23 @@ pub record IsPageRefused (coding : Coding) (width : ℕ) (bits : List Bool) (ref
   pub counted : AreRowsSoFar coding width bits refused.rows
   pub row_start : (rows : List (List Color)) × (length rows ≡ refused.rows) × IsReadTo coding width bits rows refused.row_start
 
+-- The page has the width, the lines and all whole rows that the bits spell from the beginning, one after the other: as many as the
+-- refusal counts, read up to the bit that it says.
+pub record HasRowsBefore (coding : Coding) (width : ℕ) (fine : Bool) (bits : List Bool) (refused : RefusedCode) (page : PagePixels)
+    : Type 0 where
+  pub width_is : page.width ≡ width
+  pub fine_is : page.fine ≡ fine
+  pub whole : AreWholeRows coding width bits page.rows
+  pub counted : length page.rows ≡ refused.rows
+  pub row_start : IsReadTo coding width bits page.rows refused.row_start
+
 -- the result of reading bits: a page, or a refusal with the whole rows before it
 abbrev pub IsRead : Coding → ℕ → Bool → List Bool → PageRead → Type 0
 IsRead coding width fine bits (Page page used) = IsPageRead coding width fine bits page used
-IsRead coding width fine bits (Refused refused) = IsPageRefused coding width bits refused
+IsRead coding width fine bits (Refused refused rows) = IsPageRefused coding width bits refused
+    × HasRowsBefore coding width fine bits refused rows
 
 -- after a page the reader has read no octets, and after a refusal the ones that it had read before
 abbrev pub StandsAfter : PageReading → PageReading → PageRead → Type 0
 StandsAfter old new (Page page used) = StandsFor new []
-StandsAfter old new (Refused refused) = StandsAsBefore old new
+StandsAfter old new (Refused refused rows) = StandsAsBefore old new

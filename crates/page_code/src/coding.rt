@@ -50,7 +50,7 @@ pub trait CodesPages {
         requires { IsWidth width };
 
     /// Reads the octets as a page of this width in pixels: returns the page that `decode` returns, or the
-    /// refusal with the number of whole rows before it and the bit after them. Errs only if memory is
+    /// refusal with the page of the whole rows before it, which is that of `salvage`. Errs only if memory is
     /// refused.
     fn page(
         self,

@@ -55,8 +55,8 @@ pub struct RefusedCode {
 pub enum PageRead {
     /// A page, and the number of bits that it uses.
     Page(Page, u128),
-    /// No page: the refusal.
-    Refused(RefusedCode),
+    /// No page: the refusal, and the page of the whole rows before it, which may have none.
+    Refused(RefusedCode, Page),
 }
 
 /// Reads a page whose octets come in pieces. Each call gets all octets so far, and reads on after the whole
@@ -152,11 +152,12 @@ pub(crate) fn read_whole(
             if fault.is_memory() {
                 return Err(AllocError);
             }
-            Ok(PageRead::Refused(RefusedCode {
+            let refused = RefusedCode {
                 fault,
                 rows: to.page.rows().len() as u32,
                 row_start: to.place,
-            }))
+            };
+            Ok(PageRead::Refused(refused, to.page))
         }
     }
 }
@@ -308,8 +309,8 @@ impl PageReader {
     }
 
     /// Returns the page that `finish` returns for `all`, which must begin with the octets read before, or its
-    /// refusal with the number of whole rows before it. After a page the reader begins anew; after a refusal
-    /// it is at the octets that it had read, also if memory is refused, which is the only error.
+    /// refusal with the whole rows before it. After a page the reader begins anew; after a refusal it is at
+    /// the octets that it had read, also if memory is refused, which is the only error.
     pub fn page(&mut self, all: &[u8]) -> Result<PageRead, AllocError>
         requires { GoesOnTo self.old all.now }
         ensures like { IsLike self.old self.new }
@@ -327,7 +328,7 @@ impl PageReader {
                 self.count = 0;
                 Ok(PageRead::Page(page, used))
             }
-            Ok(PageRead::Refused(refused)) => Ok(PageRead::Refused(refused)),
+            Ok(PageRead::Refused(refused, rows)) => Ok(PageRead::Refused(refused, rows)),
             Err(AllocError) => Err(AllocError),
         }
     }

@@ -3,7 +3,7 @@
 ghost use Rattle.page_files.specs.CodedPages.{AppendsCode, RefusesImage};
 ghost use Rattle.page_files.specs.Decodings.{RefusesKept};
 ghost use Rattle.faults.specs.Faults.{IsOutside};
-ghost use Rattle.page_code.specs.PageReaders.{IsPageRead, IsPageRefused};
+ghost use Rattle.page_code.specs.PageReaders.{IsPageRead, IsPageRefused, IsRead};
 ghost use Rattle.page_code.specs.RowCoders.{CodesRows, EndsPage, IsSameCoder};
 ghost use Rattle.raster.specs.Packed.{bits_of};
 ghost use Rattle.raster.specs.Pages.{max_rows};
@@ -41,6 +41,25 @@ pub fn read_image<R: Read>(alloc: Global, reader: &mut R) -> Result<Page, ToolFa
     Ok(page)
 }
 
+/// Reads octets as a page: returns the page and the number of bits of its code, or the refusal with the whole rows before it. Errors:
+/// `NoMemory` (9).
+pub(crate) fn read_rows(alloc: Global, octets: &[u8], form: PageForm) -> Result<PageRead, ToolFault>
+    requires { IsWidth form.width }
+    ensures read { IfOk result (IsRead form.coding form.width form.fine (bits_of form.order octets.now)) }
+    ensures fault { IfErr result IsOutside }
+{
+    let PageForm {
+        coding,
+        order,
+        width,
+        fine,
+    } = form;
+    match coding.page(alloc, octets, order, width, fine) {
+        Ok(read) => Ok(read),
+        Err(AllocError) => Err(NO_MEMORY),
+    }
+}
+
 /// Returns the page that octets begin with, and the number of bits of its code. Errors: the refusal, at its bit, and then `kept` holds how
 /// far the page was read, otherwise None; `NoMemory` (9).
 pub(crate) fn read_code(
@@ -55,20 +74,13 @@ pub(crate) fn read_code(
     ensures known { IfSome kept.new (IsPageRefused form.coding form.width (bits_of form.order octets.now)) }
     ensures refused { IfErr result (RefusesKept kept.new form octets.now) }
 {
-    let PageForm {
-        coding,
-        order,
-        width,
-        fine,
-    } = form;
     *kept = None;
-    match coding.page(alloc, octets, order, width, fine) {
-        Ok(PageRead::Page(page, bits)) => Ok((page, bits)),
-        Ok(PageRead::Refused(code)) => {
+    match read_rows(alloc, octets, form)? {
+        PageRead::Page(page, bits) => Ok((page, bits)),
+        PageRead::Refused(code, _rows) => {
             *kept = Some(code);
             Err(ToolFault::from(code.fault))
         }
-        Err(AllocError) => Err(NO_MEMORY),
     }
 }
 

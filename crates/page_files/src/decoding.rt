@@ -1,18 +1,18 @@
 //! The way of decoding a page that is asked for, and what it gives.
 ghost use Rattle.page_files.specs.CodedPages.{WritesPage};
 ghost use Rattle.page_files.specs.Decodings.{GivesPage, IsKept, KeepsReadTo, RefusesDecoding, RefusesKept, broken_asked};
-ghost use Rattle.faults.specs.Faults.{IsOutside, fault_of_code};
+ghost use Rattle.faults.specs.Faults.{IsOutside};
 ghost use Rattle.page_code.specs.PageReaders.{IsPageRefused};
 ghost use Rattle.raster.specs.Packed.{bits_of};
 ghost use Rattle.raster.specs.Pixels.{IsWidth};
 ghost use Rattle.std.specs.Prelude.{◌≡◌, ◌≢◌, [], ℕ, List, Some, None, IfErr, IfOk, IfSome, length};
 
-use crate::coded::read_code;
+use crate::coded::{read_code, read_rows};
 use crate::options::PageForm;
 use crate::repair::repair_lines;
 use crate::repair_t6::repair_t6;
 use faults::ToolFault;
-use page_code::{CodesPages, Coding, RefusedCode};
+use page_code::{Coding, PageRead, RefusedCode};
 use raster::Page;
 use std::alloc::Global;
 
@@ -91,38 +91,6 @@ fn decode_whole(
     })
 }
 
-/// Returns the whole rows of octets with this refusal.
-fn salvage_refused(
-    alloc: Global,
-    octets: &[u8],
-    form: PageForm,
-    code: RefusedCode,
-) -> Result<Decoded, ToolFault>
-    requires width { IsWidth form.width }
-    requires rest { IsPageRefused form.coding form.width (bits_of form.order octets.now) code }
-    ensures given { IfOk result (λ given. (image : List ℕ) → WritesPage given.page (Some []) (Some image)
-        → GivesPage Broken.WholeRows form octets.now given.read_to (length given.page.rows) image given.lines.items) }
-    ensures read_to { IfOk result (λ given. given.read_to ≡ ReadTo.Fault (fault_of_code code.fault)) }
-    ensures refused { IfErr result IsOutside }
-{
-    let PageForm {
-        coding,
-        order,
-        width,
-        fine,
-    } = form;
-    // the pixels before the refused bit in its own row are given up
-    let page = coding.salvage(alloc, octets, order, width, fine)?;
-    let lines = Vec::new(alloc);
-    let fault = ToolFault::from(code.fault);
-    let read_to = ReadTo::Fault(fault);
-    Ok(Decoded {
-        page,
-        lines,
-        read_to,
-    })
-}
-
 /// Returns the page that octets begin with, or its whole rows before the refused bit; then `kept` holds how far they were read.
 fn salvage_rows(
     alloc: Global,
@@ -137,9 +105,10 @@ fn salvage_rows(
     ensures refused { IfErr result IsOutside }
     ensures kept_rows { IfOk result (λ given. KeepsReadTo kept.new given.read_to) }
 {
-    match read_code(alloc, octets, form, kept) {
-        Ok((page, bits)) => {
-            let lines = Vec::new(alloc);
+    *kept = None;
+    let lines = Vec::new(alloc);
+    match read_rows(alloc, octets, form)? {
+        PageRead::Page(page, bits) => {
             let read_to = ReadTo::End(bits);
             Ok(Decoded {
                 page,
@@ -147,10 +116,17 @@ fn salvage_rows(
                 read_to,
             })
         }
-        Err(fault) => match *kept {
-            Some(code) => salvage_refused(alloc, octets, form, code),
-            None => Err(fault),
-        },
+        // the pixels before the refused bit in its own row are given up
+        PageRead::Refused(code, page) => {
+            *kept = Some(code);
+            let fault = ToolFault::from(code.fault);
+            let read_to = ReadTo::Fault(fault);
+            Ok(Decoded {
+                page,
+                lines,
+                read_to,
+            })
+        }
     }
 }
 

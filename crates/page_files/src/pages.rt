@@ -8,12 +8,12 @@ ghost use Rattle.raster.specs.PbmText.{AppendsSome, ArePagesText};
 ghost use Rattle.raster.specs.Pixels.{IsWidth};
 ghost use Rattle.std.specs.Prelude.{◌≡◌, ◌<◌, ◌⊎◌, ◌∷◌, [], IfErr, IfOk, IfSome, OnOk, length};
 
-use crate::coded::{read_code, read_image, write_code};
+use crate::coded::{read_code, read_image, read_rows, write_code};
 use crate::options::PageForm;
-use faults::{NO_MEMORY, ToolFault};
-use page_code::{CodesPages, Coding, RefusedCode};
+use faults::ToolFault;
+use page_code::{CodesPages, Coding, PageRead, RefusedCode};
 use raster::{Page, write_pbm, write_text};
-use run_tables::{CodeFaultKind, Order};
+use run_tables::Order;
 use std::alloc::Global;
 use std::io::{Read, Write};
 
@@ -136,31 +136,40 @@ pub fn salvage_engine<R: Read, W: Write>(
         (SalvagesPage form.coding form.order form.width form.fine (W.contents writer.old) (W.contents writer.new) salvage)) }
     ensures fault { IfErr result IsOutside }
 {
-    let PageForm {
-        coding,
-        order,
-        width,
-        fine,
-    } = form;
     let mut octets = Vec::new(alloc);
     reader.read_to_end(&mut octets)?;
-    let fault = match coding.decode(alloc, &octets, order, width, fine) {
-        Ok((page, bits)) => {
-            let rows = page.rows().len();
-            write_pbm(&[page], writer)?;
-            return Ok(Salvage {
+    salvage_page(alloc, &octets, form, writer)
+}
+
+/// Writes the page that octets begin with, or its whole rows before the refused bit, as `salvage_engine` does.
+fn salvage_page<W: Write>(
+    alloc: Global,
+    octets: &[u8],
+    form: PageForm,
+    writer: &mut W,
+) -> Result<Salvage, ToolFault>
+    requires { IsWidth form.width }
+    ensures salvaged { IfOk result (λ salvage.
+        SalvagesPage form.coding form.order form.width form.fine (W.contents writer.old) (W.contents writer.new) salvage octets.now) }
+    ensures fault { IfErr result IsOutside }
+{
+    match read_rows(alloc, octets, form)? {
+        PageRead::Page(page, bits) => {
+            let rows = write_some(page, writer)?;
+            Ok(Salvage {
                 rows,
                 end: Ok(bits),
-            });
+            })
         }
-        Err(fault) if fault.kind == CodeFaultKind::NoMemory => return Err(NO_MEMORY),
-        Err(fault) => ToolFault::from(fault),
-    };
-    let rows = write_some(coding.salvage(alloc, &octets, order, width, fine)?, writer)?;
-    Ok(Salvage {
-        rows,
-        end: Err(fault),
-    })
+        PageRead::Refused(code, page) => {
+            let fault = ToolFault::from(code.fault);
+            let rows = write_some(page, writer)?;
+            Ok(Salvage {
+                rows,
+                end: Err(fault),
+            })
+        }
+    }
 }
 
 /// Writes a page as a raw PBM image and returns the number of its rows; a page without rows writes nothing.

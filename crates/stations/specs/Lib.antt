@@ -1,4 +1,5 @@
 pub mod Layers
+pub mod CodedDocuments
 pub mod Blocks
 pub mod Inputs
 pub mod CallerStep

@@ -1,18 +1,16 @@
 //! The calling station: ITU-T T.30, phases B to E and Annex A.
 
 ghost use Rattle.partial_page.specs.Frames.{cut};
-ghost use Rattle.raster.specs.Packed.{FillsOctets};
-ghost use Rattle.raster.specs.declared.packed.Order.TheVariants.{LsbFirst};
 ghost use Rattle.std.specs.Prelude.{◌≡◌, ◌<◌, ◌+◌, cond, nat_lt, List, Bool, drop, length, slice_get, Some, None, Ok, IfOk, IsOk, IsSome, IfSome};
 ghost use Rattle.std.specs.Prelude.{IsTrue, ◌↔◌, ◌⊎◌, ◌≢◌};
 ghost use Rattle.stations.specs.CallerStep.{Caller as CallerTuple, no_params, all_frames, caller_gives_up, tries_again, answers_dis};
 ghost use Rattle.stations.specs.CallerStep.{answers_ftt, answers_ppr, answers_rnr, answers_mcf, goes_on, caller_step, caller_table};
 ghost use Rattle.stations.specs.CallerStep.{confirmed, blocks_of, present_block, burst_of, pps_items, training_items, caller_items};
 ghost use Rattle.stations.specs.Inputs.{caller_input};
-ghost use Rattle.raster.specs.Octets.{packed};
 ghost use Rattle.signals.specs.Agreement.{width_of_pixels};
 ghost use Rattle.stations.specs.Layers.{agreed_for, lowered, in_one_group, code_octets, within_page_limit, code_blocks_within_limit};
 ghost use Rattle.stations.specs.Layers.{code_blocks_at};
+ghost use Rattle.stations.specs.CodedDocuments.{coded_page};
 ghost use Rattle.stations.specs.Keeping.{KeepsOrRefuses};
 ghost use Rattle.stations.specs.Lasting.{LastsOrRefuses};
 ghost use Rattle.stations.specs.Left.{SpendsOrRefuses};
@@ -23,15 +21,15 @@ ghost use Rattle.stations.specs.declared.turn.End.TheVariants.{PeerLeft};
 ghost use Rattle.stations.specs.declared.turn.Turn.TheVariants.{Silent};
 ghost use Rattle.signals.specs.declared.signal.PageEnd.TheVariants.{Mps};
 
+use crate::coded::{CodedDocument, code_page};
 use crate::fault::CallerFault;
 use crate::input::CallerIn;
 use crate::laws::{callers_end, callers_keep, steps_spend};
 use crate::lending::{Items, pps};
 use crate::turn::{CallerState, End, Turn};
-use page_code::{CodesPages, Coding};
+use page_code::Coding;
 use partial_page::laws::octets_have_a_block;
 use partial_page::{BlockFault, Blocks};
-use raster::packed::Order;
 use raster::{Document, Page};
 use signals::{Caps, Modems, PageEnd, PageWidth, Params, Signal, Speed, Wish, agree, lower};
 use std::alloc::{AllocError, Global};
@@ -41,7 +39,7 @@ use std::marker::Model;
 #[derive(Debug, Drop)]
 pub struct Caller {
     alloc: Global,
-    document: Document,
+    document: CodedDocument,
     wish: Wish,
     caps: Caps,
     params: Params,
@@ -78,6 +76,18 @@ impl Caller {
     /// A caller of a document, which waits for a DIS. `WidthNotCallable` (26) exactly if a page isn't 1,728, 2,048 or
     /// 2,432 pixels wide. Takes no memory.
     pub fn new(alloc: Global, document: Document, wish: Wish) -> Result<Caller, CallerFault>
+        ensures { NewCaller document wish result }
+    {
+        Caller::of_coded(alloc, CodedDocument::uncoded(alloc, document), wish)
+    }
+
+    /// Returns what `new` returns for the document alone. A page that is coded already, in the coding that both stations
+    /// agree on, isn't coded again.
+    pub fn of_coded(
+        alloc: Global,
+        document: CodedDocument,
+        wish: Wish,
+    ) -> Result<Caller, CallerFault>
         ensures { NewCaller document wish result }
     {
         if !are_callable(document.pages()) {
@@ -153,7 +163,14 @@ impl Caller {
         ensures confirmed { (t : CallerTuple) → Represents self t → result.1 ≡ confirmed t }
     {
         let confirmed = self.confirmed();
-        (self.document, confirmed)
+        (self.document.into_document(), confirmed)
+    }
+
+    /// Returns the document with the codes of its pages that the caller was made with; the station is given up.
+    pub fn into_coded(self) -> CodedDocument
+        ensures { result ≡ self.document }
+    {
+        self.document
     }
 
     /// Whether the caller waits for the DIS of a further group: a page is confirmed, and the next one has another width
@@ -526,7 +543,8 @@ impl Caller {
         let Some(page) = self.document.pages().get(number) else {
             return Ok(None);
         };
-        code_blocks(self.alloc, self.params, page)
+        let made = self.document.made(number, self.params.coding);
+        code_blocks(self.alloc, self.params, page, made)
     }
 
     /// Sends the first block of the page at a number, which has this code.
@@ -695,13 +713,19 @@ fn every_frame() -> Turn
     Turn::Burst([255; 32])
 }
 
-/// The blocks of a page's code, if a call can carry it.
+/// The blocks of a page's code, if a call can carry it; `made` are the code's octets, if they were made.
 #[tactic(auto, unfolding(crate::specs::Layers::code_blocks, crate::specs::Layers::code_within_limit))]
-fn code_blocks(alloc: Global, params: Params, page: &Page) -> Result<Option<Blocks>, AllocError>
-    requires { 0 < length page.now.rows }
+fn code_blocks(
+    alloc: Global,
+    params: Params,
+    page: &Page,
+    made: Option<&[u8]>,
+) -> Result<Option<Blocks>, AllocError>
+    requires rows { 0 < length page.now.rows }
+    requires made { IfSome made (λ octets. octets.now ≡ coded_page params.coding page.now) }
     ensures { IfOk result (λ blocks. blocks ≡ code_blocks_within_limit params page.now) }
 {
-    let octets = encoded(alloc, params, page)?;
+    let octets = encoded(alloc, params, page, made)?;
     cut_within_limit(alloc, octets, params.small)
 }
 
@@ -722,21 +746,29 @@ fn cut_within_limit(
     }
 }
 
-/// The octets of a page's code.
+/// The octets of a page's code: a copy of those that were made, if any.
 #[tactic(auto, unfolding(crate::specs::Layers::code_octets))]
-fn encoded(alloc: Global, params: Params, page: &Page) -> Result<Vec<u8>, AllocError>
-    requires { 0 < length page.now.rows }
+fn encoded(
+    alloc: Global,
+    params: Params,
+    page: &Page,
+    made: Option<&[u8]>,
+) -> Result<Vec<u8>, AllocError>
+    requires rows { 0 < length page.now.rows }
+    requires made { IfSome made (λ octets. octets.now ≡ coded_page params.coding page.now) }
     ensures { IfOk result (λ octets. octets.items ≡ code_octets params page.now) }
 {
-    let mut octets = Vec::new(alloc);
-    params
-        .coding
-        .encode(alloc, page, Order::LsbFirst, &mut octets)?;
-    are_packed(&octets);
-    Ok(octets)
+    match made {
+        Some(made) => copied(alloc, made),
+        None => code_page(alloc, params.coding, page),
+    }
 }
 
-/// Octets that bits fill are the packed bits. Nothing runs.
-fn are_packed(octets: &[u8])
-    ensures { (bits : List Bool) → FillsOctets LsbFirst bits octets.now → octets.now ≡ packed bits }
-{}
+/// A copy of octets.
+fn copied(alloc: Global, octets: &[u8]) -> Result<Vec<u8>, AllocError>
+    ensures { IfOk result (λ copy. copy.items ≡ octets.now) }
+{
+    let mut copy = Vec::new(alloc);
+    copy.extend_from_slice(octets)?;
+    Ok(copy)
+}

@@ -192,7 +192,7 @@ fn read_page(
     }
     match reader.page(octets) {
         Ok(PageRead::Page(page, _used)) => Ok(Some(page)),
-        Ok(PageRead::Refused(_refused)) => Ok(None),
+        Ok(PageRead::Refused(_refused, _rows)) => Ok(None),
         Err(AllocError) => Err(AllocError),
     }
 }

@@ -204,7 +204,7 @@ fn is_refused_early(alloc: Global, octets: &[u8], form: PageForm) -> Result<bool
     } = form;
     match coding.page(alloc, octets, order, width, fine)? {
         PageRead::Page(_, _) => Ok(false),
-        PageRead::Refused(refused) => {
+        PageRead::Refused(refused, _rows) => {
             Ok(refused.fault.place.saturating_add(FAR) < 8 * octets.len() as u128)
         }
     }

@@ -16,8 +16,8 @@ returns-in_default-clause-told g c first stands =
     is_told c.args.line.now first c.loop-made._made c.loop-made.call c.set_answerer-set.new.call c.next_step.new.call
     c.loop-made.generator c.set_answerer-set.new.generator c.next_step.new.generator c.loop-made.number
     (g.T.CallWriter.written c.args.writer.now) (g.T.CallWriter.written c.loop-made.writer) (g.T.CallWriter.written c.tell_set.new.writer)
-    c.set_answerer-set.result (c.loop-made.invariant first stands) c.set_answerer-set.ensures c.in_ok-tell_set.ensures.whole
-    c.in_default.ensures c.in_ok-tell_set.ensures.lines
+    c.set_answerer-set.result (c.loop-made.invariant first stands) c.set_answerer-set.ensures.set c.in_ok-tell_set.ensures.whole
+    c.in_default.ensures.draws c.in_ok-tell_set.ensures.lines
 
 pub loop-made-preserved : goal.loop-made-preserved
 loop-made-preserved g c first stands =
@@ -25,7 +25,7 @@ loop-made-preserved g c first stands =
     c.loop-made.generator c.set_answerer-set.new.generator c.next_step.new.generator c.loop-made.number c.tell_set.new.number
     c.tell_step.new.number (g.T.CallWriter.written c.args.writer.now) (g.T.CallWriter.written c.loop-made.writer)
     (g.T.CallWriter.written c.write_sent.new.writer) c.set_answerer-set.result c.in-Some.step (c.loop-made.invariant first stands)
-    c.set_answerer-set.ensures c.in_ok-tell_set.ensures.whole c.in-Some.ensures c.if-step.false
+    c.set_answerer-set.ensures.set c.in_ok-tell_set.ensures.whole c.in-Some.ensures.draws c.if-step.false
     (record {
       mid = g.T.CallWriter.written c.tell_step.new.writer;
       lines = set_lines c.loop-made.number c.tell_set.new.number (g.T.CallWriter.written c.loop-made.writer)

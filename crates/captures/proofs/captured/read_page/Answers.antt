@@ -19,7 +19,7 @@ returns-in-Ok-Page-clause-found c =
 pub returns-in-Ok-Refused-clause-found : goal.returns-in-Ok-Refused-clause-found
 returns-in-Ok-Refused-clause-found c =
     let read : IsPageRefused c.args.params.coding c.pixels-width.result (bits_of LsbFirst c.args.octets.now) c.in-Ok-Refused.refused =
-    subst (λ (read : PageRead). IsRead c.args.params.coding c.pixels-width.result c.args.params.fine (bits_of LsbFirst c.args.octets.now)
-    read) c.in-Ok-Refused.field-0-is c.in-Ok-Refused.ensures in
+    (subst (λ (read : PageRead). IsRead c.args.params.coding c.pixels-width.result c.args.params.fine (bits_of LsbFirst c.args.octets.now)
+    read) c.in-Ok-Refused.field-0-is c.in-Ok-Refused.ensures).0 in
     page_not_found c.args.params c.args.mark c.args.octets.now c.in-Ok-Refused.refused.fault c.pixels-width.result c.pixels-width.ensures
     read.gives

@@ -6,24 +6,24 @@ use Rattle.page_code.specs.declared.page_reader.PageRead.{PageRead}
 use Rattle.page_files.proofs.DecodedPages.{refused_code}
 use Rattle.page_files.proofs.coded.read_code.Goals as goal
 
-pub returns-in-Ok-Page-clause-read : goal.returns-in-Ok-Page-clause-read
-returns-in-Ok-Page-clause-read c =
+pub returns-in-Page-clause-read : goal.returns-in-Page-clause-read
+returns-in-Page-clause-read c =
     let form = c.args.form in
     let bits = bits_of form.order c.args.octets.now in
-    subst (λ (read : PageRead). IsRead form.coding form.width form.fine bits read) c.in-Ok-Page.field-0-is c.in-Ok-Page.ensures
+    subst (λ (read : PageRead). IsRead form.coding form.width form.fine bits read) c.in-Page.is c.in_ok-page.ensures.read
 
-pub returns-in-Ok-Refused-clause-known : goal.returns-in-Ok-Refused-clause-known
-returns-in-Ok-Refused-clause-known c =
+pub returns-in-Refused-clause-known : goal.returns-in-Refused-clause-known
+returns-in-Refused-clause-known c =
     let form = c.args.form in
     let bits = bits_of form.order c.args.octets.now in
-    subst (λ (read : PageRead). IsRead form.coding form.width form.fine bits read) c.in-Ok-Refused.field-0-is c.in-Ok-Refused.ensures
+    (subst (λ (read : PageRead). IsRead form.coding form.width form.fine bits read) c.in-Refused.is c.in_ok-page.ensures.read).0
 
-pub returns-in-Ok-Refused-clause-refused : goal.returns-in-Ok-Refused-clause-refused
-returns-in-Ok-Refused-clause-refused c =
+pub returns-in-Refused-clause-refused : goal.returns-in-Refused-clause-refused
+returns-in-Refused-clause-refused c =
     let form = c.args.form in
     let bits = bits_of form.order c.args.octets.now in
-    let is : IsPageRefused form.coding form.width bits c.in-Ok-Refused.code =
-    subst (λ (read : PageRead). IsRead form.coding form.width form.fine bits read) c.in-Ok-Refused.field-0-is c.in-Ok-Refused.ensures in (
+    let is : IsPageRefused form.coding form.width bits c.in-Refused.code =
+    (subst (λ (read : PageRead). IsRead form.coding form.width form.fine bits read) c.in-Refused.is c.in_ok-page.ensures.read).0 in (
       c.from.ensures,
-      refused_code form.coding form.order form.width c.args.octets.now c.in-Ok-Refused.code is c.from.result c.from.ensures,
+      refused_code form.coding form.order form.width c.args.octets.now c.in-Refused.code is c.from.result c.from.ensures,
     )

@@ -23,7 +23,7 @@ pub returns-in-Ok-Refused-clause-page : goal.returns-in-Ok-Refused-clause-page
 returns-in-Ok-Refused-clause-page c =
     let read : IsPageRefused c.args.reader.now.coding c.args.reader.now.page.width (bits_of c.args.reader.now.order c.args.octets.now)
     c.in-Ok-Refused._refused =
-    subst (λ (read : PageRead). IsRead c.args.reader.now.coding c.args.reader.now.page.width c.args.reader.now.page.fine (bits_of
-    c.args.reader.now.order c.args.octets.now) read) c.in-Ok-Refused.field-0-is c.in-Ok-Refused.ensures.read in
+    (subst (λ (read : PageRead). IsRead c.args.reader.now.coding c.args.reader.now.page.width c.args.reader.now.page.fine (bits_of
+    c.args.reader.now.order c.args.octets.now) read) c.in-Ok-Refused.field-0-is c.in-Ok-Refused.ensures.read).0 in
     none_is_read c.args.params c.args.octets.now (c.in-Ok-Refused._refused.fault.place, c.in-Ok-Refused._refused.fault.kind)
     c.if-octets-gt-MAX_PAGE_OCTETS.false (rw (c.requires.coding, c.requires.order, c.requires.width) at read.gives)

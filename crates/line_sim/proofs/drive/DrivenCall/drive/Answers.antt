@@ -17,7 +17,7 @@ returns-in_default-clause-drives c p d shows is =
     let along = c.loop-made.invariant.along p d shows is in
     along_over p c.loop-made.self c.step.new.self (map plain_fate c.args.fates.now) d c.loop-made.made c.loop-made.at c.args.most along
     c.loop-made-test.true
-    (c.in_default.ensures p (drive c.loop-made.made p d) along.shows (ap first_fate along.left ∙ sym c.fate_at.ensures))
+    (c.in_default.ensures.steps p (drive c.loop-made.made p d) along.shows (ap first_fate along.left ∙ sym c.fate_at.ensures))
 
 pub returns-in_default-clause-ends : goal.returns-in_default-clause-ends
 returns-in_default-clause-ends c document wish caps p shows some =
@@ -26,7 +26,7 @@ returns-in_default-clause-ends c document wish caps p shows some =
     let made =
     along_over p c.loop-made.self c.step.new.self (map plain_fate c.args.fates.now) d c.loop-made.made c.loop-made.at c.args.most along
     c.loop-made-test.true
-    (c.in_default.ensures p (drive c.loop-made.made p d) along.shows (ap first_fate along.left ∙ sym c.fate_at.ensures)) in
+    (c.in_default.ensures.steps p (drive c.loop-made.made p d) along.shows (ap first_fate along.left ∙ sym c.fate_at.ensures)) in
     subst (λ n. Ends p c.args.most n document (drive c.args.most p d)) (sym made.1)
     (c.driven_calls_end.ensures.driven document wish caps p (map plain_fate c.args.fates.now) c.args.most some)
 
@@ -35,7 +35,7 @@ returns-then-step-clause-drives c p d shows is =
     let along = c.loop-made.invariant.along p d shows is in
     along_broken p c.loop-made.self c.step.new.self (map plain_fate c.args.fates.now) d c.loop-made.made c.loop-made.at c.args.most
     c.in-Some.step along c.loop-made-test.true
-    (c.in-Some.ensures p (drive c.loop-made.made p d) along.shows (ap first_fate along.left ∙ sym c.fate_at.ensures)) c.if-step.true
+    (c.in-Some.ensures.steps p (drive c.loop-made.made p d) along.shows (ap first_fate along.left ∙ sym c.fate_at.ensures)) c.if-step.true
 
 pub loop-made-preserved : goal.loop-made-preserved
 loop-made-preserved c =
@@ -44,7 +44,7 @@ loop-made-preserved c =
           let along = c.loop-made.invariant.along p d shows is in
           along_more p c.loop-made.self c.step.new.self (map plain_fate c.args.fates.now) d c.loop-made.made c.loop-made.at
           c.past-at.result c.is_fate_due-due.result c.in-Some.step along
-          (c.in-Some.ensures p (drive c.loop-made.made p d) along.shows (ap first_fate along.left ∙ sym c.fate_at.ensures))
+          (c.in-Some.ensures.steps p (drive c.loop-made.made p d) along.shows (ap first_fate along.left ∙ sym c.fate_at.ensures))
           c.if-step.false c.is_fate_due-due.ensures c.past-at.ensures;
       few = omega arith;
       near = past_near c.is_fate_due-due.result c.loop-made.at c.loop-made.made c.past-at.result
@@ -72,7 +72,7 @@ returns-in_default-clause-bears c document wish caps p shows can few long =
     let made =
     along_over p c.loop-made.self c.step.new.self (map plain_fate c.args.fates.now) d c.loop-made.made c.loop-made.at c.args.most along
     c.loop-made-test.true
-    (c.in_default.ensures p (drive c.loop-made.made p d) along.shows (ap first_fate along.left ∙ sym c.fate_at.ensures)) in (
+    (c.in_default.ensures.steps p (drive c.loop-made.made p d) along.shows (ap first_fate along.left ∙ sym c.fate_at.ensures)) in (
       (drive c.args.most p d).world,
       made.0.world,
       c.calls_bear.ensures.two document wish caps p (map plain_fate c.args.fates.now) c.args.most can few long,

@@ -3,19 +3,19 @@ use Rattle.line_sim.specs.Fates.{DrivenFields, ShowsDriven}
 use Rattle.line_sim.proofs.Fates.{act_made, few_dis_same, few_rnrs_same}
 use Rattle.line_sim.proofs.drive.DrivenCall.step.Goals as goal
 
-pub returns-in_default : goal.returns-in_default
-returns-in_default c p d shows is =
+pub returns-in_default-clause-steps : goal.returns-in_default-clause-steps
+returns-in_default-clause-steps c p d shows is =
     let stands = subst (λ v. ShowsDriven v p d) (sym c.self.view_is) shows in
     (c.in_default.ensures.next p d stands.world is (few_dis_same p _ d stands) (few_rnrs_same p _ d stands), refl)
 
-pub returns : goal.returns
-returns c p d shows is =
+pub returns-clause-steps : goal.returns-clause-steps
+returns-clause-steps c p d shows is =
     let old : DrivenFields =
     record { live = c.self.inside.live; patience = c.self.inside.patience; dis = c.self.inside.dis; rnrs = c.self.inside.rnrs } in
     let stands : ShowsDriven old p d = subst (λ v. ShowsDriven v p d) (sym c.self.view_is) shows in
     act_made c.in-Some.act.before p old c.event_if-before.new.self c.event-entry.new.self c.in-Some.act.event
     c.event_if-before.result c.event-entry.result c.dis_after-self-inside.result c.rnrs_after-self-inside.result d stands
-    (c.in-Some.ensures.next p d stands.world is (few_dis_same p old d stands) (few_rnrs_same p old d stands)) c.event_if-before.ensures
+    (c.in-Some.ensures.next p d stands.world is (few_dis_same p old d stands) (few_rnrs_same p old d stands)) c.event_if-before.ensures.acts
     c.event-entry.ensures.acts
     (record {
       waits = c.waits_for_dis-waits.result;

@@ -7,7 +7,7 @@ use Rattle.line_sim.proofs.world.World.new.Goals as goal
 pub invariant_of-result : goal.invariant_of-result
 invariant_of-result c =
     rw c.new-2.ensures.items (
-      reached_new c.args.document c.args.wish c.args.caps c.in_ok-call.call c.has_full_pages.ensures c.in_ok-call.ensures.1,
+      reached_new c.args.document c.args.wish c.args.caps c.in_ok-call.call c.has_full_pages.ensures (rw c.uncoded.ensures at c.in_ok-call.ensures.1),
       refl,
     )
 
@@ -20,4 +20,4 @@ returns-clause-begins c =
       c.headline.ensures.runs,
       c.headline.ensures.safe,
     )
-    c.args.document c.args.wish c.args.caps _ c.has_full_pages.ensures c.in_ok-call.ensures.1 c.new-2.ensures.items
+    c.args.document c.args.wish c.args.caps _ c.has_full_pages.ensures (rw c.uncoded.ensures at c.in_ok-call.ensures.1) c.new-2.ensures.items

@@ -1,9 +1,0 @@
--- What the check asks of `salvage_engine`.
-use Rattle.std.proofs.Common.{◌<◌, length}
-use Rattle.raster.specs.declared.page.Page.{Page}
-use Rattle.page_files.proofs.DecodedRows.{has_row, only_one}
-use Rattle.page_files.proofs.pages.salvage_engine.Goals as goal
-
-pub write_pbm-requires : goal.write_pbm-requires
-write_pbm-requires g c =
-    only_one (λ (page : Page). 0 < length page.rows) c.in-Ok.page (has_row c.args.form.coding _ _ _ _ c.in-Ok.ensures.reads.reads)
