@@ -187,8 +187,9 @@ unset LD_LIBRARY_PATH LD_BIND_NOW
 CC=${CC:-cc}
 # watches NAME FILE: readers.c over this g3fax.c, as a program
 watches() {
-    "$CC" -std=c11 -O1 -g -fsanitize=thread -DG3_VERSION='"tried"' -DG3_BUILT="$(sed -n 's/^#define G3_VERSION_NUMBER //p' "$work/g3fax.h")" \
-        -I "$work" "$top/bindings/tests/readers.c" "$2" "$work/libg3fax.a" -Wl,--wrap=malloc,--wrap=realloc,--wrap=free -o "$work/$1"
+    "$CC" -std=c11 -O1 -g -fsanitize=thread -DG3_VERSION='"tried"' \
+        -DG3_BUILT="$(sed -n 's/^#define G3_VERSION_NUMBER //p' "$work/g3fax.h")" -I "$work" \
+        "$top/bindings/tests/readers.c" "$2" "$work/libg3fax.a" -Wl,--wrap=malloc,--wrap=realloc,--wrap=free -o "$work/$1"
 }
 echo 'int main(void) { return 0; }' > "$work/empty.c"
 if "$CC" -fsanitize=thread "$work/empty.c" -o "$work/empty" 2> "$work/error" && "$work/empty" 2> "$work/error"; then

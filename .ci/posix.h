@@ -1,5 +1,5 @@
-/* What bindings/include lacks of the headers of C and POSIX that softfax on a pty wants, as the C library of x86-64 Linux has it. .ci/softfax.sh
- * has it included by each of those headers, where the kit's clang compiles. */
+/* What bindings/include lacks of the headers of C and POSIX that softfax on a pty wants, as the C library of x86-64 Linux has it.
+ * .ci/softfax.sh has it included by each of those headers, where the kit's clang compiles. */
 #ifndef KIT_POSIX_H
 #define KIT_POSIX_H
 #include <stddef.h>

@@ -157,7 +157,8 @@ static int try_gate(bench *it)
         calls += it->calls, well += it->well, broken += it->broken;
         if (it->way.ways.xoff && it->stops == 0) return fprintf(stderr, "bench: no XOFF has stopped a tty\n"), 0;
     }
-    printf("softfax: %u of %u calls on ptys over Class 1 modems of spandsp complete, with its own terminal each way and with ours\n", well, calls);
+    printf("softfax: %u of %u calls on ptys over Class 1 modems of spandsp complete, with its own terminal each way and with ours\n",
+        well, calls);
     return well == calls && broken == 0;
 }
 

@@ -1,7 +1,8 @@
-/* class1-test FOLDER [--tell]: calls of softfax on two ptys, over two Class 1 modems of t31.c and bits.c's line, so that class1.c and tty.c
- * are tested without libspandsp. Each kind of call is tried on each line, also with modems that have other ways. Then modems that fail:
- * each has to be named in words. Status 1: a call fails, a page is on disk that isn't the document's, a confirmed one is missing, XOFF stops
- * no tty, or an end doesn't hang up. --tell: what happens in each call, on standard error. FOLDER is for the pages, and empty. */
+/* class1-test FOLDER [--tell | --few]: calls of softfax on two ptys, over two Class 1 modems of t31.c and bits.c's line, so that class1.c
+ * and tty.c are tested without libspandsp. Each kind of call is tried on each line, also with modems that have other ways. Then modems
+ * that fail: each has to be named in words. Status 1: a call fails, a page is on disk that isn't the document's, a confirmed one is
+ * missing, XOFF stops no tty, or an end doesn't hang up. --tell: what happens in each call, on standard error; --few: three kinds of
+ * calls on a clean line, for valgrind. FOLDER is for the pages, and empty. */
 #include "on_pty.h"
 #include "stopped.h"
 #include <stdio.h>
@@ -45,18 +46,18 @@ static int try_call(
     if (caller_why != NULL && strcmp(caller_why, "normal") == 0) is_right = is_right && trial_went_well(kind, &came);
     is_right = is_right && (came.stops > 0) == caller_way->ways.xoff;
     if (!is_right || kind->tells != NULL) {
-        fprintf(stderr, "%s: modems %u coding %u pages %u seed %u: caller %s, answerer %s, confirmed %u, equal %u, wrong %u, %u s, %u XOFFs\n",
-            kind->line.name, kind->modems, kind->coding, kind->pages, (uint32_t)kind->seed, came.caller, came.answerer,
+        fprintf(stderr, "%s: modems %u coding %u pages %u seed %u: caller %s, answerer %s, confirmed %u, equal %u, wrong %u, %u s, "
+            "%u XOFFs\n", kind->line.name, kind->modems, kind->coding, kind->pages, (uint32_t)kind->seed, came.caller, came.answerer,
             (uint32_t)came.confirmed, came.equal, came.wrong, came.seconds, came.stops);
     }
     return is_right;
 }
 
-/* All kinds of calls on a line, by so many kinds of modems; returns whether all are right. */
-static int try_line(const line_kind *line, int ways, const paper *papers, const char *tells)
+/* So many kinds of calls on a line, by so many kinds of modems; returns whether all are right. */
+static int try_line(const line_kind *line, uint32_t kinds, int ways, const paper *papers, const char *tells)
 {
     int well = 0, count = 0;
-    for (uint32_t i = 0; i < 3 * 2 * 2; i++) {
+    for (uint32_t i = 0; i < kinds; i++) {
         for (int way = 0; way < ways; way++, count++) {
             behind_way through = {&soft_of_bits, WAYS[way]};
             trial kind = {.line = *line, .modems = 1 + i % 3, .coding = i / 3 % 2 ? G3_MMR : G3_MH, .pages = i / 6 % 2 ? 3 : 1, .limit = 2,
@@ -100,14 +101,16 @@ int main(int argc, char **argv)
 {
     static const uint32_t WIDTHS[MOST_PAGES] = {1728, 2432, 1728};
     const char *tells = argc > 2 && strcmp(argv[2], "--tell") == 0 ? "told" : NULL;
+    int is_few = argc > 2 && strcmp(argv[2], "--few") == 0;
+    uint32_t lines = is_few ? 1 : LINES_COUNT, kinds = is_few ? 3 : 3 * 2 * 2;
     paper papers[MOST_PAGES];
     int is_right = 1;
-    if (argc < 2) return fprintf(stderr, "usage: class1-test FOLDER [--tell]\n"), 2;
+    if (argc < 2) return fprintf(stderr, "usage: class1-test FOLDER [--tell | --few]\n"), 2;
     folder = argv[1];
     for (uint32_t i = 0; i < MOST_PAGES; i++) {
         if (!paper_new(&papers[i], WIDTHS[i], ROWS, i + 1)) return fprintf(stderr, "class1-test: no memory\n"), 1;
     }
-    for (uint32_t i = 0; i < LINES_COUNT; i++) is_right &= try_line(&LINES[i], i == 0 ? WAYS_COUNT : 1, papers, tells);
+    for (uint32_t i = 0; i < lines; i++) is_right &= try_line(&LINES[i], kinds, i == 0 ? WAYS_COUNT : 1, papers, tells);
     printf("softfax: %d of %d calls on ptys over Class 1 modems of plain bits complete\n", complete, calls);
     is_right &= stopped_try(begin_on_pty, tells) & try_faults(papers, tells);
     for (uint32_t i = 0; i < MOST_PAGES; i++) paper_free(&papers[i]);

@@ -1,5 +1,5 @@
-/* Our end of a call over a pty, for trials: call.c as softfax has it, with pages in files, on a tty that tty.c opens as a user's; and on its
- * other side a Class 1 modem of this process. All of it goes by the trial's clock. */
+/* Our end of a call over a pty, for trials: call.c as softfax has it, with pages in files, on a tty that tty.c opens as a user's; and on
+ * its other side a Class 1 modem of this process. All of it goes by the trial's clock. */
 #ifndef ON_PTY_H
 #define ON_PTY_H
 #include "behind.h"

@@ -231,7 +231,11 @@ exchange=
 echo "softfax: two processes carry a page over two ttys, and two signals end a call by DCN"
 
 if command -v valgrind > /dev/null; then
-    make -s -C "$here" LIB="$LIB" OUT="$OUT" memory-test
+    make -s -C "$here" LIB="$LIB" OUT="$OUT" memory-test class1-test
+    mkdir "$work/few"
+    valgrind -q --error-exitcode=99 --leak-check=full --track-fds=yes "$OUT/class1-test" "$work/few" --few > "$work/said" 2>&1 \
+        || { cat "$work/said" >&2; fails "valgrind of class1-test"; }
+    ! grep "Open file descriptor.*: /dev/p" "$work/said" || fails "a pty is left open"
     valgrind -q --error-exitcode=99 --leak-check=full "$OUT/memory-test" 100 30 > "$work/said" 2>&1 \
         || { cat "$work/said" >&2; fails "valgrind of memory-test"; }
     printf '#!/bin/sh\nexec valgrind -q --error-exitcode=99 --leak-check=full --track-fds=yes "%s" "$@"\n' "$OUT/softfax" > "$work/valgrind"
@@ -239,7 +243,7 @@ if command -v valgrind > /dev/null; then
     softfax=$work/valgrind
     joins 0 0 "$softfax" -- "$work/short.pbm" "$work/short.pbm" --wav "$work/valgrind.wav"
     ! grep "Open file descriptor.*: $work" "$work/caller" "$work/answerer" || fails "a descriptor is left open"
-    echo "softfax: valgrind finds nothing in a call over libspandsp's modems, nor where growths are refused"
+    echo "softfax: valgrind finds nothing in calls over libspandsp's modems and on ptys, nor where growths are refused"
 else
     echo "softfax: valgrind isn't installed"
 fi
