@@ -5,7 +5,7 @@ ghost use Rattle.faxtool.specs.Told.{line_words};
 
 use conversations::{Channel, Kind, LineRefused, MOST_OCTETS, read_line};
 use std::alloc::Global;
-use std::io::Read;
+use std::io::{BufRead, Read};
 use std::{fmt, io};
 
 /// A reader that keeps the line that was read last.
@@ -16,7 +16,7 @@ pub(crate) struct LastLine<R> {
     is_ended: bool,
 }
 
-impl<R: Read + Drop> LastLine<R> {
+impl<R: BufRead + Drop> LastLine<R> {
     pub(crate) fn new(alloc: Global, reader: R) -> LastLine<R> {
         LastLine {
             reader,
@@ -30,11 +30,16 @@ impl<R: Read + Drop> LastLine<R> {
         self.line.as_slice()
     }
 
-    fn keep(&mut self, octet: u8) {
+    // Drops the line before, if it has ended.
+    fn begin(&mut self) {
         if self.is_ended {
             self.line.clear();
             self.is_ended = false;
         }
+    }
+
+    fn keep(&mut self, octet: u8) {
+        self.begin();
         if octet == b'\n' {
             self.is_ended = true;
         } else if self.line.len() <= MOST_OCTETS {
@@ -43,13 +48,31 @@ impl<R: Read + Drop> LastLine<R> {
     }
 }
 
-impl<R: Read + Drop> Read for LastLine<R> {
+impl<R: BufRead + Drop> Read for LastLine<R> {
     fn read(&mut self, octets: &mut [u8]) -> io::Result<usize> {
         let count = self.reader.read(octets)?;
         for octet in octets.get(..count).unwrap_or(&[]) {
             self.keep(*octet);
         }
         Ok(count)
+    }
+}
+
+impl<R: BufRead + Drop> BufRead for LastLine<R> {
+    fn fill_buf(&mut self) -> io::Result<&[u8]> {
+        self.reader.fill_buf()
+    }
+
+    // What is taken at once has no LF.
+    fn consume(&mut self, amount: usize) {
+        self.begin();
+        let LastLine { reader, line, .. } = self;
+        if let Ok(octets) = reader.fill_buf() {
+            if line.len() <= MOST_OCTETS {
+                let _kept = line.extend_from_slice(octets.get(..amount).unwrap_or(&[]));
+            }
+        }
+        self.reader.consume(amount);
     }
 }
 
@@ -172,7 +195,7 @@ fn wrong_word(words: &mut Words<'_>) -> Wrong {
     let word = words.next_word();
     let receives = matches!(word, b"rx");
     match word {
-        b"quiet" | b"busy" | b"not-ready" | b"ready" | b"stop" | b"end" | b"rx" => {}
+        b"quiet" | b"busy" | b"not-ready" | b"ready" | b"missed" | b"stop" | b"end" | b"rx" => {}
         _ => return Wrong::Word,
     }
     words.skip(word);
