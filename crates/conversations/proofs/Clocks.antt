@@ -4,7 +4,7 @@ use Rattle.std.proofs.lemmas.Bool.{cases_Bool, leb-false, leb-true}
 use Rattle.std.specs.Prelude.{◌↔◌, Option, Some, None, cond, nat_le}
 use Rattle.conversations.specs.Clocks.{duration, first_of, is_past, longer_over, longer_runs_from, running_over, runs_from, wait_over}
 use Rattle.conversations.specs.Clocks.{CalmIsQuiet, CarriersHold, HasPassed, WaitsAreNamed, WaitsPass}
-use Rattle.conversations.specs.Clocks.{due, earlier, longer_due, running_due, wait_due}
+use Rattle.conversations.specs.Clocks.{due, earlier, longer_due, running_due}
 use Rattle.conversations.specs.declared.clock.Clock.{Clock}
 use Rattle.conversations.specs.declared.clock.Durations.{Durations}
 use Rattle.signals.specs.declared.signal.Side.{Side}

@@ -1,8 +1,8 @@
 -- What a station expects is what it hears.
-use Rattle.std.proofs.Common.{◌≡◌, ◌≢◌, ◌⊎◌, ◌∙◌, ℕ, Bool, true, false, refl, sym, ap, inl, inr}
+use Rattle.std.proofs.Common.{◌≡◌, ◌≢◌, ◌∙◌, ℕ, Bool, true, false, refl, sym, ap, inl, inr}
 use Rattle.std.proofs.lemmas.Bool.{eqb-true, eq-eqb}
-use Rattle.std.specs.Prelude.{◌↔◌, Option, Some, None, cond, nat_eq}
-use Rattle.conversations.specs.Hearing.{ExpectsWhatIsHeard, IsExpected, expected_first, expected_then, heard_as, place_of, same_speed}
+use Rattle.std.specs.Prelude.{◌↔◌, Some, None, cond, nat_eq}
+use Rattle.conversations.specs.Hearing.{ExpectsWhatIsHeard, IsExpected, heard_as, place_of, same_speed}
 use Rattle.conversations.specs.declared.carrier.Channel.{Channel}
 use Rattle.conversations.specs.declared.carrier.Channel.TheVariants.{V21 as ByV21, Message}
 use Rattle.conversations.specs.declared.carrier.Kind.{Kind}

@@ -6,6 +6,7 @@ pub mod Led
 mod LineOctets
 mod ServedLines
 pub mod OneLine
+pub mod Refusals
 pub mod Stored
 pub mod StoredLines
 pub mod TakenLines

@@ -7,7 +7,9 @@ use Rattle.conversations.proofs.ServedLines.{AreAmong, Serves, all_read_among, b
 use Rattle.conversations.proofs.ServedLines.{serves_more, step_serves, taken_serves}
 use Rattle.conversations.specs.Answering.{StoreStep, StoresEach, limited_behaviour, pages_of}
 use Rattle.conversations.specs.Conversations.{ConversationFields, Gives, PlainGiven, SendsIfBegun, TakesLine, gives, heard_given, line_gives}
-use Rattle.conversations.specs.Conversations.{missed_given}
+use Rattle.conversations.specs.Conversations.{missed_given, refused_so, stopped_for}
+use Rattle.conversations.specs.Refusing.{refusal_in}
+use Rattle.conversations.specs.declared.refusing.Refusal.{Refusal}
 use Rattle.conversations.specs.Conversations.{over_given, nothing, stopping, losing, frames, input}
 use Rattle.conversations.specs.Conversing.{AnswersAll, AnswersNext, TalkState}
 use Rattle.conversations.specs.Lines.{Says}
@@ -230,16 +232,32 @@ record HeardLine (caps : Caps) (params : Params) (line octets : List ℕ) (new :
   of_it : AreOfLine line here
   stands : Stands caps params new (octets ++ here)
 
+-- a call that is stopped since a DCS was refused has heard the same, and its answerer has come to the same
+stopped_stands : (caps : Caps) (params : Params) (c : ConversationFields LimitedFields) (octets : List ℕ) (why : Option Refusal) →
+    Stands caps params c.terminal octets → Stands caps params (stopped_for limited_behaviour why c).terminal octets
+stopped_stands caps params c octets None h = h
+stopped_stands caps params c octets (Some why) h = record {
+  heard = h.heard;
+  serves =
+      cut_serves caps params c.terminal.speaking.station
+      (stopped_for limited_behaviour (Some why) c).terminal.speaking.station octets StopCut h.serves
+      (spoken_by c.terminal.speaking (limited_cut_off StopCut c.terminal.speaking.station)
+      (limited_stop_says c.terminal.speaking.station));
+}
+
 heard_line : CutsChangeNothing → (caps : Caps) (params : Params) (line octets : List ℕ) (timed : TimedLine)
     (old new : ConversationFields LimitedFields) → Stands caps params old.terminal octets → Says line timed →
-    TakesLine LimitedFields limited_behaviour old timed new → HeardLine caps params line octets new.terminal
+    TakesLine LimitedFields limited_behaviour old timed new →
+    HeardLine caps params line octets (refused_so limited_behaviour new).terminal
 heard_line cuts caps params line octets timed old new h says is =
     let g = gives limited_behaviour old is.shown timed in
     let of = gives_of old.begun limited_behaviour.side is.shown (clock_at old.clock timed.said timed.at) old.durations timed.said in
     record {
       here = octets_given g;
       of_it = of_line line timed (octets_given g) says of.octets;
-      stands = given_serves cuts caps params old.terminal new.terminal g is.brought octets of.none h is.given;
+      stands =
+          stopped_stands caps params new (octets ++ octets_given g) (refusal_in new.watch)
+          (given_serves cuts caps params old.terminal new.terminal g is.brought octets of.none h is.given);
     }
 
 -- after a line whose pages were all stored
@@ -262,9 +280,11 @@ stored_line cuts stored there limited {P} stores refuses caps params line octets
     record {
       here = l.here;
       of_it = l.of_it;
-      pages = pages_of a.heard;
+      pages = pages_of (refused_so limited_behaviour a.heard);
       stored = a.keeps_so.0;
-      read = pages_read stored there limited caps params a.heard.terminal.speaking.station (octets ++ l.here) l.stands.serves;
+      read =
+          pages_read stored there limited caps params (refused_so limited_behaviour a.heard).terminal.speaking.station (octets ++ l.here)
+          l.stands.serves;
       stands =
           stays_so caps params a.ready new.conversation (octets ++ l.here)
           (gives_all limited_behaviour.side _ a.ready new.conversation a.writes.bursts a.writes.gives)
@@ -272,7 +292,7 @@ stored_line cuts stored there limited {P} stores refuses caps params line octets
             heard = subst (λ (c : ConversationFields LimitedFields). HasHeard c.terminal.framing (octets ++ l.here)) (sym a.keeps_so.1)
                 l.stands.heard;
             serves =
-                taken_serves caps params a.heard.terminal.speaking.station a.ready.terminal.speaking.station (octets ++ l.here)
+                taken_serves caps params (refused_so limited_behaviour a.heard).terminal.speaking.station a.ready.terminal.speaking.station (octets ++ l.here)
                 l.stands.serves (ap (λ (c : ConversationFields LimitedFields). c.terminal.speaking.station) a.keeps_so.1);
           });
     }
@@ -407,7 +427,7 @@ refused_is_last cuts stored there limited stores refuses caps lines old mid new 
             (all_read_among caps (signals_in a.here) (signals_in (a.here ++ l.here)) a.pages (before_more cuts a.here l.here) a.read)
             (each_front (IsReadOf caps (signals_in (a.here ++ l.here))) some.0 (some.1 ∷ some.2)
             (subst (λ (ps : List PagePixels). Each (IsReadOf caps (signals_in (a.here ++ l.here))) ps) some.4
-            (pages_read stored there limited caps is.params w.heard.terminal.speaking.station (a.here ++ l.here) l.stands.serves)));
+            (pages_read stored there limited caps is.params (refused_so limited_behaviour w.heard).terminal.speaking.station (a.here ++ l.here) l.stands.serves)));
       },
       some.6,
     )

@@ -1,8 +1,9 @@
 -- A line that was taken, from what each step of the code leaves.
-use Rattle.std.proofs.Common.{◌≡◌, ◌≤◌, ◌∙◌, Bool, true, ap, refl, subst}
-use Rattle.std.specs.Prelude.{cond}
+use Rattle.std.proofs.Common.{◌≡◌, ◌∙◌, Bool, true, ap, refl, subst}
+use Rattle.std.specs.Prelude.{Option, cond}
 use Rattle.conversations.specs.Clocks.{asked_since, clock_at, heard_now}
 use Rattle.conversations.specs.Conversations.{Behaviour, ConversationFields, Gives, IsInTime, PlainGiven, TakesLine, begins, line_gives}
+use Rattle.conversations.specs.Refusing.{WatchFields, Watches, v21_octets}
 use Rattle.conversations.specs.declared.clock.Clock.{Clock}
 use Rattle.conversations.specs.declared.line.TimedLine.{TimedLine}
 use Rattle.signals.specs.declared.signal.Side.{Side}
@@ -11,14 +12,15 @@ use Rattle.terminals.specs.declared.stopping.Shown.{Shown}
 
 pub line_taken :
     {S : Type 0} (b : Behaviour S) (old : ConversationFields S) (line : TimedLine) (terminal : TerminalFields S) (clock heard asked : Clock)
-    (begun brought : Bool) (given : PlainGiven) (shown later : Shown) (side : Side) →
+    (begun brought : Bool) (given : PlainGiven) (shown later : Shown) (side : Side) (watch : Option WatchFields) →
     IsInTime old line → b.shows old.terminal.speaking.station shown → side ≡ b.side → clock ≡ clock_at old.clock line.said line.at →
     given ≡ line_gives old.begun side shown clock old.durations line.said → Gives b old.terminal given terminal brought →
     b.shows terminal.speaking.station later → heard ≡ heard_now brought clock → asked ≡ asked_since later.longer heard →
-    begun ≡ cond old.begun true (begins line.said line.at) →
-    TakesLine S b old line (record { terminal = terminal; clock = asked; durations = old.durations; begun = begun; says = old.says })
-line_taken b old line terminal clock heard asked begun brought given shown later side in_time shows side_is clock_is given_is gave
-    shows_later heard_is asked_is begun_is =
+    begun ≡ cond old.begun true (begins line.said line.at) → Watches old.watch (v21_octets old.begun line.said) watch →
+    TakesLine S b old line
+    (record { terminal = terminal; clock = asked; durations = old.durations; begun = begun; says = old.says; watch = watch })
+line_taken b old line terminal clock heard asked begun brought given shown later side watch in_time shows side_is clock_is given_is gave
+    shows_later heard_is asked_is begun_is watched =
     record {
       shown = shown;
       later = later;
@@ -36,4 +38,5 @@ line_taken b old line terminal clock heard asked begun brought given shown later
       begun = begun_is;
       durations = refl;
       says = refl;
+      watches = watched;
     }

@@ -1,6 +1,6 @@
 -- An answerer whose pages are stored before they are confirmed.
 use Rattle.std.specs.Prelude.{◌≡◌, ◌++◌, [], ◌∷◌, Bool, true, false, List}
-use Rattle.conversations.specs.Conversations.{Behaviour, ConversationFields, TakesLine, behaviour, hung_up_so, with_pages_taken}
+use Rattle.conversations.specs.Conversations.{Behaviour, ConversationFields, TakesLine, behaviour, hung_up_so, refused_so, with_pages_taken}
 use Rattle.conversations.specs.declared.line.TimedLine.{TimedLine}
 use Rattle.raster.specs.Pages.{PagePixels}
 use Rattle.signals.specs.declared.signal.Side.TheVariants.{Answerer}
@@ -39,14 +39,14 @@ StoresAll stores refuses old new before after true = StoresEach stores before (p
 StoresAll stores refuses old new before after false =
     StoresSome stores refuses before (pages_of old) after × (new ≡ hung_up_so limited_cut_off (with_pages_taken old))
 
--- A line is taken. Then, before anything is said, each page that was accepted is stored, and all were; or the first one that is refused
+-- A line is taken, and the call is stopped if a second DCS wasn't allowed. Then, before anything is said, each page that was accepted is stored, and all were; or the first one that is refused
 -- makes the station hang up.
 abbrev pub AnswersLine :
     {P : Type 0} → StoreStep P → StoreStep P → ConversationFields LimitedFields → TimedLine → ConversationFields LimitedFields → P → P →
     Bool → Type 0
 AnswersLine stores refuses old line new before after all =
     (mid : ConversationFields LimitedFields) × TakesLine LimitedFields limited_behaviour old line mid ×
-    StoresAll stores refuses mid new before after all
+    StoresAll stores refuses (refused_so limited_behaviour mid) new before after all
 
 -- The law: after a line no page is left in the answerer; each is in the store or was refused.
 abbrev pub NoneAreLeft : Type 0

@@ -2,6 +2,7 @@
 use Rattle.std.specs.Prelude.{ℕ, ◌≡◌, ◌⊎◌, ◌<◌, ◌≤◌, ◌+◌, ◌++◌, [], ◌∷◌, Bool, true, false, cond, max, nat_le, nat_lt, List, Option, Some, None, Result, Ok, Err}
 use Rattle.conversations.specs.Clocks.{after_burst, asked_since, clock_at, heard_now, new_clock, wait_over}
 use Rattle.conversations.specs.Hearing.{heard_as}
+use Rattle.conversations.specs.Refusing.{WatchFields, Watches, refusal_in, v21_octets}
 use Rattle.conversations.specs.declared.clock.Clock.{Clock}
 use Rattle.conversations.specs.declared.clock.Durations.{Durations}
 use Rattle.conversations.specs.declared.conversation.TakeFault.{TakeFault}
@@ -15,6 +16,7 @@ use Rattle.conversations.specs.declared.hearing.Heard.TheVariants.{Frames, Check
 use Rattle.conversations.specs.declared.line.Said.{Said}
 use Rattle.conversations.specs.declared.line.Said.TheVariants.{Quiet, Busy, Received, NotReady, Ready, Missed, Stop, End}
 use Rattle.conversations.specs.declared.line.TimedLine.{TimedLine}
+use Rattle.conversations.specs.declared.refusing.Refusal.{Refusal}
 use Rattle.conversations.specs.declared.writing.Says.{Says}
 use Rattle.signals.specs.declared.signal.Side.{Side}
 use Rattle.stations.specs.declared.listening.Listening.{Listening}
@@ -137,13 +139,15 @@ LosesFrames b old given new = ⊥
 abbrev pub IsRefused : {S : Type 0} → Behaviour S → TerminalFields S → PlainGiven → TerminalFields S → Type 0
 IsRefused b old given new = (new ≡ old) ⊎ LosesFrames b old given new
 
--- a conversation: its terminal, its clock, how long its waits run, if it has begun, and what it says beside its bursts
+-- a conversation: its terminal, its clock, how long its waits run, if it has begun, what it says beside its bursts, and what is watched for
+-- DCSs that aren't allowed, if anything is
 pub record ConversationFields (S : Type 0) : Type 0 where
   pub terminal : TerminalFields S
   pub clock : Clock
   pub durations : Durations
   pub begun : Bool
   pub says : Says
+  pub watch : Option WatchFields
 
 -- nothing is said beside bursts and a word
 abbrev pub says_least : Says
@@ -152,7 +156,7 @@ says_least = record { hears = false; waits = false }
 -- a new conversation of a station, at time 0
 abbrev pub IsNew : {S : Type 0} → TerminalFields S → Durations → Bool → ConversationFields S → Type 0
 IsNew terminal durations begun new =
-    new ≡ record { terminal = terminal; clock = new_clock; durations = durations; begun = begun; says = says_least }
+    new ≡ record { terminal = terminal; clock = new_clock; durations = durations; begun = begun; says = says_least; watch = None }
 
 -- How much later than the line before it a line can be, in milliseconds. A line that was quiet and is quiet is said so again before T1 is
 -- over, or 35 s if that is more: a clock that jumps further has stood still, or tells the time of day. A carrier in between may be a block
@@ -188,15 +192,16 @@ pub record TakesLine (S : Type 0) (b : Behaviour S) (old : ConversationFields S)
   pub begun : new.begun ≡ cond old.begun true (begins line.said line.at)
   pub durations : new.durations ≡ old.durations
   pub says : new.says ≡ old.says
+  pub watches : Watches old.watch (v21_octets old.begun line.said) new.watch
 
--- memory was refused at a line: all but the terminal is as it was
+-- memory was refused at a line: all but the terminal and what is watched is as it was
 pub record RefusesLine (S : Type 0) (b : Behaviour S) (old : ConversationFields S) (line : TimedLine) (new : ConversationFields S) :
     Type 0 where
   pub shown : Shown
   pub in_time : IsInTime old line
   pub shows : b.shows old.terminal.speaking.station shown
   pub given : IsRefused b old.terminal (gives b old shown line) new.terminal
-  pub rest : new ≡ record old { terminal = new.terminal }
+  pub rest : new ≡ record old { terminal = new.terminal; watch = new.watch }
 
 -- a line was taken; or its time can't follow that of the line before it, and nothing has changed; or memory was refused
 abbrev pub TakesOrRefuses :
@@ -227,3 +232,16 @@ with_pages_taken old = record old { terminal = record old.terminal { speaking = 
 abbrev pub hung_up_so : {S : Type 0} → (Cut → S → S) → ConversationFields S → ConversationFields S
 hung_up_so cut_off old =
     record old { terminal = record old.terminal { speaking = hung_up cut_off old.terminal.speaking }; begun = true }
+
+-- a conversation whose call is stopped, as at a line `stop`
+abbrev pub stopped_so : {S : Type 0} → Behaviour S → ConversationFields S → ConversationFields S
+stopped_so b old = record old { terminal = record old.terminal { speaking = stopped b.cut_off b.stop_says old.terminal.speaking } }
+
+-- a conversation whose call is stopped for a reason, if there is one
+abbrev pub stopped_for : {S : Type 0} → Behaviour S → Option Refusal → ConversationFields S → ConversationFields S
+stopped_for b None old = old
+stopped_for b (Some why) old = stopped_so b old
+
+-- a conversation whose call is stopped if a second DCS wasn't allowed
+abbrev pub refused_so : {S : Type 0} → Behaviour S → ConversationFields S → ConversationFields S
+refused_so b old = stopped_for b (refusal_in old.watch) old

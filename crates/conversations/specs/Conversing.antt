@@ -1,5 +1,5 @@
 -- A whole conversation: the lines of a reader, answered one after the other.
-use Rattle.std.specs.Prelude.{ℕ, ◌≡◌, ◌⊎◌, ◌<◌, ◌+◌, ◌∷◌, [], ⊤, Bool, true, false, List, Option, length}
+use Rattle.std.specs.Prelude.{ℕ, ◌≡◌, ◌⊎◌, ◌+◌, ◌∷◌, [], ⊤, Bool, true, false, List, Option, length}
 use Rattle.std.specs.Io.KnownBytes.{Consumes, IsAtEnd}
 use Rattle.conversations.specs.Conversations.{Behaviour, ConversationFields, IsOutOfTime, TakesLine}
 use Rattle.conversations.specs.Lines.{Says, SaysNothing}

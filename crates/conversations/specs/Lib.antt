@@ -7,6 +7,8 @@ pub mod Led
 pub mod LineLaws
 pub mod Lines
 pub mod Reading
+pub mod Refusing
+pub mod RefusingLaws
 pub mod StoredLines
 pub mod Talking
 pub mod Writing

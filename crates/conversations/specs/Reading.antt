@@ -8,6 +8,14 @@ use Rattle.conversations.specs.declared.reading.ReadFault.TheVariants.{NoMemory,
 abbrev pub HasNoFeed : List ℕ → Type 0
 HasNoFeed octets = (k : ℕ) → k < length octets → slice_index octets k ≢ 10
 
+-- octets without an LF were taken, and come after what there is of a line, which has at most 400,000 octets then if it had before
+pub record TakesPlain (old new : Option (List ℕ)) (line longer : List ℕ) : Type 0 where
+  pub piece : List ℕ
+  pub one : HasNoFeed piece
+  pub joined : longer ≡ line ++ piece
+  pub most : length line ≤ 400000 → length longer ≤ 400000
+  pub taken : Consumes old new piece
+
 -- a line of at most 400,000 octets was taken with its LF, or as the last one, which isn't empty, without
 pub record TakesLine (old new : Option (List ℕ)) (line : List ℕ) : Type 0 where
   pub one : HasNoFeed line

@@ -1,7 +1,7 @@
 -- The answer to a line: what the station makes of it, and the lines that are written.
-use Rattle.std.specs.Prelude.{ℕ, ◌≡◌, ◌<◌, ◌++◌, ◌∷◌, [], ◌↔◌, ⊤, Bool, IsTrue, IsSome, List, Option, Some, None, Ok, flat_map}
+use Rattle.std.specs.Prelude.{ℕ, ◌≡◌, ◌++◌, ◌∷◌, [], ◌↔◌, ⊤, Bool, IsTrue, IsSome, List, Option, Some, None, Ok, flat_map}
 use Rattle.std.specs.Io.KnownBytes.{Appends}
-use Rattle.conversations.specs.Conversations.{Behaviour, ConversationFields, IsOutOfTime, SendsIfBegun, TakesLine}
+use Rattle.conversations.specs.Conversations.{Behaviour, ConversationFields, IsOutOfTime, SendsIfBegun, TakesLine, refused_so}
 use Rattle.conversations.specs.Clocks.{next_quiet}
 use Rattle.conversations.specs.Lines.{Says, SaysNothing}
 use Rattle.conversations.specs.Writing.{on_lines, rest_lines, tx_line}
@@ -47,8 +47,8 @@ pub record WritesTurn (S : Type 0) (side : Side) (lends : BurstsOf S) (shows : S
 abbrev pub KeepsOf : Type 0 → Type 0 → Type 1
 KeepsOf S K = K → ConversationFields S → K → ConversationFields S → Bool → Type 0
 
--- A line is answered: it is taken, what it brought is kept, and only then is the answer written: the line of each burst that is left, and
--- the word.
+-- A line is answered: it is taken, the call is stopped if a second DCS wasn't allowed, what it brought is kept, and only then is the answer
+-- written: the line of each burst that is left, and the word.
 pub record Answers (S K : Type 0) (b : Behaviour S) (keeps : KeepsOf S K) (lends : BurstsOf S) (line : List ℕ)
     (old new : ConversationFields S) (keeper kept_in : K) (before after : Option (List ℕ)) (kept over : Bool) : Type 0 where
   pub timed : TimedLine
@@ -56,7 +56,7 @@ pub record Answers (S K : Type 0) (b : Behaviour S) (keeps : KeepsOf S K) (lends
   pub ready : ConversationFields S
   pub says : Says line timed
   pub takes : TakesLine S b old timed heard
-  pub keeps_so : keeps keeper heard kept_in ready kept
+  pub keeps_so : keeps keeper (refused_so b heard) kept_in ready kept
   pub writes : WritesTurn S b.side lends b.shows ready new before after over
 
 -- octets that aren't answered: they are no line of a station, or their time can't follow

@@ -1,17 +1,23 @@
 //! The conversation of a station as a process: lines that are taken, and bursts that are given.
 
 ghost use Rattle.conversations.specs.Conversations.{IsInTime, IsNew, IsOutOfTime, SendsIfBegun, TakesOrRefuses, behaviour, with_pages_taken, hung_up_so};
+ghost use Rattle.conversations.specs.Conversations.{refused_so};
+ghost use Rattle.conversations.specs.Refusing.{WatchFields, refusal_in};
+ghost use Rattle.conversations.specs.declared.refusing.Refused.TheVariants.{Never};
+ghost use Rattle.hdlc.specs.DeframerState.{IsAfter};
 ghost use Rattle.conversations.specs.Clocks.{next_quiet};
-ghost use Rattle.std.specs.Prelude.{◌≡◌, ◌↔◌, IsTrue, IsSome, true, false};
+ghost use Rattle.std.specs.Prelude.{◌≡◌, ◌↔◌, [], IsTrue, IsSome, Some, true, false};
 ghost use Rattle.terminals.specs.declared.stopping.Shown.{Shown as AnyShown};
 
 use crate::clock::{Clock, Durations};
 use crate::giving::{give, has_begun, line_gives, most_step};
 use crate::line::TimedLine;
+use crate::refusing::{Refusal, Watch, refusal_in, v21_octets, watch_octets};
 use crate::writing::Says;
 use raster::Page;
+use signals::Caps;
 use stations::{CallEnd, LimitedAnswerer, StoppableCaller};
-use std::alloc::AllocError;
+use std::alloc::{AllocError, Global};
 use std::marker::Model;
 use terminals::{SentBurst, Shown, Station, Stoppable, Terminal};
 use thiserror::Error;
@@ -46,6 +52,7 @@ pub struct Conversation<S: Stoppable> {
     durations: Durations,
     begun: bool,
     says: Says,
+    watch: Option<Watch>,
 }
 
 impl<S: Stoppable> Model for Conversation<S> {
@@ -53,7 +60,14 @@ impl<S: Stoppable> Model for Conversation<S> {
 
     ghost Value = { ConversationFields S };
 
-    ghost view = { λ c. record { terminal = c.terminal; clock = c.clock; durations = c.durations; begun = c.begun; says = c.says } };
+    ghost view = { λ c. record {
+      terminal = c.terminal;
+      clock = c.clock;
+      durations = c.durations;
+      begun = c.begun;
+      says = c.says;
+      watch = c.watch;
+    } };
 }
 
 impl Conversation<StoppableCaller> {
@@ -70,6 +84,7 @@ impl Conversation<StoppableCaller> {
             durations,
             begun: true,
             says: Says::LEAST,
+            watch: None,
         }
     }
 }
@@ -89,7 +104,19 @@ impl Conversation<LimitedAnswerer> {
             durations,
             begun: false,
             says: Says::LEAST,
+            watch: None,
         }
+    }
+
+    /// The conversation, whose call is stopped at the second DCS from now on that an answerer with these capabilities doesn't allow. Takes no
+    /// memory.
+    pub fn refusing(self, alloc: Global, caps: Caps) -> Conversation<LimitedAnswerer>
+        ensures { (watch : WatchFields) × (watch.caps ≡ caps) × IsAfter watch.ear [] 0 × (watch.refused ≡ Never)
+            × (result ≡ record self { watch = Some watch }) }
+    {
+        let mut conversation = self;
+        conversation.watch = Some(Watch::new(alloc, caps));
+        conversation
     }
 
     /// Takes the pages stored so far out of the answerer, and returns them in the order in which they came. The answerer stays as busy as
@@ -131,6 +158,7 @@ impl<S: Stoppable> Conversation<S> {
             self.durations,
             &line.said,
         );
+        watch_octets(&mut self.watch, v21_octets(self.begun, &line.said))?;
         let brought = give(&mut self.terminal, given)?;
         self.clock = clock.heard(brought).asked(self.terminal.shown().longer);
         self.begun = has_begun(self.begun, &line.said, line.at);
@@ -159,6 +187,22 @@ impl<S: Stoppable> Conversation<S> {
     {
         self.terminal.hang_up();
         self.begun = true;
+    }
+
+    /// Stops the call, as a line `stop` does, if a second DCS wasn't allowed.
+    pub fn refuse(&mut self)
+        ensures { self.new ≡ refused_so (behaviour S.sends S.steps S.shows S.cut_off S.stop_says) self.old }
+    {
+        if self.refusal().is_some() {
+            self.terminal.stop();
+        }
+    }
+
+    /// Returns why a second DCS wasn't allowed; None if there was none, or if nothing is refused.
+    pub fn refusal(&self) -> Option<Refusal>
+        ensures { result ≡ refusal_in self.now.watch }
+    {
+        refusal_in(&self.watch)
     }
 
     /// True if the station hears what is on the line: a caller from the first line on, an answerer once it has begun.

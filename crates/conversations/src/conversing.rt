@@ -9,7 +9,7 @@ use crate::line::{Said, TimedLine};
 use crate::reading::{ReadFault, next_line};
 use crate::talking::{AnswerFault, Follower, Keeper, answer};
 use std::alloc::{AllocError, Global};
-use std::io::{ErrorKind, Read, Write};
+use std::io::{BufRead, ErrorKind, Write};
 use terminals::Stoppable;
 
 /// How a conversation ended.
@@ -72,7 +72,7 @@ fn lose<S: Stoppable>(conversation: &mut Conversation<S>) -> Result<(), AllocErr
 /// that, the station's line is lost at the time of the last one; if something that a line brought can't be kept, the conversation ends
 /// after the answer to that line. Errs with `Line` at the first line that is too long, isn't a line of a station, or whose time can't follow;
 /// with `NoMemory`; and with `Reader`, `Writer` or `Follower` if one of these fails. Holds one line at a time.
-pub fn converse<S: Stoppable, R: Read, K: Keeper<S>, W: Write, F: Follower>(
+pub fn converse<S: Stoppable, R: BufRead, K: Keeper<S>, W: Write, F: Follower>(
     alloc: Global,
     reader: &mut R,
     conversation: &mut Conversation<S>,

@@ -9,6 +9,7 @@ ghost use Rattle.conversations.specs.StoredLines.{LastIsSaid, RefusedIsLast, Sto
 use crate::answering::PageStore;
 
 pub mod lines;
+pub mod refusing;
 
 /// A wait is over only if the station shows it and its duration has passed since the time that it runs from.
 pub fn waits_pass()

@@ -11,6 +11,7 @@ mod hearing;
 pub mod laws;
 mod line;
 mod reading;
+mod refusing;
 mod talking;
 mod writing;
 
@@ -21,5 +22,6 @@ pub use crate::conversation::{Conversation, TakeFault};
 pub use crate::conversing::{ConverseFault, Ending, converse};
 pub use crate::hearing::{Expected, Heard, expected_first, expected_then, heard_as};
 pub use crate::line::{LineRefused, MOST_OCTETS, Said, TimedLine, read_line};
+pub use crate::refusing::{Refusal, Refused, refusal_of};
 pub use crate::talking::{AnswerFault, Answered, Follower, Keeper, answer};
 pub use crate::writing::Says;

@@ -116,7 +116,7 @@ pub fn write_turn<S: Stoppable, W: Write, F: Follower>(
     Err(AnswerFault::NoMemory)
 }
 
-/// Answers a line, which comes without its LF: takes it, keeps what it brought, and only then writes the bursts of the turn and a word. If
+/// Answers a line, which comes without its LF: takes it, stops the call if a second DCS wasn't allowed, keeps what it brought, and only then writes the bursts of the turn and a word. If
 /// something can't be kept, the answer is what the conversation says after that. Errs with `NoLine`, or with `OutOfTime` if the time can't
 /// follow: nothing has changed. Errs with `NoMemory`, `Writer` or `Follower`.
 pub fn answer<S: Stoppable, K: Keeper<S>, W: Write, F: Follower>(
@@ -150,6 +150,7 @@ pub fn answer<S: Stoppable, K: Keeper<S>, W: Write, F: Follower>(
         Err(TakeFault::OutOfTime) => return Err(AnswerFault::OutOfTime),
         Err(TakeFault::NoMemory) => return Err(AnswerFault::NoMemory),
     }
+    conversation.refuse();
     let unkept = keeper.keep(conversation);
     let over = write_turn(alloc, conversation, timed.at, writer, follower)?;
     Ok(Answered { over, unkept })

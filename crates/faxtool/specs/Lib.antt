@@ -2,7 +2,6 @@
 pub mod Apart
 pub mod Bounds
 pub mod Jobs
-pub mod NoLines
 pub mod Table
 pub mod Folders
 pub mod Told

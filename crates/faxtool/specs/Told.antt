@@ -1,12 +1,9 @@
 -- What a fault is in words, with what the program alone knows of it, and what is wrong with a line of a station.
-use Rattle.std.specs.Prelude.{ℕ, ◌≡◌, ◌++◌, ◌∷◌, ◌+◌, ◌-◌, ◌^◌, length, min, Bool, true, false, if◌then◌else◌, nat_eq, List, Option, Some, None, codes, option_map, unwrap_or}
+use Rattle.std.specs.Prelude.{ℕ, ◌++◌, Bool, true, false, if◌then◌else◌, nat_eq, List, Option, Some, None, codes, option_map, unwrap_or}
 use Rattle.std.specs.Str.{bytes_eq}
 use Rattle.std.specs.declared.io.ErrorKind.{ErrorKind}
 use Rattle.faults.specs.declared.fault.ToolFault.{ToolFault}
 use Rattle.faults.specs.declared.fault.ToolFault.TheVariants.{AtBit, AtLine, No}
-use Rattle.raster.specs.Pages.{PagePixels}
-use Rattle.signals.specs.Agreement.{width_of_pixels}
-use Rattle.stations.specs.CallerFields.{AreCallable}
 use Rattle.faxtool.specs.declared.commands.Names.{Names}
 use Rattle.faxtool.specs.declared.context.Part.{Part}
 use Rattle.faxtool.specs.declared.context.Part.TheVariants.{Answerer, Bits, Diagram, Input, Output, Printed, Script, Trace}
@@ -22,9 +19,9 @@ use Rattle.faxtool.specs.declared.commands.station.no_line.Wrong.TheVariants as 
 -- reading was given up, if one was, for `NoMemory` (9); and the input for any other fault, or where no file is known.
 abbrev pub part_of : ToolFault → Option (Part × ErrorKind) → Option Part → Part
 part_of (AtLine line) failed unread = Script
-part_of (AtBit no place) failed unread = Input
-part_of (No no) failed unread = if nat_eq no 8 then unwrap_or (option_map (λ known. known.0) failed) Input
-    else if nat_eq no 9 then unwrap_or unread Input else Input
+part_of (AtBit number place) failed unread = Input
+part_of (No number) failed unread = if nat_eq number 8 then unwrap_or (option_map (λ known. known.0) failed) Input
+    else if nat_eq number 9 then unwrap_or unread Input else Input
 
 -- a file's name, or that of the input
 abbrev pub name_or : {A : Type 0} → (A → List ℕ) → Option A → List ℕ → List ℕ
@@ -53,14 +50,6 @@ is_output part = false
 abbrev pub name_shown : List ℕ → Part → List ℕ
 name_shown name part = if bytes_eq name (codes "-") then (if is_output part then codes "standard output" else codes "standard input")
     else name
-
--- The first of these pages, which so many come before, that a call can't carry; none if it can carry all.
-abbrev pub IsFirstNotCallable : ℕ → List PagePixels → Option Cause → Type 0
-IsFirstNotCallable before pages (Some (NotCallable page width)) = (front : List PagePixels) × (bad : PagePixels) × (rest : List PagePixels)
-    × (pages ≡ front ++ (bad ∷ rest)) × AreCallable front × (width_of_pixels bad.width ≡ None) × (width ≡ bad.width)
-    × (page ≡ min (before + length front + 1) (2 ^ 64 - 1))
-IsFirstNotCallable before pages None = AreCallable pages
-IsFirstNotCallable before pages cause = ⊥
 
 -- the words of a fault with this cause
 abbrev pub told : Explained → Option Cause → List ℕ

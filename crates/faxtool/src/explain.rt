@@ -1,7 +1,6 @@
 //! How a fault is shown: a line, and one of words where they are asked for.
 
 ghost use Rattle.faxtool.specs.declared.args.words.Outcome.TheVariants.{Fault};
-ghost use Rattle.faxtool.specs.Told.{IsFirstNotCallable};
 ghost use Rattle.raster.specs.Pixels.{IsWidth};
 ghost use Rattle.faults.specs.Faults.{IsOutside};
 ghost use Rattle.std.specs.Prelude.{◌≡◌, IfErr, IfSome};
@@ -259,9 +258,7 @@ fn width_not_callable(rt: &HostRuntime, images: &[u8]) -> Option<Cause> {
 }
 
 /// Returns the first of these pages that a call can't carry; so many pages are before them.
-pub(crate) fn first_not_callable(pages: &[Page], before: usize) -> Option<Cause>
-    ensures { IsFirstNotCallable before pages.now result }
-{
+pub(crate) fn first_not_callable(pages: &[Page], before: usize) -> Option<Cause> {
     for (at, page) in pages.iter().enumerate() {
         let width = page.width();
         if PageWidth::of_pixels(width).is_none() {

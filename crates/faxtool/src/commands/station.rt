@@ -37,7 +37,7 @@ use signals::{Caps, Wish};
 use stations::{CallEnd, Caller, CallerFault, LimitedAnswerer, Limits, StoppableCaller, Turn};
 use std::alloc::{AllocError, Global};
 use std::io;
-use std::io::{BufReader, BufWriter, ErrorKind, Read, Write};
+use std::io::{BufRead, BufReader, BufWriter, ErrorKind, Write};
 use terminals::{Stoppable, Terminal};
 
 /// How many octets of standard input are read at a time.
@@ -145,7 +145,7 @@ fn outside(fault: ToolFault) -> ToolFault
 }
 
 /// Why the lines of a reader go no further. Why they can't be read is noted.
-fn halted_by<R: Read + Drop>(
+fn halted_by<R: BufRead + Drop>(
     context: &mut Context<'_>,
     fault: ConverseFault<ToolFault>,
     reader: &LastLine<R>,

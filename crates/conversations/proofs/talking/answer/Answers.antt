@@ -1,5 +1,6 @@
 -- What the check asks of `answer`.
-use Rattle.std.proofs.Common.{rules}
+use Rattle.std.proofs.Common.{rules, subst}
+use Rattle.std.specs.Prelude.{is_none}
 use Rattle.conversations.proofs.talking.answer.Goals as goal
 
 pub returns-clause-ok : goal.returns-clause-ok
@@ -9,6 +10,8 @@ returns-clause-ok g c = record {
   ready = c.keep-unkept.new.conversation;
   says = search rules;
   takes = search rules;
-  keeps_so = c.keep-unkept.ensures;
+  keeps_so =
+      subst (λ v. g.K.Keeper.keeps c.args.keeper.now v c.keep-unkept.new.self c.keep-unkept.new.conversation (is_none c.keep-unkept.result)) c.refuse.ensures
+      c.keep-unkept.ensures;
   writes = c.in_ok-over.ensures.ok;
 }

@@ -1,12 +1,11 @@
 //! Why a station doesn't answer a line, and at which column of it.
 
-ghost use Rattle.std.specs.Prelude.{◌≡◌, ◌≤◌, ◌+◌, ◌↔◌, IsTrue, [], false, length, max, min, IfOk, if◌then◌else◌, ◌-◌, ◌^◌};
-ghost use Rattle.faxtool.specs.NoLines.{AreDigits, IsNoLine, IsWrongAt, after_word, first_word, word_at};
+ghost use Rattle.std.specs.Prelude.{◌≡◌, ◌+◌, [], false, min, IfOk, if◌then◌else◌, ◌-◌, ◌^◌};
 ghost use Rattle.faxtool.specs.Told.{line_words};
 
 use conversations::{Channel, Kind, LineRefused, MOST_OCTETS, read_line};
 use std::alloc::Global;
-use std::io::Read;
+use std::io::{BufRead, Read};
 use std::{fmt, io};
 
 /// A reader that keeps the line that was read last.
@@ -18,7 +17,7 @@ pub(crate) struct LastLine<R> {
     ended: u64,
 }
 
-impl<R: Read + Drop> LastLine<R> {
+impl<R: BufRead + Drop> LastLine<R> {
     /// The reader, of which nothing was read.
     pub(crate) fn new(alloc: Global, reader: R) -> LastLine<R>
         ensures { (result.line.items ≡ []) × (result.is_ended ≡ false) × (result.ended ≡ 0) }
@@ -62,11 +61,16 @@ impl<R: Read + Drop> LastLine<R> {
         Ok(self.is_ended)
     }
 
-    fn keep(&mut self, octet: u8) {
+    // Drops the line before, if it has ended.
+    fn begin(&mut self) {
         if self.is_ended {
             self.line.clear();
             self.is_ended = false;
         }
+    }
+
+    fn keep(&mut self, octet: u8) {
+        self.begin();
         if octet == b'\n' {
             self.is_ended = true;
             self.ended = self.ended.saturating_add(1);
@@ -76,13 +80,32 @@ impl<R: Read + Drop> LastLine<R> {
     }
 }
 
-impl<R: Read + Drop> Read for LastLine<R> {
+impl<R: BufRead + Drop> Read for LastLine<R> {
     fn read(&mut self, octets: &mut [u8]) -> io::Result<usize> {
         let count = self.reader.read(octets)?;
         for octet in octets.get(..count).unwrap_or(&[]) {
             self.keep(*octet);
         }
         Ok(count)
+    }
+}
+
+impl<R: BufRead + Drop> BufRead for LastLine<R> {
+    // A line of which nothing could be taken was begun too.
+    fn fill_buf(&mut self) -> io::Result<&[u8]> {
+        self.begin();
+        self.reader.fill_buf()
+    }
+
+    // What is taken at once has no LF.
+    fn consume(&mut self, amount: usize) {
+        let LastLine { reader, line, .. } = self;
+        if let Ok(octets) = reader.fill_buf() {
+            if line.len() <= MOST_OCTETS {
+                let _kept = line.extend_from_slice(octets.get(..amount).unwrap_or(&[]));
+            }
+        }
+        self.reader.consume(amount);
     }
 }
 
@@ -155,47 +178,30 @@ struct Words<'a> {
 
 impl<'a> Words<'a> {
     /// The next word, up to a space or the line's end.
-    fn next_word(&self) -> &'a [u8]
-        ensures word { result.now ≡ word_at self.now.line.now self.now.at }
-        ensures within { self.now.at + length result.now ≤ max self.now.at (length self.now.line.now) }
-    {
-        first_word(self.line.get(self.at..).unwrap_or(&[]))
+    fn next_word(&self) -> &'a [u8] {
+        let rest = self.line.get(self.at..).unwrap_or(&[]);
+        for place in 0..rest.len() {
+            if rest[place] == b' ' {
+                return rest.get(..place).unwrap_or(rest);
+            }
+        }
+        rest
     }
 
     /// Goes on after a word and the space after it.
-    fn skip(&mut self, word: &[u8])
-        requires { self.old.at + length word.now ≤ 400020 }
-        ensures { self.new ≡ record self.old { at = self.old.at + length word.now + 1 } }
-    {
-        self.at += word.len() + 1;
+    fn skip(&mut self, word: &[u8]) {
+        self.at = self.at.saturating_add(word.len()).saturating_add(1);
     }
-}
-
-/// The octets before the first space, or all of them.
-fn first_word(octets: &[u8]) -> &[u8]
-    ensures word { result.now ≡ first_word octets.now }
-    ensures within { length result.now ≤ length octets.now }
-{
-    for place in 0..octets.len() {
-        if octets[place] == b' ' {
-            return &octets[..place];
-        }
-    }
-    octets
 }
 
 /// Returns whether octets are decimal digits, 1 to `most` of them.
-fn are_digits(octets: &[u8], most: usize) -> bool
-    ensures { IsTrue result ↔ AreDigits most octets.now }
-{
+fn are_digits(octets: &[u8], most: usize) -> bool {
     let is_number = octets.iter().all(|octet| octet.is_ascii_digit());
     is_number && !octets.is_empty() && octets.len() <= most
 }
 
 /// Returns why a line, without its LF, isn't answered: it is too long or isn't a line of a station, or else its time runs back.
-pub(crate) fn no_line(alloc: Global, line: &[u8]) -> NoLine
-    ensures { IsNoLine line.now result }
-{
+pub(crate) fn no_line(alloc: Global, line: &[u8]) -> NoLine {
     if line.len() > MOST_OCTETS {
         return NoLine {
             column: MOST_OCTETS + 1,
@@ -218,10 +224,7 @@ pub(crate) fn no_line(alloc: Global, line: &[u8]) -> NoLine
 }
 
 /// Returns what is wrong with a line that says nothing, and goes to the word that is wrong.
-fn wrong_word(words: &mut Words<'_>) -> Wrong
-    requires { (words.old.at ≡ 0) × (length words.old.line.now ≤ 400000) }
-    ensures { IsWrongAt words.old.line.now words.new.at result × (words.new.line ≡ words.old.line) }
-{
+fn wrong_word(words: &mut Words<'_>) -> Wrong {
     let word = words.next_word();
     let receives = matches!(word, b"rx");
     match word {

@@ -2,6 +2,7 @@ use Rattle.std.proofs.Common.{subst, sym}
 use Rattle.conversations.specs.Conversations.{IsInTime, behaviour}
 use Rattle.conversations.proofs.TakenLines.{line_taken}
 use Rattle.conversations.specs.Conversations.{plain_given}
+use Rattle.conversations.specs.Refusing.{Watches}
 use Rattle.conversations.proofs.conversation.Conversation.take.Goals as goal
 
 pub returns : goal.returns
@@ -15,8 +16,10 @@ returns g c =
       durations = c.self.inside.durations;
       begun = c.self.inside.begun;
       says = c.self.inside.says;
+      watch = c.self.inside.watch;
     })
     c.args.line.now c.give.new.terminal c.at-clock.result c.heard.result c.asked-self-inside.result c.has_begun-self-inside.result
-    c.in_ok-brought.brought (plain_given c.line_gives-given.result) c.shown.result c.shown-2.result c.side-side.result
+    c.in_ok-brought.brought (plain_given c.line_gives-given.result) c.shown.result c.shown-2.result c.side-side.result c.watch_octets.new.watch
     (subst (λ v. IsInTime v c.args.line.now) (sym c.self.view_is) (c.is_out_of_time.ensures.no c.if-is_out_of_time.false)) c.shown.ensures c.side-side.ensures c.at-clock.ensures c.line_gives-given.ensures c.in_ok-brought.ensures.ok
-    c.shown-2.ensures c.heard.ensures c.asked-self-inside.ensures c.has_begun-self-inside.ensures)
+    c.shown-2.ensures c.heard.ensures c.asked-self-inside.ensures c.has_begun-self-inside.ensures
+    (subst (λ octets. Watches c.self.inside.watch octets c.watch_octets.new.watch) c.v21_octets.ensures c.in_ok-watch_octets.ensures.ok))
