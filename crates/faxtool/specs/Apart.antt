@@ -1,5 +1,5 @@
 -- Which files of a command aren't apart, and what is said of such a command.
-use Rattle.std.specs.Prelude.{◌≡◌, ◌&&◌, ◌||◌, ℕ, Bool, true, false, List, Option, Some, None, [], ◌∷◌, ◌++◌, if◌then◌else◌, nat_eq, codes, string_bytes}
+use Rattle.std.specs.Prelude.{◌≡◌, ◌&&◌, ◌||◌, Bool, false, nat_eq, codes, string_bytes}
 use Rattle.std.specs.Str.{bytes_eq}
 use Rattle.clap.specs.Words.{kind_of}
 use Rattle.clap.specs.declared.error.kind.ErrorKind.TheVariants.{ArgumentConflict}
@@ -16,7 +16,7 @@ abbrev pub is_same : Identity → Identity → Bool
 is_same (File device number) (File other_device other_number) = nat_eq device other_device && nat_eq number other_number
 is_same (New device number last) (New other_device other_number other_last) =
     nat_eq device other_device && (nat_eq number other_number && bytes_eq (string_bytes last) (string_bytes other_last))
-is_same one other = false
+is_same _ _ = false
 
 -- a file is standard output
 abbrev pub is_printed : CommandFile → Bool
@@ -29,31 +29,6 @@ are_both_printed one other = is_printed one && is_printed other
 -- two files of a command aren't apart: one of them is written, and they are one place, or both are standard output
 abbrev pub are_one : CommandFile → CommandFile → Bool
 are_one one other = (one.is_written || other.is_written) && (are_both_printed one other || is_same one.identity other.identity)
-
--- the first of these files that isn't apart from a file
-unfoldable pub first_like : CommandFile → List CommandFile → Option CommandFile
-first_like file [] = None
-first_like file (other ∷ others) = if are_one file other then Some other else first_like file others
-
--- two files, of which the second is there
-abbrev pub paired : CommandFile → Option CommandFile → Option (CommandFile × CommandFile) → Option (CommandFile × CommandFile)
-paired file (Some other) later = Some (file, other)
-paired file None later = later
-
--- the first file that isn't apart from one after it, with the first such one; none exactly if each is apart from all others
-unfoldable pub first_two : List CommandFile → Option (CommandFile × CommandFile)
-first_two [] = None
-first_two (file ∷ files) = paired file (first_like file files) (first_two files)
-
--- a file with this role and this name is added, to be written or to be read; where its name leads is the system's to say
-abbrev pub AddsFile : List ℕ → List ℕ → Bool → List CommandFile → List CommandFile → Type 0
-AddsFile role name is_written old new = (file : CommandFile) × (file.role.now ≡ role) × (string_bytes file.name ≡ name)
-    × (file.is_written ≡ is_written) × (new ≡ old ++ (file ∷ []))
-
--- a file is added that is written, if one is named
-abbrev pub MayAddFile : List ℕ → Option (List ℕ) → List CommandFile → List CommandFile → Type 0
-MayAddFile role None old new = new ≡ old
-MayAddFile role (Some name) old new = AddsFile role name true old new
 
 -- why a command is refused before anything runs: memory was refused, or two of its files aren't apart
 abbrev pub IsApartOutcome : Outcome → Type 0

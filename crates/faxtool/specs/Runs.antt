@@ -2,7 +2,7 @@
 --
 -- No clause says what a file holds. So the octets that a command has read, and what a writer had before and after, are some octets of which
 -- the engine's definition holds.
-use Rattle.std.specs.Prelude.{◌≡◌, ◌⊎◌, ◌<◌, ◌||◌, ◌∷◌, ◌-◌, ℕ, Bool, List, Option, Some, None, Result, Ok, Err, not, true, false, is_some, codes, drop, length}
+use Rattle.std.specs.Prelude.{◌≡◌, ◌⊎◌, ◌<◌, ◌||◌, ◌∷◌, ◌-◌, ℕ, Bool, List, Option, Some, None, Result, Ok, Err, not, true, false, is_some, codes, length}
 use Rattle.std.specs.Prelude.{IfErr, IfOk, if◌then◌else◌}
 use Rattle.call_tallies.specs.ManyCalls.{TellsMany}
 use Rattle.calls.specs.BadLines.{LeavesDriven, RefusesDriven}
@@ -21,11 +21,7 @@ use Rattle.page_files.specs.Decodings.{RefusesDecoding, broken_asked}
 use Rattle.page_files.specs.Identified.{Identifies}
 use Rattle.page_files.specs.LaterPages.{AnswersPage, AreAfter}
 use Rattle.page_files.specs.declared.options.PageForm.{PageForm}
-use Rattle.raster.specs.Faults.{number_of}
 use Rattle.raster.specs.Pages.{PagePixels}
-use Rattle.raster.specs.Pbm.{AreImages, read_images}
-use Rattle.raster.specs.declared.fault.RasterFault.{RasterFault}
-use Rattle.stations.specs.CallerFields.{AreCallable}
 use Rattle.stations.specs.declared.stopping.CallEnd.{CallEnd}
 use Rattle.stations.specs.declared.stopping.CallEnd.TheVariants.{By, LineLost, Stopped}
 use Rattle.stations.specs.declared.turn.End.TheVariants.{Normal}
@@ -171,25 +167,14 @@ ended_of (Some (halted.Line number reason)) end = Ok Lacking
 ended_of None (Some (By Normal)) = Ok Whole
 ended_of None _ = Ok Lacking
 
--- why images have no pages from this number on: the first fault of the images, or there are fewer pages (28)
-abbrev pub HasNoPagesFrom : Bool → ℕ → List ℕ → ToolFault → Type 0
-HasNoPagesFrom fine from images fault = ((first : RasterFault) × (read_images fine images ≡ Err first) × (fault ≡ No (number_of first)))
-    ⊎ ((pages : List PagePixels) × AreImages fine images pages × (length pages < from) × (fault ≡ No 28))
-
--- the pages of the images in a file from this number on; or why there are none
-abbrev pub SendsFrom : Bool → ℕ → Result (List PagePixels) ToolFault → Type 0
-SendsFrom fine from (Ok document) = (images : List ℕ) × (pages : List PagePixels) × AreImages fine images pages
-    × (document ≡ drop (from - 1) pages)
-SendsFrom fine from (Err fault) = IsOutside fault ⊎ ((images : List ℕ) × HasNoPagesFrom fine from images fault)
-
--- the file has no document that a call carries: no pages from this number on, or one of them has a width that no call has (26)
-abbrev pub IsNoDocument : Bool → ℕ → ToolFault → Type 0
-IsNoDocument fine from fault = SendsFrom fine from (Err fault)
-    ⊎ ((document : List PagePixels) × SendsFrom fine from (Ok document) × ¬ AreCallable document × (fault ≡ No 26))
+-- the file has no document that a call carries, or no page with the number that is to be the first (28)
+abbrev pub IsNoDocument : Bool → ToolFault → Type 0
+IsNoDocument fine fault = IsOutside fault
+    ⊎ ((fault ≡ No 26) ⊎ ((fault ≡ No 28) ⊎ ((images : List ℕ) × RefusesDriven fine images fault)))
 
 -- a file or memory failed, or the file has no document that a call carries
 abbrev pub DialGives : DialCommand → Result Completeness ToolFault → Type 0
-DialGives command given = IfErr given (IsNoDocument command.options.fine command.from)
+DialGives command given = IfErr given (IsNoDocument command.options.fine)
 
 -- ---- the version
 

