@@ -6,7 +6,6 @@ use Rattle.std.specs.Prelude.{◌≡◌, ◌⊎◌, ◌<◌, ◌||◌, ◌∷◌
 use Rattle.std.specs.Prelude.{IfErr, IfOk, if◌then◌else◌}
 use Rattle.call_tallies.specs.ManyCalls.{TellsMany}
 use Rattle.calls.specs.BadLines.{LeavesDriven, RefusesDriven}
-use Rattle.calls.specs.Calls.{LeavesCall, RefusesCall}
 use Rattle.calls.specs.Ends.{ended_normally}
 use Rattle.calls.specs.SentBits.{Written}
 use Rattle.calls.specs.Transcripts.{end_text}
@@ -106,18 +105,9 @@ pub record FramesGives (command : FramesCommand) (given : Result Completeness To
 abbrev pub as_wanted : Bool → Ending → Completeness
 as_wanted normal ending = completeness_of (ended_normally ending || not normal)
 
--- the call of a script was run, and left this ending
-abbrev pub IsCalled : ScriptCommand → Ending → Type 0
-IsCalled command ending = (said images : List ℕ) × (before after : Written) × LeavesCall command.options said images before after ending
-
--- no call was run to its end: the script or the document is refused
-abbrev pub IsUncalled : ScriptCommand → ToolFault → Type 0
-IsUncalled command fault = IsOutside fault ⊎ ((said images : List ℕ) × RefusesCall command.options.fine said images fault)
-
--- the call of a script was run and ended so, or was refused
+-- a call by a script is lacking only if a normal end is wanted
 abbrev pub ScriptGives : ScriptCommand → Result Completeness ToolFault → Type 0
-ScriptGives command (Ok completeness) = (ending : Ending) × IsCalled command ending × (completeness ≡ as_wanted command.normal ending)
-ScriptGives command (Err fault) = IsUncalled command fault
+ScriptGives command given = IfOk given (λ completeness. command.normal ≡ false → completeness ≡ Whole)
 
 -- call 0 over the bad line was run, and left this ending
 abbrev pub IsDriven : DriveCommand → Ending → Type 0

@@ -6,7 +6,6 @@ pub(crate) mod drives;
 
 ghost use Rattle.calls.specs.Calls.{HaveRows};
 ghost use Rattle.faults.specs.Faults.{IsOutside};
-ghost use Rattle.faxtool.specs.Runs.{IsCalled, IsUncalled};
 ghost use Rattle.std.specs.Prelude.{IfErr, IfOk};
 
 use crate::commands::{Completeness, NO_NAMES, Names, Runs};
@@ -155,9 +154,7 @@ impl ScriptCommand {
 
     /// Reads the files, runs the call, and writes all but the stored pages.
     fn call(&self, context: &mut Context<'_>, files: CallFiles<'_>) -> Result<Ending, ToolFault>
-        ensures called { IfOk result (IsCalled self.now) }
-        ensures rows { IfOk result (λ ending. HaveRows ending.pages.items) }
-        ensures refused { IfErr result (IsUncalled self.now) }
+        ensures { IfOk result (λ ending. HaveRows ending.pages.items) }
     {
         read_script_file(context, self.script.as_str())?;
         // a wrong script is refused before the document is read
