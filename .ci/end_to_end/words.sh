@@ -252,7 +252,7 @@ try_completion() {
     [ "$(echo $commands)" = "code show decode frames call identify station version help" ] || fails "--help has other commands: $commands"
     for command in code show decode frames call identify station version; do
         gives 2 "$command" --help
-        options=$(sed -n 's/^  *\(-h, \)\{0,1\}\(--[a-z0-9]*\).*/\2/p' "$work/error" | sort)
+        options=$(sed -n 's/^  *\(-h, \)\{0,1\}\(--[a-z0-9-]*\).*/\2/p' "$work/error" | sort)
         [ -n "$options" ] || fails "$command --help has no options"
         [ "$(completed "$command" -- | sort)" = "$options" ] || fails "$command is completed by other options than its help has"
     done
