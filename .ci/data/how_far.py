@@ -12,12 +12,24 @@ from reference_pages import read_rows
 
 with open(sys.argv[1], "rb") as file:
     octets = file.read()
-for code in ("mmr", "mh"):
-    for order in ("msb", "lsb"):
-        bits = "".join(f"{octet:08b}"[:: 1 if order == "msb" else -1] for octet in octets)
-        for width in (1728, 2048, 2432, 1216, 864, 1700, 1654):
-            rows, is_page = read_rows(bits, width, code == "mmr")
-            if is_page:
-                sys.exit(f"how_far.py: it is a page by {code}, {order}, of width {width}")
-            if rows:
-                print(code, order, width, len(rows))
+
+
+def tell(code, order, width):
+    """Says how far the file is read in one way."""
+    bits = "".join(f"{octet:08b}"[:: 1 if order == "msb" else -1] for octet in octets)
+    rows, is_page = read_rows(bits, width, code == "mmr")
+    if is_page:
+        sys.exit(f"how_far.py: it is a page by {code}, {order}, of width {width}")
+    if rows:
+        print(code, order, width, len(rows))
+
+
+widths = (1728, 2048, 2432, 1216, 864, 1700, 1654)
+# T.4 after an EOL in every width: another one ends the first row, so one at most has it
+for order in ("msb", "lsb"):
+    first = octets[:2] if order == "msb" else bytes(int(f"{octet:08b}"[::-1], 2) for octet in octets[:2])
+    for width in range(1, 2433) if int.from_bytes(first, "big") < 32 else widths:
+        tell("mh", order, width)
+for order in ("msb", "lsb"):
+    for width in widths:
+        tell("mmr", order, width)

@@ -11,7 +11,24 @@ identifies() {
     count=$((count + 1))
 }
 
-# in_widths WORDS: the lines of a page that reads in each width.
+# is_open LINES FILE: the file reads in several ways, by these lines, and its width isn't known.
+is_open() {
+    printf "%b%s\n" "$1" "the width is not known" > "$work/wanted"
+    gives 1 identify "$2"
+    is_same "$work/output" "$work/wanted" "identify ${2##*/}"
+    [ ! -s "$work/error" ] || fails "identify ${2##*/} wrote to standard error"
+}
+
+# is_none LINE FILE: the file is no page that can be read, by this last line.
+is_none() {
+    printf "$1" > "$work/wanted"
+    gives 1 identify "$2"
+    tail -n 1 "$work/output" > "$work/last"
+    is_same "$work/last" "$work/wanted" "identify ${2##*/}"
+    [ "$(cat "$work/error")" = "fault 29" ] || fails "identify ${2##*/} wrote $(cat "$work/error")"
+}
+
+# in_widths WORDS: the lines of a page of T.6 that reads in each width.
 in_widths() {
     for width in 1728 2048 2432 1216 864 1700 1654; do
         printf "$1\\\\n" "$width"
@@ -49,10 +66,27 @@ try_identified_pages() {
     identifies "T.6, $msb, width 1728, 28 rows, 3 octets after it\n" "$work/longer"
     (cat "$data/wide.faxg4" && printf '\0\0\0') > "$work/longer"
     identifies "T.6, $msb, width 1728, 40 rows, without EOFB\n" "$work/longer"
-    identifies "$(in_widths "T.6, $msb, width %s, 10 rows")" "$(bits "1111111111 000000000001 000000000001")"
-    is_far "$data/page.mh.msb"
+    is_open "$(in_widths "T.6, $msb, width %s, 10 rows")" "$(bits "1111111111 000000000001 000000000001")"
+    identifies "T.4, $msb, width 315, 30 rows\n" "$data/page.mh.msb"
     head -c 200 "$data/wide.mmr.lsb" > "$work/shorter"
     is_far "$work/shorter"
+}
+
+# Pages of T.4 of widths that no list has: they say their own. A row of 2,000 + 480 pixels is no page's. As mgetty writes a row that ends in
+# black, with a white run of 0 before its EOL, only `decode --repair` reads it. In two dimensions a 1 after the EOL says that the next row is
+# in one.
+try_own_widths() {
+    eol="000000000001" line="010011011 00110101" broad="000000010010 101010 000000110101 000001101010"
+    for width in 1 7 9 1000 1734 2431; do
+        python3 -c "import sys; w = $width; sys.stdout.buffer.write(b'P4 %d 3 ' % w + b'\x55' * (3 * ((w + 7) // 8)))" > "$work/own.pbm"
+        works code --code mh "$work/own.pbm" "$work/own.mh"
+        identifies "T.4, $msb, width $width, 3 rows\n" "$work/own.mh"
+        works code --code mh --order lsb "$work/own.pbm" "$work/own.mh"
+        identifies "T.4, $lsb, width $width, 3 rows\n" "$work/own.mh"
+    done
+    is_none "T.4, $msb, width 2480: wider than 2432\n" "$(bits "$eol $broad $eol $broad $eol")"
+    identifies "T.4, $msb, width 1728, 2 rows, by decode --repair\n" "$(bits "$eol 011000 00110010 10 00110101 $eol $line $eol $eol")"
+    is_none "T.4 in two dimensions (MR), $msb, width 1728: not read\n" "$(bits "$eol 1 $line $eol 0 1 $eol 1 $line")"
 }
 
 # Formats by their first octets, a page that begins as one, and files that are none.
@@ -67,12 +101,16 @@ try_identify() {
 89_50_4E_47_0D_0A_1A_0A_00 PNG
 50_34_0A PBM
 50_31_0A plain PBM
+00_00_01_00_00_00_06_C0 JBIG
+7E_7E_7E_7E bits of a line (HDLC flags)
+CF_CF_CF_FF bits of a line (HDLC flags)
 FORMATS
     identifies "PBM, by its first octets\n" "$data/page.pbm"
     # rows that end in 2, 3 and 3 black pixels by VL2 V0, VL1 H(3, 0) and V0 V0, then EOFB: the first two octets are P1
     code=$(octets "50 31 D6 01 10 00 01")
     identifies "plain PBM, by its first octets\n$(in_widths "T.6, least significant bit first, width %s, 3 rows")" "$code"
     try_identified_pages
+    try_own_widths
     : > "$work/empty"
     explains "fault 7" "$work/empty: there is no image: it has no octet" identify "$work/empty"
     printf '\0\0\0\0' > "$work/zeros"

@@ -1,16 +1,18 @@
 -- What is tried and written of one way more, and of all ways.
 use Rattle.std.proofs.Common.{◌≡◌, ◌<◌, ◌≤◌, ◌+◌, ℕ, List, [], ◌∷◌, ◌++◌, Option, All, length, map, subst, take, get_or, ap, sym, ◌∙◌}
 use Rattle.std.proofs.Common.{append_assoc, arith}
-use Rattle.std.specs.Prelude.{flat_map}
+use Rattle.std.specs.Prelude.{cond, flat_map}
 use Rattle.std.specs.Io.KnownBytes.{Appends}
 use Rattle.std.proofs.KnownBytes.{Appends-trans}
+use Rattle.std.proofs.lemmas.Grind.{common_steps}
 use Rattle.std.proofs.lemmas.List.{flat_map_more, map_more, map_push, take_all, take_more}
 use Rattle.std.proofs.lemmas.List.Elements.{All-push}
 use Rattle.raster.specs.declared.packed.Order.{Order}
 use Rattle.raster.specs.declared.packed.Order.TheVariants.{LsbFirst, MsbFirst}
 use Rattle.page_code.specs.declared.Coding.{Coding}
-use Rattle.page_code.specs.declared.Coding.TheVariants.{OneDim, T6}
-use Rattle.page_files.specs.Identified.{AreTried, IsTried, form_in, form_of, forms_in, line_of, lines_of, tried_widths}
+use Rattle.page_code.specs.declared.Coding.TheVariants.{T6}
+use Rattle.page_files.specs.Identified.{AreTried, IsTried, SaysOwn, count_of, fits_one, form_in, form_of, forms_in, line_of, lines_of}
+use Rattle.page_files.specs.Identified.{own_forms, tried_widths}
 use Rattle.page_files.specs.declared.identify.Fit.{Fit}
 use Rattle.page_files.specs.declared.identify.Tried.{Tried}
 use Rattle.page_files.specs.declared.options.PageForm.{PageForm}
@@ -50,26 +52,43 @@ pub tried_more : (octets : List ℕ) (before after : List Tried) (one : Tried) �
 tried_more octets before after one is tried all =
     subst (λ (l : List Tried). All (IsTried octets) l) (sym is) (All-push (IsTried octets) before one all tried)
 
--- after no way the ways of both codes and both orders: these are all ways
-pub all_tried : (octets : List ℕ) (none first second third all : List Tried) → none ≡ []
-    → map form_of first ≡ map form_of none ++ forms_in T6 MsbFirst tried_widths
-    → map form_of second ≡ map form_of first ++ forms_in T6 LsbFirst tried_widths
-    → map form_of third ≡ map form_of second ++ forms_in OneDim MsbFirst tried_widths
-    → map form_of all ≡ map form_of third ++ forms_in OneDim LsbFirst tried_widths
+-- after no way those of T.4 and of T.6, in both orders: these are all ways
+pub all_tried : (octets : List ℕ) (msb lsb : Option ℕ) (none first second third all : List Tried) → none ≡ []
+    → SaysOwn MsbFirst octets msb → SaysOwn LsbFirst octets lsb
+    → map form_of first ≡ map form_of none ++ own_forms MsbFirst msb
+    → map form_of second ≡ map form_of first ++ own_forms LsbFirst lsb
+    → map form_of third ≡ map form_of second ++ forms_in T6 MsbFirst tried_widths
+    → map form_of all ≡ map form_of third ++ forms_in T6 LsbFirst tried_widths
     → (All (IsTried octets) none → All (IsTried octets) first) → (All (IsTried octets) first → All (IsTried octets) second)
     → (All (IsTried octets) second → All (IsTried octets) third) → (All (IsTried octets) third → All (IsTried octets) all)
-    → AreTried octets all
-all_tried octets none first second third all empty one two three four each_one each_two each_three each_four =
-    let forms_one : map form_of first ≡ forms_in T6 MsbFirst tried_widths =
-    one ∙ ap (λ (l : List Tried). map form_of l ++ forms_in T6 MsbFirst tried_widths) empty in
-    let forms_two : map form_of second ≡ forms_in T6 MsbFirst tried_widths ++ forms_in T6 LsbFirst tried_widths =
-    two ∙ ap (λ (l : List PageForm). l ++ forms_in T6 LsbFirst tried_widths) forms_one in
-    let forms_three : map form_of third ≡ (forms_in T6 MsbFirst tried_widths ++ forms_in T6 LsbFirst tried_widths)
-    ++ forms_in OneDim MsbFirst tried_widths =
-    three ∙ ap (λ (l : List PageForm). l ++ forms_in OneDim MsbFirst tried_widths) forms_two in
+    → AreTried octets all (record { msb = msb; lsb = lsb })
+all_tried octets msb lsb none first second third all empty says_msb says_lsb one two three four each_one each_two each_three each_four =
+    let own_msb : List PageForm = own_forms MsbFirst msb in
+    let own_lsb : List PageForm = own_forms LsbFirst lsb in
+    let t6_msb : List PageForm = forms_in T6 MsbFirst tried_widths in
+    let t6_lsb : List PageForm = forms_in T6 LsbFirst tried_widths in
+    let forms_one : map form_of first ≡ own_msb = one ∙ ap (λ (l : List Tried). map form_of l ++ own_msb) empty in
+    let forms_two : map form_of second ≡ own_msb ++ own_lsb = two ∙ ap (λ (l : List PageForm). l ++ own_lsb) forms_one in
+    let forms_three : map form_of third ≡ (own_msb ++ own_lsb) ++ t6_msb = three ∙ ap (λ (l : List PageForm). l ++ t6_msb) forms_two in
     let no_way : All (IsTried octets) none =
     subst (λ (l : List Tried). All (IsTried octets) l) (sym empty) (λ k d within. absurd (omega (arith, within))) in
     record {
-      forms_are = four ∙ ap (λ (l : List PageForm). l ++ forms_in OneDim LsbFirst tried_widths) forms_three;
+      msb_is = says_msb;
+      lsb_is = says_lsb;
+      forms_are = four ∙ (ap (λ (l : List PageForm). l ++ t6_lsb) forms_three ∙ (append_assoc (own_msb ++ own_lsb) t6_msb t6_lsb
+          ∙ append_assoc own_msb own_lsb (t6_msb ++ t6_lsb)));
       each = each_four (each_three (each_two (each_one no_way)));
     }
+
+-- how many ways fit, with one more
+pub count_more : (fit : Fit) (octets : List ℕ) (tried : List Tried) (index : ℕ) (default : Tried) → index < length tried
+    → count_of fit octets (take (index + 1) tried)
+    ≡ count_of fit octets (take index tried) + cond (fits_one fit octets (get_or tried index default)) 1 0
+count_more fit octets tried index default within =
+    ap (count_of fit octets) (take_more tried index default within) ∙ push (take index tried)
+  where
+    push : (before : List Tried)
+        → count_of fit octets (before ++ get_or tried index default ∷ [])
+        ≡ count_of fit octets before + cond (fits_one fit octets (get_or tried index default)) 1 0
+    push [] = grind (arith, common_steps)
+    push (one ∷ more) = let later = push more in grind (arith, common_steps, later)

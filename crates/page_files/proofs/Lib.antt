@@ -12,3 +12,4 @@ mod RefusedRows
 mod RepairsMean
 mod RepairsT6
 mod Identifying
+mod OwnWidths

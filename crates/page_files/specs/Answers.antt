@@ -1,5 +1,6 @@
 -- What `decode` gives of octets: an image, the messages about it, and whether the result is complete.
-use Rattle.std.specs.Prelude.{ℕ, ◌≡◌, ◌-◌, ◌↔◌, Bool, true, not, ◌||◌, List, [], ◌++◌, length, Result, Ok, Err, IsTrue, codes, cond, nat_eq}
+use Rattle.std.specs.Prelude.{ℕ, ◌≡◌, ◌-◌, ◌↔◌, Bool, not, ◌||◌, List, [], ◌++◌, length, Result, Ok, Err, IsTrue, codes, cond, nat_eq}
+use Rattle.std.specs.Prelude.{nat_le}
 use Rattle.std.specs.Fmt.{decimal}
 use Rattle.std.specs.Int.{div_ceil}
 use Rattle.page_files.specs.DecodeRecords.{after_record, as_told, page_record, rows_record}
@@ -40,6 +41,14 @@ rows_text records rows = cond records (record_line (rows_record rows)) (rows_lin
 abbrev pub no_rtc_line : ℕ → List ℕ
 no_rtc_line rows = codes "the page ends without its RTC after " ++ (decimal rows ++ codes " rows\n")
 
+-- no more rows are repaired than read
+abbrev pub is_mostly_read : ℕ → ℕ → Bool
+is_mostly_read rows repaired = nat_le repaired (rows - repaired)
+
+-- the line of a page with more rows that are repaired than read
+abbrev pub few_line : List ℕ
+few_line = codes "more rows are repaired than read: identify may tell what it is\n"
+
 -- how many octets come after those of a page's code
 abbrev pub octets_after : List ℕ → ℕ → ℕ
 octets_after octets bits = length octets - div_ceil bits 8
@@ -50,16 +59,18 @@ end_text verbose records rows bits after has_end =
     cond verbose (page_text records rows bits ++ after_text records after) [] ++ as_told records (cond has_end [] (no_rtc_line rows))
 
 -- What is reported of a page, and whether the result is complete. Read to the end of its code: with `--verbose` its rows, bits and the
--- octets after it; a line if RTC is missing, and then it isn't complete with `--whole`. Read line by line: the lines of its repaired rows,
--- and with `--verbose` its rows. Without its EOFB: the line that says so, and with `--verbose` its rows; it isn't complete with `--whole`.
--- Refused: nothing is reported, and the fault is returned. With `records` each is an object of JSON.
+-- octets after it; a line if RTC is missing, and then it isn't complete with `--whole`. Read line by line: the lines of its repaired
+-- rows, with `--verbose` its rows, and a line if more are repaired than read, and then it isn't complete. Without its EOFB: the line that
+-- says so, and with `--verbose` its rows; it isn't complete with `--whole`. Refused: nothing is reported, and the fault is returned. With
+-- `records` each is an object of JSON.
 abbrev pub TellsPage : PageForm → DecodeOptions → List ℕ → ReadTo → ℕ → List ℕ → List ℕ → Result Bool ToolFault → Type 0
 TellsPage form options octets (End bits) rows lines told end =
     (has_end : Bool) × (IsTrue has_end ↔ HasItsEnd form.coding form.order octets bits)
     × (told ≡ end_text options.verbose options.records rows bits (octets_after octets bits) has_end)
     × (end ≡ Ok (has_end || not options.whole))
 TellsPage form options octets (Lines count) rows lines told end =
-    (told ≡ as_told options.records lines ++ cond options.verbose (rows_text options.records rows) []) × (end ≡ Ok true)
+    (told ≡ (as_told options.records lines ++ cond options.verbose (rows_text options.records rows) [])
+    ++ as_told options.records (cond (is_mostly_read rows count) [] few_line)) × (end ≡ Ok (is_mostly_read rows count))
 TellsPage form options octets (NoEnd bit) rows lines told end =
     (told ≡ as_told options.records lines ++ cond options.verbose (rows_text options.records rows) []) × (end ≡ Ok (not options.whole))
 TellsPage form options octets (Fault fault) rows lines told end = (told ≡ []) × (end ≡ Err fault)

@@ -1,21 +1,25 @@
 -- What `faxtool identify` says of octets: the format that they begin as, and in which ways they read as a page.
-use Rattle.std.specs.Prelude.{ℕ, ◌≡◌, Bool, true, false, List, [], ◌∷◌, ◌++◌, ◌||◌, ◌&&◌, Option, Some, None, Result, Ok, Err, is_some}
-use Rattle.std.specs.Prelude.{All, MatchResult, codes, cond, flat_map, if◌then◌else◌, length, map, nat_eq, not, take}
+use Rattle.std.specs.Prelude.{ℕ, ◌≡◌, ◌+◌, ◌<◌, ◌⊎◌, Bool, true, false, List, [], ◌∷◌, ◌++◌, ◌||◌, ◌&&◌, Option, Some, None}
+use Rattle.std.specs.Prelude.{Result, Ok, Err, All, MatchResult, codes, cond, flat_map, if◌then◌else◌, is_some, length, map, nat_eq}
+use Rattle.std.specs.Prelude.{nat_lt, not, sum, take}
 use Rattle.std.specs.Fmt.{decimal}
 use Rattle.std.specs.Io.KnownBytes.{Appends}
-use Rattle.std.specs.List.{list_any}
-use Rattle.std.specs.Result.{is_ok}
 use Rattle.std.specs.Str.{bytes_eq}
 use Rattle.raster.specs.declared.packed.Order.{Order}
 use Rattle.raster.specs.declared.packed.Order.TheVariants.{LsbFirst, MsbFirst}
 use Rattle.raster.specs.declared.row.Color.{Color}
 use Rattle.raster.specs.Packed.{bits_of}
+use Rattle.raster.specs.Pixels.{max_width}
 use Rattle.page_code.specs.declared.Coding.{Coding}
 use Rattle.page_code.specs.declared.Coding.TheVariants.{OneDim, T6}
 use Rattle.page_code.specs.Codings.{ReadsIn}
+use Rattle.page_code.specs.OneDimension.Repairs.{IsRepair}
 use Rattle.page_code.specs.RowsSoFar.{AreWholeRows}
+use Rattle.page_code.specs.declared.one_dim.repair.RepairedRow.{RepairedRow}
 use Rattle.page_files.specs.Answers.{octets_after}
 use Rattle.page_files.specs.CodedPages.{RefusesCode}
+use Rattle.page_files.specs.OwnWidths.{SaysTwoDim, SaysWidth}
+use Rattle.page_files.specs.Repairs.{RefusesLines}
 use Rattle.faults.specs.FaultKinds.{kind_of}
 use Rattle.faults.specs.Faults.{fault_text}
 use Rattle.faults.specs.declared.fault.ToolFault.{ToolFault}
@@ -23,14 +27,21 @@ use Rattle.faults.specs.declared.fault.ToolFault.TheVariants.{No}
 use Rattle.faults.specs.declared.fault_kind.FaultKind.{FaultKind}
 use Rattle.faults.specs.declared.fault_kind.FaultKind.TheVariants.{MissingEofb}
 use Rattle.page_files.specs.declared.identify.Fit.{Fit}
-use Rattle.page_files.specs.declared.identify.Fit.TheVariants.{Whole, NoEofb, Early, Begun}
+use Rattle.page_files.specs.declared.identify.Fit.TheVariants.{Whole, NoEofb, Early, Mended, Begun}
+use Rattle.page_files.specs.declared.identify.Identity.{Identity}
+use Rattle.page_files.specs.declared.identify.Identity.TheVariants.{Known, Several, Nothing}
+use Rattle.page_files.specs.declared.identify.Said.{Said}
 use Rattle.page_files.specs.declared.identify.Tried.{Tried}
 use Rattle.page_files.specs.declared.options.PageForm.{PageForm}
 
 -- ---- formats
 
+-- bits of a line: three octets of flags, 01111110, from one of their bits on
+abbrev pub flags_from : ℕ → List ℕ × List ℕ
+flags_from octet = (octet ∷ octet ∷ octet ∷ [], codes "bits of a line (HDLC flags)")
+
 -- The known formats: the octets that a file of each begins with, and its name. TIFF, BigTIFF, PDF, PostScript, PNG, those of Netpbm, JPEG,
--- GIF, SFF, DCX, gzip and ZIP.
+-- GIF, SFF, DCX, gzip, ZIP, JBIG (ITU-T T.82, 6.2.1: one layer, plane 1, a width below 65,536) and bits of a line.
 abbrev pub formats : List (List ℕ × List ℕ)
 formats = (73 ∷ 73 ∷ 42 ∷ 0 ∷ [], codes "TIFF") ∷ (77 ∷ 77 ∷ 0 ∷ 42 ∷ [], codes "TIFF")
     ∷ (73 ∷ 73 ∷ 43 ∷ 0 ∷ [], codes "BigTIFF") ∷ (77 ∷ 77 ∷ 0 ∷ 43 ∷ [], codes "BigTIFF")
@@ -40,7 +51,9 @@ formats = (73 ∷ 73 ∷ 42 ∷ 0 ∷ [], codes "TIFF") ∷ (77 ∷ 77 ∷ 0 ∷
     ∷ (codes "P4", codes "PBM") ∷ (codes "P5", codes "PGM") ∷ (codes "P6", codes "PPM") ∷ (codes "P7", codes "PAM")
     ∷ (255 ∷ 216 ∷ 255 ∷ [], codes "JPEG") ∷ (codes "GIF8", codes "GIF")
     ∷ (codes "Sfff", codes "SFF") ∷ (177 ∷ 104 ∷ 222 ∷ 58 ∷ [], codes "DCX")
-    ∷ (31 ∷ 139 ∷ 8 ∷ [], codes "gzip") ∷ (80 ∷ 75 ∷ 3 ∷ 4 ∷ [], codes "ZIP") ∷ []
+    ∷ (31 ∷ 139 ∷ 8 ∷ [], codes "gzip") ∷ (80 ∷ 75 ∷ 3 ∷ 4 ∷ [], codes "ZIP")
+    ∷ (0 ∷ 0 ∷ 1 ∷ 0 ∷ 0 ∷ 0 ∷ [], codes "JBIG")
+    ∷ map flags_from (126 ∷ 63 ∷ 159 ∷ 207 ∷ 231 ∷ 243 ∷ 249 ∷ 252 ∷ [])
 
 -- the octets begin with others
 abbrev pub begin_with : List ℕ → List ℕ → Bool
@@ -57,7 +70,8 @@ format_of octets = format_among formats octets
 
 -- ---- ways
 
--- the widths that are tried: those that a call carries, those of A5 and A6 (T.30, table 2), those of Letter and A4 at 200 dots an inch
+-- the widths that are tried where octets say none: those that a call carries, those of A5 and A6 (T.30, table 2), those of Letter and A4 at
+-- 200 dots an inch
 abbrev pub tried_widths : List ℕ
 tried_widths = 1728 ∷ 2048 ∷ 2432 ∷ 1216 ∷ 864 ∷ 1700 ∷ 1654 ∷ []
 
@@ -69,11 +83,21 @@ form_in coding order width = record { coding = coding; order = order; width = wi
 abbrev pub forms_in : Coding → Order → List ℕ → List PageForm
 forms_in coding order widths = map (form_in coding order) widths
 
--- The ways that are tried, in this order: T.6 and then T.4; for each, most and then least significant bit first; for each, the widths of
--- `tried_widths`.
-abbrev pub tried_forms : List PageForm
-tried_forms = forms_in T6 MsbFirst tried_widths ++ (forms_in T6 LsbFirst tried_widths
-    ++ (forms_in OneDim MsbFirst tried_widths ++ forms_in OneDim LsbFirst tried_widths))
+-- the ways in T.4: at the width that octets say themselves in this order of bits, if a page can have it; in all widths, if they say none
+abbrev pub own_forms : Order → Option ℕ → List PageForm
+own_forms order None = forms_in OneDim order tried_widths
+own_forms order (Some width) = cond (not (nat_eq width 0) && not (nat_lt max_width width)) (form_in OneDim order width ∷ []) []
+
+-- The ways that are tried, in this order: T.4, most and then least significant bit first; and T.6, most and then least significant bit
+-- first, for each in the widths of `tried_widths`. The law `own_widths` says that a page that begins with an EOL is missed in no other
+-- width.
+abbrev pub tried_forms : Option ℕ → Option ℕ → List PageForm
+tried_forms msb lsb = own_forms MsbFirst msb ++ (own_forms LsbFirst lsb
+    ++ (forms_in T6 MsbFirst tried_widths ++ forms_in T6 LsbFirst tried_widths))
+
+-- what octets say of their own width in T.4, in this order of bits
+abbrev pub SaysOwn : Order → List ℕ → Option ℕ → Type 0
+SaysOwn order octets own = SaysWidth (bits_of order octets) own
 
 -- How far octets read in one way: they begin with the code of a page with so many rows and bits; or with no page's code, with this fault,
 -- after so many whole rows.
@@ -83,17 +107,32 @@ ReadsTo octets form rows end = MatchResult end
     (λ fault. RefusesCode form.coding form.order form.width octets fault × ((page : List (List Color))
     × AreWholeRows form.coding form.width (bits_of form.order octets) page × (rows ≡ length page)))
 
+-- how many rows `decode --repair` gives of T.4, if it copies none; else it copies one or more, or gives no page
+abbrev pub MendsTo : Order → ℕ → List ℕ → Option ℕ → Type 0
+MendsTo order width octets (Some rows) = (page : List (List Color)) × IsRepair width (bits_of order octets) page [] × (rows ≡ length page)
+MendsTo order width octets None =
+    ((page : List (List Color)) × (repaired : List RepairedRow) × IsRepair width (bits_of order octets) page repaired
+    × (0 < length repaired)) ⊎ ((fault : ToolFault) × RefusesLines order width octets fault)
+
+-- `decode --repair` is tried on what is refused in T.4
+abbrev pub IsMended : List ℕ → PageForm → Coding → Result ℕ ToolFault → Option ℕ → Type 0
+IsMended octets form coding (Ok bits) mended = mended ≡ None
+IsMended octets form OneDim (Err fault) mended = MendsTo form.order form.width octets mended
+IsMended octets form T6 (Err fault) mended = mended ≡ None
+
 -- the result of this way is right
 abbrev pub IsTried : List ℕ → Tried → Type 0
-IsTried octets tried = ReadsTo octets tried.form tried.rows tried.end
+IsTried octets tried = ReadsTo octets tried.form tried.rows tried.end × IsMended octets tried.form tried.form.coding tried.end tried.mended
 
 -- the way that was tried
 abbrev pub form_of : Tried → PageForm
 form_of tried = tried.form
 
 -- the octets were tried in all ways of the list, in its order, and the result of each is right
-pub record AreTried (octets : List ℕ) (tried : List Tried) : Type 0 where
-  pub forms_are : map form_of tried ≡ tried_forms
+pub record AreTried (octets : List ℕ) (tried : List Tried) (own : Said) : Type 0 where
+  pub msb_is : SaysOwn MsbFirst octets own.msb
+  pub lsb_is : SaysOwn LsbFirst octets own.lsb
+  pub forms_are : map form_of tried ≡ tried_forms own.msb own.lsb
   pub each : All (IsTried octets) tried
 
 -- ---- what is written
@@ -126,70 +165,114 @@ abbrev pub lacks_eofb : ℕ → Result ℕ ToolFault → Bool
 lacks_eofb rows (Ok bits) = false
 lacks_eofb rows (Err fault) = not (nat_eq rows 0) && is_missing_eofb (kind_of fault)
 
--- how far octets read that have no page's end: all rows, if only EOFB is missing; or up to a bit, with the rows before it
-abbrev pub fault_words : Bool → ℕ → ToolFault → List ℕ
-fault_words true rows fault = codes ", " ++ (decimal rows ++ codes " rows, without EOFB\n")
-fault_words false rows fault = codes ": " ++ (fault_text fault ++ (codes " after " ++ (decimal rows ++ codes " rows\n")))
+-- how far octets read that `decode --repair` reads whole, or not
+abbrev pub mended_words : Option ℕ → ℕ → ToolFault → List ℕ
+mended_words (Some all) rows fault = codes ", " ++ (decimal all ++ codes " rows, by decode --repair\n")
+mended_words None rows fault = codes ": " ++ (fault_text fault ++ (codes " after " ++ (decimal rows ++ codes " rows\n")))
 
--- how far the octets read: to the page's end, with its rows and the octets after it; or so far as the fault says
-abbrev pub end_words : List ℕ → ℕ → Result ℕ ToolFault → List ℕ
-end_words octets rows (Ok bits) = codes ", " ++ (decimal rows ++ (codes " rows" ++ (after_words (octets_after octets bits) ++ codes "\n")))
-end_words octets rows (Err fault) = fault_words (lacks_eofb rows (Err fault)) rows fault
+-- how far the octets read: to the page's end, with its rows and the octets after it; all rows, if only EOFB is missing; or as above
+abbrev pub end_words : List ℕ → ℕ → Option ℕ → Result ℕ ToolFault → List ℕ
+end_words octets rows mended (Ok bits) =
+    codes ", " ++ (decimal rows ++ (codes " rows" ++ (after_words (octets_after octets bits) ++ codes "\n")))
+end_words octets rows mended (Err fault) = cond (lacks_eofb rows (Err fault))
+    (codes ", " ++ (decimal rows ++ codes " rows, without EOFB\n")) (mended_words mended rows fault)
 
 -- the line of one way
 abbrev pub tried_line : List ℕ → Tried → List ℕ
-tried_line octets tried = form_words tried.form ++ end_words octets tried.rows tried.end
+tried_line octets tried = form_words tried.form ++ end_words octets tried.rows tried.mended tried.end
 
 -- The octets fit a way so far: they read to a page's end, with no octet after it; to one of which only EOFB is missing; to one with octets
--- after it; or they read to no page's end, but begin with a row.
-abbrev pub fits : Fit → List ℕ → ℕ → Result ℕ ToolFault → Bool
-fits Whole octets rows (Ok bits) = nat_eq (octets_after octets bits) 0
-fits NoEofb octets rows (Err fault) = lacks_eofb rows (Err fault)
-fits Early octets rows (Ok bits) = not (nat_eq (octets_after octets bits) 0)
-fits Begun octets rows (Err fault) = not (nat_eq rows 0)
-fits fit octets rows end = false
+-- after it; `decode --repair` reads them and copies no row; or they read to no page's end, but begin with a row.
+abbrev pub fits : Fit → List ℕ → ℕ → Result ℕ ToolFault → Option ℕ → Bool
+fits Whole octets rows (Ok bits) mended = nat_eq (octets_after octets bits) 0
+fits NoEofb octets rows (Err fault) mended = lacks_eofb rows (Err fault)
+fits Early octets rows (Ok bits) mended = not (nat_eq (octets_after octets bits) 0)
+fits Mended octets rows (Err fault) mended = is_some mended
+fits Begun octets rows (Err fault) mended = not (nat_eq rows 0)
+fits fit octets rows end mended = false
+
+-- the octets fit this way so far
+abbrev pub fits_one : Fit → List ℕ → Tried → Bool
+fits_one fit octets tried = fits fit octets tried.rows tried.end tried.mended
 
 -- the line of a way, if the octets fit it so far
 abbrev pub line_of : Fit → List ℕ → Tried → List ℕ
-line_of fit octets tried = cond (fits fit octets tried.rows tried.end) (tried_line octets tried) []
+line_of fit octets tried = cond (fits_one fit octets tried) (tried_line octets tried) []
 
 -- a line for each way that the octets fit so far
 abbrev pub lines_of : Fit → List ℕ → List Tried → List ℕ
 lines_of fit octets tried = flat_map (line_of fit octets) tried
 
--- the octets read to a page's end in this way, or to one of which only EOFB is missing
-abbrev pub is_page : Tried → Bool
-is_page tried = is_ok tried.end || lacks_eofb tried.rows tried.end
+-- how many ways the octets fit so far
+abbrev pub count_of : Fit → List ℕ → List Tried → ℕ
+count_of fit octets tried = sum (map (λ one. cond (fits_one fit octets one) 1 0) tried)
+
+-- how many ways read a page: to its end, or to its EOFB, or by `decode --repair`
+abbrev pub count_pages : List ℕ → List Tried → ℕ
+count_pages octets tried = count_of Whole octets tried + count_of Early octets tried
+    + (count_of NoEofb octets tried + count_of Mended octets tried)
 
 -- the line of a format, if it is known
 abbrev pub format_line : Option (List ℕ) → List ℕ
 format_line None = []
 format_line (Some name) = name ++ codes ", by its first octets\n"
 
--- the octets begin as a known format, or read to a page's end in some way
-abbrev pub is_identified : List ℕ → List Tried → Bool
-is_identified octets tried = is_some (format_of octets) || list_any is_page tried
-
--- What is written. The format, if it is known (`TIFF, by its first octets`). A line for each way that reads a page (`T.6, most significant
--- bit first, width 1728, 2292 rows`): first those without octets after it, then those without EOFB (`2292 rows, without EOFB`), then those
--- with octets after it (`2292 rows, 3 octets after it`). With neither, a line for each way that reads a first row (`.. width 1728: fault 11
--- at bit 3999 after 27 rows`).
-abbrev pub said : List ℕ → List Tried → List ℕ
-said octets tried = format_line (format_of octets) ++ (lines_of Whole octets tried ++ (lines_of NoEofb octets tried
-    ++ (lines_of Early octets tried ++ cond (is_identified octets tried) [] (lines_of Begun octets tried))))
+-- the line of an own width in T.4 that no page can have, since it is too wide
+abbrev pub wide_line : Order → Option ℕ → List ℕ
+wide_line order None = []
+wide_line order (Some width) = cond (nat_lt max_width width)
+    (codes "T.4, " ++ (order_name order ++ (codes ", width " ++ (decimal width ++ codes ": wider than 2432\n")))) []
 
 -- the fault of octets that are neither a page nor a known format: `NoPages` (7) if there is no octet, otherwise `Unidentified` (29)
 abbrev pub no_page : List ℕ → ToolFault
 no_page [] = No 7
 no_page (octet ∷ octets) = No 29
 
--- the fault that is returned: none if the octets are a page or a known format
-abbrev pub fault_said : List ℕ → List Tried → Option ToolFault
-fault_said octets tried = cond (is_identified octets tried) None (Some (no_page octets))
+-- What octets are known to be that begin as a format, or as none. With no format: nothing, if no way reads a page. Known, if one way does,
+-- or if of several ways one alone ends with the octets. Else several, and the width isn't known.
+abbrev pub identity_of : Option (List ℕ) → List ℕ → List Tried → Identity
+identity_of (Some name) octets tried = Known
+identity_of None octets tried = cond (nat_eq (count_pages octets tried) 0) (Nothing (no_page octets))
+    (cond (nat_eq (count_pages octets tried) 1 || nat_eq (count_of Whole octets tried) 1) Known Several)
 
--- The octets were tried in all ways. What is written is `said`, and the fault that is returned is `fault_said`, of the results.
-pub record Identifies (octets : List ℕ) (before after : Option (List ℕ)) (fault : Option ToolFault) : Type 0 where
+-- the line of a width in T.4 in two dimensions, which isn't read
+abbrev pub two_dim_line : Order → Option ℕ → List ℕ
+two_dim_line order None = []
+two_dim_line order (Some width) = cond (nat_lt 0 width)
+    (codes "T.4 in two dimensions (MR), " ++ (order_name order ++ (codes ", width " ++ (decimal width ++ codes ": not read\n")))) []
+
+-- what octets say of their width in T.4 in two dimensions, most and least significant bit first
+abbrev pub AreTwoDim : List ℕ → Option ℕ → Option ℕ → Type 0
+AreTwoDim octets msb lsb = SaysTwoDim (bits_of MsbFirst octets) msb × SaysTwoDim (bits_of LsbFirst octets) lsb
+
+-- What is written of octets that are nothing known: a line for each way that reads a first row (`.. width 1728: fault 11 at bit 3999
+-- after 27 rows`), one for a width that no page can have, and one if they begin as T.4 in two dimensions.
+abbrev pub nothing_lines : List ℕ → List Tried → Said → Option ℕ → Option ℕ → List ℕ
+nothing_lines octets tried own msb lsb = lines_of Begun octets tried ++ (wide_line MsbFirst own.msb ++ (wide_line LsbFirst own.lsb
+    ++ (two_dim_line MsbFirst msb ++ two_dim_line LsbFirst lsb)))
+
+-- what is written after the lines of the ways: of several ways, that the width isn't known; of nothing, as above
+abbrev pub TellsIdentity : List ℕ → List Tried → Said → Identity → Option (List ℕ) → Option (List ℕ) → Type 0
+TellsIdentity octets tried own Known before after = Appends before after []
+TellsIdentity octets tried own Several before after = Appends before after (codes "the width is not known\n")
+TellsIdentity octets tried own (Nothing fault) before after =
+    (msb lsb : Option ℕ) × AreTwoDim octets msb lsb × Appends before after (nothing_lines octets tried own msb lsb)
+
+-- The lines before that. The format, if it is known (`TIFF, by its first octets`). A line for each way that reads a page (`T.6, most
+-- significant bit first, width 1728, 2292 rows`): first those without octets after it, then those without EOFB (`2292 rows, without EOFB`),
+-- then those with octets after it (`2292 rows, 3 octets after it`), then those that `decode --repair` reads (`2292 rows, by decode
+-- --repair`).
+abbrev pub page_lines : List ℕ → List Tried → List ℕ
+page_lines octets tried = format_line (format_of octets) ++ (lines_of Whole octets tried ++ (lines_of NoEofb octets tried
+    ++ (lines_of Early octets tried ++ lines_of Mended octets tried)))
+
+-- The octets were tried in all ways. What is written are `page_lines` and what `TellsIdentity` says, and what they are known to be is
+-- `identity_of`, of the results.
+pub record Identifies (octets : List ℕ) (before after : Option (List ℕ)) (identity : Identity) : Type 0 where
   pub tried : List Tried
-  pub are_tried : AreTried octets tried
-  pub written : Appends before after (said octets tried)
-  pub fault_is : fault ≡ fault_said octets tried
+  pub own : Said
+  pub are_tried : AreTried octets tried own
+  pub between : Option (List ℕ)
+  pub written : Appends before between (page_lines octets tried)
+  pub tells : TellsIdentity octets tried own identity between after
+  pub identity_is : identity ≡ identity_of (format_of octets) octets tried

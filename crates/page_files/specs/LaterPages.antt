@@ -16,7 +16,7 @@ use Rattle.page_code.specs.OneDimension.Fronts.{CodeBegins}
 use Rattle.page_code.specs.OneDimension.Pages.{AreZeros, eol_word, eol_words}
 use Rattle.page_files.specs.Answers.{AnswersDecode}
 use Rattle.page_files.specs.DecodeRecords.{as_told, begins_record}
-use Rattle.page_files.specs.Decodings.{IsKept, IsOfKept}
+use Rattle.page_files.specs.Decodings.{IsKept, IsOfKept, RefusesDecoding, broken_asked}
 use Rattle.faults.specs.RecordLines.{record_line}
 use Rattle.page_files.specs.CodedPages.{RefusesCode, WritesPage}
 use Rattle.faults.specs.declared.fault.ToolFault.{ToolFault}
@@ -132,19 +132,30 @@ pub record AnswersReached (form : PageForm) (options : DecodeOptions) (page octe
   pub answers : (image : List ℕ) → WritesPage decoded (Some []) (Some image) → AnswersDecode form options octets image lines end
   pub told_is : told ≡ begins_text options.verbose options.records page octet ++ lines
 
--- What is reported of a page of a file. If it is there, what `decode` gives of its octets. If the file ends before it, the line with the
--- number of pages, and `FewerPages` (28). If a page before it can't be read to its end, the line that names that page, and its fault.
+-- a page with this number that is refused: no row, the line of the octet at which it begins, and its fault
+pub record RefusesReached (form : PageForm) (options : DecodeOptions) (page octet : ℕ) (octets : List ℕ) (decoded : PagePixels)
+    (told : List ℕ) (end : Result Bool ToolFault) : Type 0 where
+  pub fault : ToolFault
+  pub refuses : RefusesDecoding (broken_asked options.salvage options.repair) form octets fault
+  pub rowless : decoded.rows ≡ []
+  pub told_is : told ≡ begins_text options.verbose options.records page octet
+  pub end_is : end ≡ Err fault
+
+-- What is reported of a page of a file. If it is there, what `decode` gives of its octets, or its refusal. If the file ends before it, the
+-- line with the number of pages, and `FewerPages` (28). If a page before it can't be read to its end, the line that names that page, and
+-- its fault.
 abbrev pub GivesReached : PageForm → DecodeOptions → ℕ → List ℕ → List ℕ → PagePixels → List ℕ → Result Bool ToolFault → Reached → Type 0
 GivesReached form options page octets later decoded told end Page =
     AnswersReached form options page (length octets - length later) later decoded told end
+    ⊎ RefusesReached form options page (length octets - length later) later decoded told end
 GivesReached form options page octets later decoded told end (End count) =
     (decoded.rows ≡ []) × (told ≡ as_told options.records (pages_line count)) × (end ≡ Err (No 28))
 GivesReached form options page octets later decoded told end (Broken number fault) =
     (decoded.rows ≡ []) × (told ≡ as_told options.records (broken_line number (length octets - length later))) × (end ≡ Err fault)
 
 -- Decodes page `page` of a file, counted from 1: what `decode` gives of its octets, and with `--verbose` first the octet at which they
--- begin (not for the first page). If the file has fewer pages, the line with their number, and `FewerPages` (28). If a page before it can't
--- be read to its end, the line that names that page, and its fault.
+-- begin (not for the first page), also where it is refused. If the file has fewer pages, the line with their number, and `FewerPages` (28).
+-- If a page before it can't be read to its end, the line that names that page, and its fault.
 pub record AnswersPage (form : PageForm) (options : DecodeOptions) (page : ℕ) (octets later : List ℕ) (decoded : PagePixels)
     (told : List ℕ) (end : Result Bool ToolFault) : Type 0 where
   pub reached : Reached

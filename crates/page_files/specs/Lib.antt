@@ -7,6 +7,7 @@ pub mod Decodings
 pub mod PageEnds
 pub mod Answers
 pub mod LaterPages
+pub mod OwnWidths
 pub mod Identified
 pub mod DecodeRecords
 pub mod RepairsMean

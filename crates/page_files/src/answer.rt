@@ -1,6 +1,8 @@
 //! What `decode` gives of octets in memory: a page, the messages about it, and whether the result is complete.
-ghost use Rattle.page_files.specs.Answers.{AnswersDecode, after_text, end_text, no_rtc_line, octets_after, page_text, rows_text};
+ghost use Rattle.page_files.specs.Answers.{AnswersDecode, after_text, end_text, few_line, is_mostly_read, no_rtc_line, octets_after};
+ghost use Rattle.page_files.specs.Answers.{page_text, rows_text};
 ghost use Rattle.page_files.specs.CodedPages.{WritesPage};
+ghost use Rattle.page_files.specs.DecodeRecords.{as_told};
 ghost use Rattle.page_files.specs.Decodings.{IsKept, RefusesDecoding, broken_asked};
 ghost use Rattle.faults.specs.Faults.{IsOutside};
 ghost use Rattle.page_files.specs.PageEnds.{HasItsEnd};
@@ -123,6 +125,42 @@ fn tell_rows<W: Write>(
     Ok(())
 }
 
+/// Writes the line of a page with more rows that are repaired than read, if it is one.
+fn tell_repaired<W: Write>(is_read: bool, writer: &mut W) -> Result<(), ToolFault>
+    ensures told { OnOk result (Appends (W.contents writer.old) (W.contents writer.new) (cond is_read [] few_line)) }
+    ensures fault { IfErr result IsOutside }
+{
+    if is_read {
+        return Ok(());
+    }
+    writeln!(
+        writer,
+        "more rows are repaired than read: identify may tell what it is"
+    )?;
+    Ok(())
+}
+
+/// Reports a page with more rows that are repaired than read, if it is one; returns whether it isn't.
+fn tell_few<W: Write>(
+    alloc: Global,
+    records: bool,
+    rows: usize,
+    repaired: usize,
+    writer: &mut W,
+) -> Result<bool, ToolFault>
+    ensures few { IfOk result (λ is_read. is_read ≡ is_mostly_read rows repaired) }
+    ensures told { OnOk result (Appends (W.contents writer.old) (W.contents writer.new)
+        (as_told records (cond (is_mostly_read rows repaired) [] few_line))) }
+    ensures fault { IfErr result IsOutside }
+{
+    let is_read = repaired <= rows.saturating_sub(repaired);
+    let mut lines = Vec::new(alloc);
+    tell_repaired(is_read, &mut lines)?;
+    let told = told_as(alloc, records, lines)?;
+    writer.write_all(&told)?;
+    Ok(is_read)
+}
+
 /// Writes what is reported of a page that was read to the end of its code, of so many rows and bits, and returns whether the code has its
 /// end.
 fn tell_end<W: Write>(
@@ -182,9 +220,10 @@ pub fn answer_decode(
             let end = Ok(has_end || !options.whole);
             Ok(DecodeAnswer { page, told, end })
         }
-        ReadTo::Lines(_) => {
+        ReadTo::Lines(repaired) => {
             tell_rows(alloc, options, rows, &mut told)?;
-            let end = Ok(true);
+            let is_read = tell_few(alloc, options.records, rows, repaired, &mut told)?;
+            let end = Ok(is_read);
             Ok(DecodeAnswer { page, told, end })
         }
         ReadTo::NoEnd(_) => {

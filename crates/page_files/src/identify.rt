@@ -2,18 +2,22 @@
 
 ghost use Rattle.page_files.specs.Answers.{octets_after};
 ghost use Rattle.faults.specs.Faults.{IsOutside};
-ghost use Rattle.page_files.specs.Identified.{AreTried, Identifies, IsTried, coding_name, fault_said, fits, form_in, form_of, format_among};
-ghost use Rattle.page_files.specs.Identified.{format_line, format_of, formats, forms_in, is_identified, is_page, lacks_eofb, line_of};
-ghost use Rattle.page_files.specs.Identified.{after_words, lines_of, no_page, order_name, said, tried_line, tried_widths};
+ghost use Rattle.page_files.specs.Identified.{AreTried, AreTwoDim, Identifies, IsTried, MendsTo, SaysOwn, TellsIdentity, after_words};
+ghost use Rattle.page_files.specs.Identified.{coding_name, count_of, fits, form_of, format_among, format_line, format_of, forms_in};
+ghost use Rattle.page_files.specs.Identified.{identity_of, lacks_eofb, line_of, lines_of, no_page, nothing_lines, order_name, own_forms};
+ghost use Rattle.page_files.specs.Identified.{tried_line, two_dim_line, wide_line};
+ghost use Rattle.page_files.specs.OwnWidths.{SaysTwoDim};
+ghost use Rattle.raster.specs.Packed.{bits_of};
 ghost use Rattle.raster.specs.Pixels.{IsWidth};
 ghost use Rattle.std.specs.Io.KnownBytes.{Appends};
-ghost use Rattle.std.specs.List.{list_any};
-ghost use Rattle.std.specs.Prelude.{◌≡◌, ◌++◌, All, IfErr, IfOk, OnOk, cond, is_some, map, option_map};
+ghost use Rattle.std.specs.Prelude.{◌≡◌, ◌≤◌, ◌++◌, ℕ, Option, All, IfErr, IfOk, OnOk, length, map, option_map};
 
 use crate::coded::read_code;
 use crate::options::PageForm;
+use crate::own_widths::{own_width, two_dim_width};
 use faults::{FaultKind, NO_MEMORY, ToolFault};
-use page_code::Coding;
+use page_code::{Coding, OneDim, RepairedPage};
+use raster::MAX_WIDTH;
 use run_tables::Order;
 use std::alloc::Global;
 use std::io::Write;
@@ -27,6 +31,8 @@ pub struct Tried {
     pub rows: usize,
     /// The number of bits of the page's code, or the fault of the refused bit.
     pub end: Result<u128, ToolFault>,
+    /// In T.4, of a page that is refused: the number of its rows, if `decode --repair` reads all of them and copies none.
+    pub mended: Option<usize>,
 }
 
 /// How far octets fit a way to read them.
@@ -38,20 +44,36 @@ enum Fit {
     NoEofb,
     /// They read to a page's end, and octets come after it.
     Early,
+    /// They are a page that `decode --repair` reads without a copied row, as one with empty runs at the ends of rows.
+    Mended,
     /// They read to no page's end, but begin with a row.
     Begun,
 }
 
-/// The widths that are tried: those that a call carries, those of A5 and A6 (ITU-T T.30, table 2), and those of Letter and A4 paper at
-/// 200 dots an inch.
+/// What octets are known to be.
+#[derive(Clone, Copy, Debug, PartialEq, Eq)]
+pub enum Identity {
+    /// A format, or a page whose way to be read is known.
+    Known,
+    /// A page whose width isn't known: several ways read it, of which none or several end with the octets.
+    Several,
+    /// Neither a page nor a known format.
+    Nothing(ToolFault),
+}
+
+/// The widths that are tried where the octets say none: those that a call carries, those of A5 and A6 (ITU-T T.30, table 2), and those of
+/// Letter and A4 paper at 200 dots an inch.
 const WIDTHS: [u32; 7] = [1728, 2048, 2432, 1216, 864, 1700, 1654];
 
 /// A format: the octets that its files begin with, and its name.
 #[derive(Clone, Copy)]
 struct Format(&'static [u8], &'static str);
 
+/// The name of bits of a line: flags (ITU-T T.30, 5.3.3; 01111110), from any of their bits on.
+const LINE_BITS: &str = "bits of a line (HDLC flags)";
+
 /// The formats that are known.
-const FORMATS: [Format; 20] = [
+const FORMATS: [Format; 29] = [
     Format(b"II*\0", "TIFF"),
     Format(b"MM\0*", "TIFF"),
     Format(b"II+\0", "BigTIFF"),
@@ -72,6 +94,15 @@ const FORMATS: [Format; 20] = [
     Format(b"\xb1h\xde:", "DCX"),
     Format(b"\x1f\x8b\x08", "gzip"),
     Format(b"PK\x03\x04", "ZIP"),
+    Format(b"\0\0\x01\0\0\0", "JBIG"),
+    Format(b"\x7e\x7e\x7e", LINE_BITS),
+    Format(b"\x3f\x3f\x3f", LINE_BITS),
+    Format(b"\x9f\x9f\x9f", LINE_BITS),
+    Format(b"\xcf\xcf\xcf", LINE_BITS),
+    Format(b"\xe7\xe7\xe7", LINE_BITS),
+    Format(b"\xf3\xf3\xf3", LINE_BITS),
+    Format(b"\xf9\xf9\xf9", LINE_BITS),
+    Format(b"\xfc\xfc\xfc", LINE_BITS),
 ];
 
 /// The name of the first format of a list as which octets begin.
@@ -93,6 +124,26 @@ fn format_of(octets: &[u8]) -> Option<&'static str>
     format_among(&FORMATS, octets)
 }
 
+/// Returns the number of rows of a page of T.4, if `decode --repair` reads all of them and copies none. Errors: `NoMemory` (9).
+fn mended_rows(alloc: Global, octets: &[u8], form: PageForm) -> Result<Option<usize>, ToolFault>
+    requires { IsWidth form.width }
+    ensures rows { IfOk result (MendsTo form.order form.width octets.now) }
+    ensures refused { IfErr result IsOutside }
+{
+    match OneDim::repair(alloc, octets, form.order, form.width, form.fine) {
+        Ok(RepairedPage { page, repaired }) => {
+            let rows = page.rows().len();
+            Ok(if repaired.is_empty() {
+                Some(rows)
+            } else {
+                None
+            })
+        }
+        Err(fault) if fault.is_memory() => Err(NO_MEMORY),
+        Err(_fault) => Ok(None),
+    }
+}
+
 /// Reads octets in one way. Errors: `NoMemory` (9).
 #[tactic(auto, using(crate::proofs::RefusedRows::whole_rows))]
 fn try_way(alloc: Global, octets: &[u8], form: PageForm) -> Result<Tried, ToolFault>
@@ -106,13 +157,28 @@ fn try_way(alloc: Global, octets: &[u8], form: PageForm) -> Result<Tried, ToolFa
         Ok((page, bits)) => {
             let rows = page.rows().len();
             let end = Ok(bits);
-            Ok(Tried { form, rows, end })
+            let mended = None;
+            Ok(Tried {
+                form,
+                rows,
+                end,
+                mended,
+            })
         }
         Err(fault) => match kept {
             Some(code) => {
                 let rows = code.rows as usize;
                 let end = Err(fault);
-                Ok(Tried { form, rows, end })
+                let mended = match form.coding {
+                    Coding::OneDim => mended_rows(alloc, octets, form)?,
+                    Coding::T6 => None,
+                };
+                Ok(Tried {
+                    form,
+                    rows,
+                    end,
+                    mended,
+                })
             }
             None => Err(fault),
         },
@@ -149,13 +215,48 @@ fn try_widths(
     Ok(())
 }
 
-/// Reads octets in all ways that are tried: T.6 and T.4, both bit orders, seven widths; and returns for each how far it reads: the rows and
-/// the bits of the page that the octets begin with, or the fault that `decode` gives and the whole rows before it. Errors: `NoMemory` (9).
-fn try_ways(alloc: Global, octets: &[u8]) -> Result<Vec<Tried>, ToolFault>
-    ensures tried { IfOk result (λ tried. AreTried octets.now tried.items) }
+/// Reads octets in T.4 and one order of bits, at the width that they say themselves, if pages can have it, or else in all widths; appends
+/// how far that is, and returns their own width. Errors: `NoMemory` (9).
+fn try_own(
+    alloc: Global,
+    octets: &[u8],
+    order: Order,
+    tried: &mut Vec<Tried>,
+) -> Result<Option<u128>, ToolFault>
+    ensures own { IfOk result (SaysOwn order octets.now) }
+    ensures forms { IfOk result (λ own. map form_of tried.new.items ≡ map form_of tried.old.items ++ own_forms order own) }
+    ensures each { OnOk result (All (IsTried octets.now) tried.old.items → All (IsTried octets.now) tried.new.items) }
+    ensures refused { IfErr result IsOutside }
+{
+    let own = own_width(octets, order);
+    match own {
+        None => try_widths(alloc, octets, Coding::OneDim, order, &WIDTHS, tried)?,
+        Some(width) if width != 0 && width <= MAX_WIDTH as u128 => {
+            let widths = [width as u32];
+            try_widths(alloc, octets, Coding::OneDim, order, &widths, tried)?;
+        }
+        Some(_) => {}
+    }
+    Ok(own)
+}
+
+/// The widths that octets say themselves in T.4, by the order of bits: if the most significant bit is first, and if the least is.
+#[derive(Clone, Copy, Debug, PartialEq, Eq)]
+struct Said {
+    msb: Option<u128>,
+    lsb: Option<u128>,
+}
+
+/// Reads octets in all ways that are tried: T.4 at its own width, or in seven as T.6, both in both bit orders; and returns for each how far
+/// it reads: the rows and the bits of the page that the octets begin with, or the fault that `decode` gives and the whole rows before it.
+/// Errors: `NoMemory` (9).
+fn try_ways(alloc: Global, octets: &[u8]) -> Result<(Vec<Tried>, Said), ToolFault>
+    ensures tried { IfOk result (λ ways. AreTried octets.now ways.0.items ways.1) }
     ensures refused { IfErr result IsOutside }
 {
     let mut tried = Vec::new(alloc);
+    let msb = try_own(alloc, octets, Order::MsbFirst, &mut tried)?;
+    let lsb = try_own(alloc, octets, Order::LsbFirst, &mut tried)?;
     try_widths(
         alloc,
         octets,
@@ -172,23 +273,7 @@ fn try_ways(alloc: Global, octets: &[u8]) -> Result<Vec<Tried>, ToolFault>
         &WIDTHS,
         &mut tried,
     )?;
-    try_widths(
-        alloc,
-        octets,
-        Coding::OneDim,
-        Order::MsbFirst,
-        &WIDTHS,
-        &mut tried,
-    )?;
-    try_widths(
-        alloc,
-        octets,
-        Coding::OneDim,
-        Order::LsbFirst,
-        &WIDTHS,
-        &mut tried,
-    )?;
-    Ok(tried)
+    Ok((tried, Said { msb, lsb }))
 }
 
 /// The name of a code.
@@ -258,22 +343,29 @@ fn tell_tried<W: Write>(octets: &[u8], tried: &Tried, writer: &mut W) -> Result<
             writer,
             "{coding}, {order}, width {width}, {rows} rows, without EOFB"
         )?,
-        Err(fault) => writeln!(
-            writer,
-            "{coding}, {order}, width {width}: {fault} after {rows} rows"
-        )?,
+        Err(fault) => match tried.mended {
+            Some(all) => writeln!(
+                writer,
+                "{coding}, {order}, width {width}, {all} rows, by decode --repair"
+            )?,
+            None => writeln!(
+                writer,
+                "{coding}, {order}, width {width}: {fault} after {rows} rows"
+            )?,
+        },
     }
     Ok(())
 }
 
 /// Returns whether octets fit a way so far.
 fn fits(fit: Fit, octets: &[u8], tried: &Tried) -> bool
-    ensures { result ≡ fits fit octets.now tried.now.rows tried.now.end }
+    ensures { result ≡ fits fit octets.now tried.now.rows tried.now.end tried.now.mended }
 {
     match (fit, tried.end) {
         (Fit::Whole, Ok(bits)) => octets_after(octets, bits) == 0,
         (Fit::NoEofb, Err(_fault)) => lacks_eofb(tried.rows, tried.end),
         (Fit::Early, Ok(bits)) => octets_after(octets, bits) != 0,
+        (Fit::Mended, Err(_fault)) => tried.mended.is_some(),
         (Fit::Begun, Err(_fault)) => tried.rows != 0,
         _ => false,
     }
@@ -311,16 +403,67 @@ fn tell_those<W: Write>(
     Ok(())
 }
 
-/// Returns whether octets are a page in one of these ways, at least without its EOFB.
-fn has_page(tried: &[Tried]) -> bool
-    ensures { result ≡ list_any is_page tried.now }
+/// Returns how many ways octets fit so far.
+fn count_of(fit: Fit, octets: &[u8], tried: &[Tried]) -> u128
+    ensures count { result ≡ count_of fit octets.now tried.now }
+    ensures few { result ≤ length tried.now }
 {
+    let _ways = tried.len(); // shows the proof that the count fits
+    let mut count = 0;
     for one in tried {
-        if one.end.is_ok() || lacks_eofb(one.rows, one.end) {
-            return true;
+        if fits(fit, octets, one) {
+            count += 1;
         }
     }
-    false
+    count
+}
+
+/// Writes the line of a width that octets say themselves in T.4, if no page can have it since it is too wide.
+fn tell_wide<W: Write>(order: Order, own: Option<u128>, writer: &mut W) -> Result<(), ToolFault>
+    ensures told { OnOk result (Appends (W.contents writer.old) (W.contents writer.new) (wide_line order own)) }
+    ensures fault { IfErr result IsOutside }
+{
+    match own {
+        Some(width) if width > MAX_WIDTH as u128 => {
+            let order = order_name(order);
+            writeln!(writer, "T.4, {order}, width {width}: wider than 2432")?;
+        }
+        _ => {}
+    }
+    Ok(())
+}
+
+/// Writes the line of a width that octets say themselves in T.4 in two dimensions, if they say one.
+fn tell_two_dim_width<W: Write>(
+    order: Order,
+    said: Option<u128>,
+    writer: &mut W,
+) -> Result<(), ToolFault>
+    ensures told { OnOk result (Appends (W.contents writer.old) (W.contents writer.new) (two_dim_line order said)) }
+    ensures fault { IfErr result IsOutside }
+{
+    match said {
+        Some(width) if width > 0 => {
+            let order = order_name(order);
+            writeln!(
+                writer,
+                "T.4 in two dimensions (MR), {order}, width {width}: not read"
+            )?;
+        }
+        _ => {}
+    }
+    Ok(())
+}
+
+/// Writes the line of a page of T.4 in two dimensions, if octets begin as one.
+fn tell_two_dim<W: Write>(octets: &[u8], order: Order, writer: &mut W) -> Result<(), ToolFault>
+    ensures told { OnOk result ((said : Option ℕ) × SaysTwoDim (bits_of order octets.now) said
+        × Appends (W.contents writer.old) (W.contents writer.new) (two_dim_line order said)) }
+    ensures fault { IfErr result IsOutside }
+{
+    let said = two_dim_width(octets, order);
+    tell_two_dim_width(order, said, writer)?;
+    Ok(())
 }
 
 /// Writes the line of a format, if it is known.
@@ -346,29 +489,87 @@ fn no_page(octets: &[u8]) -> ToolFault
     }
 }
 
+/// Returns what octets are known to be, by the format that they begin as and the ways that they read in.
+fn identity_of(format: Option<&str>, octets: &[u8], tried: &[Tried]) -> Identity
+    ensures { result ≡ identity_of (option_map (λ name. name.now) format.entry) octets.now tried.now }
+{
+    let _ways = tried.len(); // shows the proof that the sums fit
+    let whole = count_of(Fit::Whole, octets, tried);
+    let early = count_of(Fit::Early, octets, tried);
+    let other = count_of(Fit::NoEofb, octets, tried) + count_of(Fit::Mended, octets, tried);
+    let pages = whole + early + other;
+    if format.is_some() {
+        Identity::Known
+    } else if pages == 0 {
+        Identity::Nothing(no_page(octets))
+    } else if pages == 1 || whole == 1 {
+        Identity::Known
+    } else {
+        Identity::Several
+    }
+}
+
+/// Writes what is said of octets that are nothing that is known: how far each way came, and what they may be that isn't read.
+fn tell_nothing<W: Write>(
+    octets: &[u8],
+    tried: &[Tried],
+    said: Said,
+    writer: &mut W,
+) -> Result<(), ToolFault>
+    ensures told { OnOk result ((msb lsb : Option ℕ) × AreTwoDim octets.now msb lsb
+        × Appends (W.contents writer.old) (W.contents writer.new) (nothing_lines octets.now tried.now said msb lsb)) }
+    ensures fault { IfErr result IsOutside }
+{
+    // octets of no fax at all have a few rows of T.6 by chance, so these lines don't say that it is a page
+    tell_those(Fit::Begun, octets, tried, writer)?;
+    tell_wide(Order::MsbFirst, said.msb, writer)?;
+    tell_wide(Order::LsbFirst, said.lsb, writer)?;
+    tell_two_dim(octets, Order::MsbFirst, writer)?;
+    tell_two_dim(octets, Order::LsbFirst, writer)?;
+    Ok(())
+}
+
+/// Writes what is said besides, after the lines of the ways.
+fn tell_identity<W: Write>(
+    identity: Identity,
+    octets: &[u8],
+    tried: &[Tried],
+    said: Said,
+    writer: &mut W,
+) -> Result<(), ToolFault>
+    ensures told { OnOk result (TellsIdentity octets.now tried.now said identity (W.contents writer.old) (W.contents writer.new)) }
+    ensures fault { IfErr result IsOutside }
+{
+    match identity {
+        Identity::Known => {}
+        Identity::Several => writeln!(writer, "the width is not known")?,
+        Identity::Nothing(_fault) => tell_nothing(octets, tried, said, writer)?,
+    }
+    Ok(())
+}
+
 /// Writes the format that octets begin as, if it is known, and a line for each way in which they read as a page: first those without octets
-/// after it, then those without EOFB, then those with octets after it. With neither, writes how far each way reads that has a first row,
-/// and returns the fault: `NoPages` (7) if there is no octet, otherwise `Unidentified` (29). Errors: `Io` (8) from the writer, `NoMemory`
-/// (9).
+/// after it, then those without EOFB, then those with octets after it, then those of `decode --repair`. Where several ways read, says that
+/// the width isn't known, unless one of them alone ends with the octets. With neither, writes how far each way reads that has a first row,
+/// a width that no page can have, and that it begins as T.4 in two dimensions; then the identity has the fault: `NoPages` (7) if there is
+/// no octet, otherwise `Unidentified` (29). Errors: `Io` (8) from the writer, `NoMemory` (9).
 pub fn identify_engine<W: Write>(
     alloc: Global,
     octets: &[u8],
     writer: &mut W,
-) -> Result<Option<ToolFault>, ToolFault>
+) -> Result<Identity, ToolFault>
     ensures identified { IfOk result (Identifies octets.now (W.contents writer.old) (W.contents writer.new)) }
     ensures refused { IfErr result IsOutside }
 {
     // pages are tried even if a format is known, since a page may begin so by chance
     let format = format_of(octets);
-    let tried = try_ways(alloc, octets)?;
+    let (tried, said) = try_ways(alloc, octets)?;
     tell_format(format, writer)?;
     tell_those(Fit::Whole, octets, &tried, writer)?;
     tell_those(Fit::NoEofb, octets, &tried, writer)?;
     tell_those(Fit::Early, octets, &tried, writer)?;
-    if format.is_some() || has_page(&tried) {
-        return Ok(None);
-    }
-    // octets of no fax at all have a few rows of T.6 by chance, so these lines don't say that it is a page
-    tell_those(Fit::Begun, octets, &tried, writer)?;
-    Ok(Some(no_page(octets)))
+    tell_those(Fit::Mended, octets, &tried, writer)?;
+    let identity = identity_of(format, octets, &tried);
+    tell_identity(identity, octets, &tried, said, writer)?;
+    Ok(identity)
 }

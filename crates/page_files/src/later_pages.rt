@@ -1,9 +1,9 @@
 //! Pages of a file one after another, and which of them is decoded.
 
-ghost use Rattle.page_files.specs.Decodings.{IsKept, RefusesDecoding, RefusesKept, broken_asked};
+ghost use Rattle.page_files.specs.Decodings.{IsKept, RefusesKept};
 ghost use Rattle.faults.specs.Faults.{IsOutside};
-ghost use Rattle.page_files.specs.LaterPages.{AfterPage, AnswersPage, AnswersReached, AreAfter, IsFrom, IsLater, IsLaterOneDim, IsLaterT6, Reaches};
-ghost use Rattle.page_files.specs.LaterPages.{KeepsPage, KeepsReached, begins_text, broken_line, pages_line};
+ghost use Rattle.page_files.specs.LaterPages.{AfterPage, AnswersPage, AnswersReached, IsFrom, IsLater, IsLaterOneDim, IsLaterT6, Reaches};
+ghost use Rattle.page_files.specs.LaterPages.{KeepsPage, KeepsReached, RefusesReached, begins_text, broken_line, pages_line};
 ghost use Rattle.page_code.specs.OneDimension.Fronts.{zeros_before};
 ghost use Rattle.page_code.specs.PageReaders.{IsPageRefused};
 ghost use Rattle.raster.specs.Packed.{bits_of, place_in};
@@ -11,7 +11,7 @@ ghost use Rattle.raster.specs.Pixels.{IsWidth};
 ghost use Rattle.std.specs.Int.{bit_at};
 ghost use Rattle.std.specs.Io.KnownBytes.{Appends};
 ghost use Rattle.std.specs.Prelude.{false, None, ◌≡◌, ◌≤◌, ◌<◌, ◌+◌, ◌-◌, ◌*◌, ◌⊎◌, ℕ};
-ghost use Rattle.std.specs.Prelude.{IfErr, IfOk, IfSome, OnErr, OnOk, drop, length};
+ghost use Rattle.std.specs.Prelude.{◌↔◌, IfErr, IfOk, IfSome, IsTrue, OnErr, OnOk, drop, length};
 
 use crate::answer::{DecodeAnswer, answer_decode};
 use crate::coded::read_code;
@@ -39,10 +39,10 @@ enum Reached {
 const FEWER_PAGES: ToolFault = ToolFault::No(28);
 
 /// The 0 bits of an EOL without fill (ITU-T T.4, 4.1.2).
-const EOL_ZEROS: u128 = 11;
+pub(crate) const EOL_ZEROS: u128 = 11;
 
 /// Returns the number of 0 bits before the first 1 from a place on; None if no 1 follows.
-fn zeros_at(octets: &[u8], order: Order, place: u128) -> Option<u128>
+pub(crate) fn zeros_at(octets: &[u8], order: Order, place: u128) -> Option<u128>
     requires { place ≤ 8 * length octets.now }
     ensures zeros { result ≡ zeros_before (drop place (bits_of order octets.now)) }
     ensures within { IfSome result (λ zeros. place + zeros < 8 * length octets.now) }
@@ -237,8 +237,15 @@ fn tell_broken<W: Write>(number: u32, octet: usize, writer: &mut W) -> Result<()
     Ok(())
 }
 
+/// Returns whether a fault says nothing of the octets: `Io` (8) or `NoMemory` (9).
+fn is_outside(fault: ToolFault) -> bool
+    ensures { IsTrue result ↔ IsOutside fault }
+{
+    matches!(fault, ToolFault::No(8 | 9))
+}
+
 /// Decodes octets that begin with the page of this number as `answer_decode` does; if asked for, reports first at which octet of the file
-/// they begin.
+/// they begin, also where they are refused.
 fn answer_reached(
     alloc: Global,
     octets: &[u8],
@@ -250,9 +257,9 @@ fn answer_reached(
     requires { IsWidth form.width }
     ensures known { IfSome kept.new (IsPageRefused form.coding form.width (bits_of form.order octets.now)) }
     ensures answered { IfOk result (λ answer.
-        AnswersReached form options at.0 at.1 octets.now answer.page answer.told.items answer.end) }
-    ensures refused { IfErr result (λ fault. IsOutside fault
-        ⊎ RefusesDecoding (broken_asked options.salvage options.repair) form octets.now fault) }
+        AnswersReached form options at.0 at.1 octets.now answer.page answer.told.items answer.end
+        ⊎ RefusesReached form options at.0 at.1 octets.now answer.page answer.told.items answer.end) }
+    ensures refused { IfErr result IsOutside }
     ensures kept { options.repair ≡ false → IfErr result (IsKept kept.new) }
     ensures kept_rows { options.repair ≡ false → IfOk result (λ answer. IfErr answer.end (IsKept kept.new)) }
 {
@@ -260,23 +267,32 @@ fn answer_reached(
     let (page, octet) = at;
     *kept = None;
     tell_begins(alloc, options, page, octet, &mut begun)?;
-    let DecodeAnswer {
-        page: decoded,
-        told,
-        end,
-    } = answer_decode(alloc, octets, form, options, kept)?;
-    begun.write_all(&told)?;
-    Ok(DecodeAnswer {
-        page: decoded,
-        told: begun,
-        end,
-    })
+    match answer_decode(alloc, octets, form, options, kept) {
+        Ok(decoded) => {
+            let DecodeAnswer { page, told, end } = decoded;
+            begun.write_all(&told)?;
+            Ok(DecodeAnswer {
+                page,
+                told: begun,
+                end,
+            })
+        }
+        Err(fault) if is_outside(fault) => Err(fault),
+        Err(fault) => {
+            let page = Page::new(alloc, form.width, form.fine)?;
+            Ok(DecodeAnswer {
+                page,
+                told: begun,
+                end: Err(fault),
+            })
+        }
+    }
 }
 
 /// Decodes page `page`, counted from 1, of octets with pages of `form` one after another, as `answer_decode` decodes the first. The octets
 /// then begin with that page, and bits are counted from its first octet on. If the file has fewer pages, reports how many, with
-/// `FewerPages` (28); if a page before it can't be read, reports its number, with its fault. Errors, and `kept`, are those of
-/// `answer_decode`.
+/// `FewerPages` (28); if a page before it can't be read, reports its number, with its fault; a refusal is the answer's end. `kept` is that
+/// of `answer_decode`. Errors: `NoMemory` (9).
 pub fn answer_page(
     alloc: Global,
     octets: &mut Vec<u8>,
@@ -289,8 +305,7 @@ pub fn answer_page(
     ensures known { IfSome kept.new (IsPageRefused form.coding form.width (bits_of form.order octets.new.items)) }
     ensures answered { IfOk result (λ answer.
         AnswersPage form options page octets.old.items octets.new.items answer.page answer.told.items answer.end) }
-    ensures refused { IfErr result (λ fault. IsOutside fault ⊎ (AreAfter form octets.old.items (page - 1) octets.new.items
-        × RefusesDecoding (broken_asked options.salvage options.repair) form octets.new.items fault)) }
+    ensures refused { IfErr result IsOutside }
     ensures kept { options.repair ≡ false → IfErr result (IsKept kept.new) }
     ensures kept_rows { options.repair ≡ false → IfOk result (λ answer. IfErr answer.end (KeepsPage kept.new)) }
 {

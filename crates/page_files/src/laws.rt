@@ -1,9 +1,15 @@
 //! Laws of the definitions. Nothing runs.
 
+ghost use Rattle.page_files.specs.OwnWidths.{PagesSayWidths};
 ghost use Rattle.page_files.specs.RepairsMean.{RowsAreListed, TornIsOneBitOff};
 
 /// The lines written for repaired rows, by three lists; and each torn EOL that ends a line has one wrong bit, among its first eleven.
 pub fn repairs_mean()
     ensures rows { RowsAreListed }
     ensures torn { TornIsOneBitOff }
+{}
+
+/// A page of T.4 says its width, so that `identify` needs no list of widths for it (ITU-T T.4, 4.1.2).
+pub fn own_widths()
+    ensures { PagesSayWidths }
 {}

@@ -9,6 +9,7 @@ mod identify;
 mod later_pages;
 pub mod laws;
 mod options;
+mod own_widths;
 mod page_end;
 mod pages;
 mod refused;
@@ -18,9 +19,10 @@ mod repair_t6;
 pub use crate::answer::DecodeAnswer;
 pub use crate::coded::{read_image, write_code};
 pub use crate::decoding::Broken;
-pub use crate::identify::{Tried, identify_engine};
+pub use crate::identify::{Identity, Tried, identify_engine};
 pub use crate::later_pages::answer_page;
 pub use crate::options::{DecodeOptions, PageForm};
+pub use crate::own_widths::own_width;
 pub use crate::pages::{
     Salvage, code_engine, decode_engine, salvage_engine, show_engine, show_page, write_some,
 };

@@ -1,6 +1,7 @@
 //! The command `decode`.
 
-ghost use Rattle.faxtool.specs.Runs.{IsAnswered, IsUnanswered};
+ghost use Rattle.faults.specs.Faults.{IsOutside};
+ghost use Rattle.faxtool.specs.Runs.{IsAnswered};
 ghost use Rattle.raster.specs.Pixels.{IsWidth};
 ghost use Rattle.std.specs.Prelude.{IfErr, IfOk};
 
@@ -77,7 +78,7 @@ impl DecodeCommand {
     fn answer(&self, context: &mut Context<'_>) -> Result<DecodeAnswer, ToolFault>
         requires { IsWidth self.now.form.width }
         ensures answered { IfOk result (λ answer. IsAnswered self.now answer.end) }
-        ensures refused { IfErr result (IsUnanswered self.now) }
+        ensures refused { IfErr result IsOutside }
     {
         let ways = Ways::of(self.form, self.options.repair);
         let mut octets = read_coded(context, self.input.as_str(), ways, Watch::Shown)?;

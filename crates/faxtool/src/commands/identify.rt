@@ -7,7 +7,7 @@ use crate::files::bounded::{Ways, read_coded};
 use crate::files::printed;
 use crate::files::progress::Watch;
 use faults::ToolFault;
-use page_files::{PageForm, identify_engine};
+use page_files::{Identity, PageForm, identify_engine};
 use std::alloc::AllocError;
 
 /// Prints as which format a file begins, and in which ways it reads as a page.
@@ -48,11 +48,12 @@ impl Runs for IdentifyCommand {
         let identified = identify_engine(context.alloc(), octets.as_slice(), &mut writer);
         context.keep_octets(octets);
         let printed = printed::end_print(context, writer, identified.is_ok());
-        let fault = identified?;
+        let identity = identified?;
         printed?;
-        match fault {
-            Some(fault) => Err(fault),
-            None => Ok(Completeness::Whole),
+        match identity {
+            Identity::Known => Ok(Completeness::Whole),
+            Identity::Several => Ok(Completeness::Lacking),
+            Identity::Nothing(fault) => Err(fault),
         }
     }
 }

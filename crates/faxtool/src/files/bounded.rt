@@ -3,14 +3,14 @@
 ghost use Rattle.faults.specs.Faults.{IsOutside};
 ghost use Rattle.raster.specs.Pixels.{IsWidth};
 ghost use Rattle.faxtool.specs.Bounds.{HavePageWidths};
-ghost use Rattle.std.specs.Prelude.{All, IfErr};
+ghost use Rattle.std.specs.Prelude.{IfErr};
 
 use crate::context::{Cause, Context, Part};
 use crate::files::input::{self, Source};
 use crate::files::progress::Watch;
 use faults::{FAILED, ToolFault};
 use page_code::{CodesPages, Coding, PageRead};
-use page_files::PageForm;
+use page_files::{PageForm, own_width};
 use run_tables::Order;
 use std::alloc::{AllocError, Global};
 use std::io::{ErrorKind, Read};
@@ -30,7 +30,7 @@ const LOOKS: [usize; 3] = [1_048_576, 8_388_608, 67_108_864];
 /// line of 5 s, the longest of ITU-T T.4, has 168,000 bits at most.
 const FAR: u128 = 2_097_152;
 
-/// The widths that `identify_engine` tries.
+/// The widths in which `identify_engine` tries T.6.
 const TRIED_WIDTHS: [u32; 7] = [1728, 2048, 2432, 1216, 864, 1700, 1654];
 
 /// The ways in which octets are read as a page.
@@ -158,32 +158,23 @@ fn is_no_page(alloc: Global, octets: &[u8], ways: Ways) -> Result<bool, AllocErr
     }
 }
 
-/// Returns whether octets are refused far before their end in all ways that `identify` tries. Errors: memory was refused.
+/// Returns whether `identify` makes nothing of octets, however many follow: they don't begin with a row of T.4 and an EOL, since `decode
+/// --repair` takes rows of T.4 anywhere, and are refused in T.6 far before their end. Errors: memory was refused.
 fn is_tried_in_vain(alloc: Global, octets: &[u8]) -> Result<bool, AllocError> {
     for order in [Order::MsbFirst, Order::LsbFirst] {
-        for coding in [Coding::T6, Coding::OneDim] {
-            if !are_refused_early(alloc, octets, coding, order, &TRIED_WIDTHS)? {
-                return Ok(false);
-            }
+        if own_width(octets, order).is_some() || !are_refused_early(alloc, octets, order)? {
+            return Ok(false);
         }
     }
     Ok(true)
 }
 
-fn are_refused_early(
-    alloc: Global,
-    octets: &[u8],
-    coding: Coding,
-    order: Order,
-    widths: &[u32],
-) -> Result<bool, AllocError>
-    requires { All IsWidth widths.now }
-{
-    for width in widths {
+fn are_refused_early(alloc: Global, octets: &[u8], order: Order) -> Result<bool, AllocError> {
+    for width in TRIED_WIDTHS {
         let form = PageForm {
-            coding,
+            coding: Coding::T6,
             order,
-            width: *width,
+            width,
             fine: false,
         };
         if !is_refused_early(alloc, octets, form)? {
