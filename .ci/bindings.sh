@@ -152,8 +152,12 @@ done
 answerers=0 talks=
 for words in "$top"/.ci/conversations/*.words; do
     talk=${words%.words}
-    # those by other options, and with a line that is none, are for faxtool
-    if [ "$(cat "$words")" != '--answer --out DIR' ] || grep -q '^fault' "$talk.error"; then continue; fi
+    # those by other options, with a line that is none, and with a caller that is refused, are for faxtool
+    case "$(cat "$words")" in
+        '--answer --out DIR' | '--answer --no-refuse --out DIR') ;;
+        *) continue ;;
+    esac
+    if grep -q -e '^fault' -e '^end refused' "$talk.error"; then continue; fi
     end=1
     grep -q '^end normal ' "$talk.error" && end=0
     gives "$end" answer "$work/stored.pbm" < "$talk.lines"

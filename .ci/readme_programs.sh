@@ -1,6 +1,6 @@
 #!/bin/sh
 # Compiles and runs the first programs of bindings/README.md in C and in Python as they stand there, with the library for C that
-# bindings/build.sh left in a folder:
+# bindings/build.sh left in a folder, and compiles its loop of a call:
 #
 #     .ci/readme_programs.sh FOLDER
 #
@@ -46,6 +46,16 @@ takes c "$work/readme/program.c"
     "$lib/crtbeginS.o" "$work/readme/program.o" "$work/libg3fax.a" --whole-archive "$kit/c/asan.a" --no-whole-archive "$lib/libc.so.6" \
     "$lib/libc_nonshared.a" "$lib/libm.so.6" "$lib/ld-linux-x86-64.so.2" "$lib/libgcc_s.so.1" "$lib/libgcc.a" "$lib/crtendS.o"
 runs C ./program
+# the loop of a call, over a modem that is only declared
+{
+    printf '#include "g3fax.h"\ntypedef struct modem modem;\nuint64_t modem_now(modem *);\nint modem_is_quiet(modem *);\n'
+    printf 'g3_status modem_listen(modem *, const g3_state *, g3_terminal *), store_pages(g3_terminal *), modem_send(modem *, g3_terminal *);\n'
+    printf 'g3_status talk(g3_terminal *terminal, modem *line);\n'
+    sed -n '/^## A call/,/^## /p' "$page" | sed -n '/^```c$/,/^```$/p' | sed '1d;$d'
+} > "$work/readme/loop.c"
+grep -q 'g3_terminal_tick' "$work/readme/loop.c" || fails "bindings/README.md has no loop of a call"
+"$kit/toolchain/bin/clang" -std=c11 -Wall -Wextra -Werror -nostdinc -isystem "$top/bindings/include" -I "$work" -c "$work/readme/loop.c" \
+    -o "$work/readme/loop.o" || fails "the loop of a call isn't built"
 takes python "$work/readme/program.py"
 runs Python env PYTHONDONTWRITEBYTECODE=1 PYTHONPATH="$top/bindings/python" G3FAX_LIBRARY="$work/libg3fax.so.0" python3 -W error program.py
-echo "readme programs: the first ones of bindings/README.md, in C and in Python, run as they stand there"
+echo "readme programs: the first ones of bindings/README.md, in C and in Python, run as they stand there, and its loop of a call is built"

@@ -36,6 +36,8 @@ g3_status g3_core_terminal_hear_frame(handle *, const uint8_t *, size_t);
 g3_status g3_core_terminal_hear_training(handle *, const uint8_t *, size_t);
 g3_status g3_core_terminal_wait_over(handle *, uint32_t);
 uint32_t g3_core_wait_millis(uint32_t);
+g3_status g3_core_terminal_tick(handle *, uint64_t, uint32_t);
+g3_status g3_core_terminal_due(handle *, uint64_t *);
 g3_status g3_core_terminal_set_busy(handle *, uint32_t);
 g3_status g3_core_terminal_stop(handle *);
 g3_status g3_core_terminal_hang_up(handle *);
@@ -269,6 +271,16 @@ g3_status g3_terminal_wait_over(g3_terminal *terminal, uint32_t wait)
     return g3_core_terminal_wait_over((handle *)terminal, wait);
 }
 uint32_t g3_wait_millis(uint32_t wait) { return g3_core_wait_millis(wait); }
+g3_status g3_terminal_tick(g3_terminal *terminal, uint64_t now, uint32_t line)
+{
+    HANDLE(terminal);
+    return g3_core_terminal_tick((handle *)terminal, now, line);
+}
+g3_status g3_terminal_due(const g3_terminal *terminal, uint64_t *at)
+{
+    HANDLE(terminal); PLACE(at);
+    return g3_core_terminal_due(READ(terminal), at);
+}
 g3_status g3_terminal_set_busy(g3_terminal *terminal, uint32_t is)
 {
     HANDLE(terminal);

@@ -234,6 +234,15 @@ enum { G3_T1 = 1, G3_T2 = 2, G3_T4 = 4, G3_T5 = 5 };
 G3_CHECK g3_status g3_terminal_wait_over(g3_terminal *terminal, uint32_t wait);
 /* How long a wait runs, in milliseconds; 0 for a number that is no wait. */
 uint32_t g3_wait_millis(uint32_t wait);
+
+/* what the line of a call is at a tick: nothing is on it; or a carrier of either station is, or has just ended */
+enum { G3_QUIET = 1, G3_CARRIER = 2 };
+/* Tells a terminal the time, in milliseconds since its call was set up, and what the line is: a wait that is over on a quiet line ends. Call
+ * it when the line changes, after each burst that was sent, and when g3_terminal_due says; g3_terminal_wait_over isn't called then. Frames and
+ * checks that were heard since the last tick are heard now. G3_BAD_CHOICE: no such line, or a time before that of the last tick. */
+G3_CHECK g3_status g3_terminal_tick(g3_terminal *terminal, uint64_t now, uint32_t line);
+/* When the next wait is over, by the time of the ticks, if the line stays as it is and nothing comes. G3_NOTHING: no wait runs. */
+G3_CHECK g3_status g3_terminal_due(const g3_terminal *terminal, uint64_t *at);
 /* Whether an answerer can't take pages for now. */
 G3_CHECK g3_status g3_terminal_set_busy(g3_terminal *terminal, uint32_t is);
 /* Ends the call in order: DCN is to be sent in place of what was. */

@@ -8,42 +8,32 @@
 static char line[1 << 19], word[16], name[16], kind[16];
 static uint8_t octets[1 << 23]; /* a burst, or an image */
 static g3_terminal terminal = G3_EMPTY;
-static unsigned long long now, calm, heard; /* milliseconds: the line's time, since when all is quiet, the last good frame's time */
-static int is_calm, begun;
-
-/* The wait that is over ends: the longer one runs from the last good frame, the other one while all is quiet. */
-static g3_status quiet(const g3_state *state)
-{
-    if (!is_calm) calm = now, is_calm = 1;
-    if (!begun) return begun = now >= 1000, G3_OK;
-    if (state->longer != 0 && heard + g3_wait_millis(state->longer) <= now) return g3_terminal_wait_over(&terminal, state->longer);
-    if (state->wait != 0 && calm + g3_wait_millis(state->wait) <= now) return g3_terminal_wait_over(&terminal, state->wait);
-    return G3_OK;
-}
+static unsigned long long now; /* the line's time, in milliseconds */
+static int begun;
 
 /* A burst has come. It is heard where it came by a carrier that the station listens for. */
 static g3_status receive(const g3_state *state, const char *hex)
 {
-    g3_state after = *state;
     uint32_t carrier = 9, check = strcmp(kind, "raw") == 0, length = 0;
     for (char digits[3] = ""; (digits[0] = hex[0]) > ' ' && (digits[1] = hex[1]) > ' '; hex += 2)
         octets[length++] = (uint8_t)strtoul(digits, NULL, 16);
     while (carrier > 0 && strcmp(name, g3_carrier_name(carrier)) != 0) carrier--;
     int awaited = state->carrier == carrier && (check ? state->listens == G3_HEARS_CHECK : state->listens >= G3_HEARS_PAGES);
     if (!begun || !(awaited || (carrier == G3_V21 && !check))) return G3_OK;
-    g3_status status = (check ? g3_terminal_hear_training : g3_terminal_hear)(&terminal, octets, length);
-    if (status == G3_OK) status = g3_terminal_state(&terminal, &after);
-    if (check || after.frames > state->frames) heard = now;
-    return status;
+    return (check ? g3_terminal_hear_training : g3_terminal_hear)(&terminal, octets, length);
 }
 
-/* What a line says. */
+/* What a line says. A wait is over on a quiet line alone, and what has come counts at the line's time. */
 static g3_status take(const g3_state *state)
 {
     int hex = 0, words = sscanf(line, "%15s %llu %15s %15s %*u %n", word, &now, name, kind, &hex);
-    if (words == 4 && strcmp(word, "rx") == 0) return is_calm = 0, receive(state, line + hex);
-    if (strcmp(word, "quiet") == 0) return quiet(state);
-    if (strcmp(word, "busy") == 0) is_calm = 0;
+    int is_quiet = strcmp(word, "quiet") == 0, has_come = words == 4 && strcmp(word, "rx") == 0;
+    g3_status status = has_come ? receive(state, line + hex) : G3_OK;
+    if (is_quiet && now >= 1000) begun = 1;
+    if (has_come || is_quiet || strcmp(word, "busy") == 0) {
+        g3_status ticks = g3_terminal_tick(&terminal, now, is_quiet ? G3_QUIET : G3_CARRIER);
+        return status == G3_OK ? ticks : status;
+    }
     if (strcmp(word, "not-ready") == 0 || strcmp(word, "ready") == 0) return g3_terminal_set_busy(&terminal, word[0] == 'n');
     if (strcmp(word, "stop") == 0) return begun = 1, g3_terminal_stop(&terminal);
     return strcmp(word, "end") == 0 ? g3_terminal_lost(&terminal) : G3_OK;
@@ -76,7 +66,6 @@ static g3_status say(g3_state *state)
     if (status != G3_OK) return status;
     printf("tx %s %s %llu ", g3_carrier_name(burst.carrier), burst.check ? "raw" : "hdlc", (unsigned long long)burst.bits);
     for (uint64_t at = 0; at < count; at++) printf("%02X", octets[at]);
-    is_calm = 0;
     return printf("\n"), say(state);
 }
 

@@ -482,6 +482,25 @@ class Calls(unittest.TestCase):
                 caller.wait_over(here.wait)
         self.fail("the call doesn't end")
 
+    def test_clock(self):
+        """T2 runs from the first quiet tick on, and DIS is sent again when it is over; a carrier ends it, and T1 runs on."""
+        with g3fax.Answerer() as answerer:
+            answerer.next_burst()
+            answerer.tick(1000)
+            self.assertEqual(answerer.due, 8000)
+            answerer.tick(5000, carrier=True)
+            self.assertEqual(answerer.due, 35000)
+            answerer.tick(6000)
+            answerer.tick(12999)
+            self.assertIsNone(answerer.next_burst())
+            answerer.tick(13000)
+            self.assertEqual(answerer.next_burst().carrier, Carrier.V21)
+            self.fault(104, answerer.tick, 12999)
+            with self.assertRaises(ValueError):
+                answerer.tick(1 << 64)
+            answerer.lost()
+            self.assertIsNone(answerer.due)
+
     @staticmethod
     def document():
         rows = [bytes((row * column) % 251 for column in range(216)) for row in range(40)]

@@ -152,6 +152,18 @@ static void tells(g3_terminal *of)
     if (grown != before) printf("what is told takes memory\n"), bad = 1;
 }
 
+/* A terminal with nothing to send takes no memory to say so: it answers the same while every growth is refused. */
+static void is_through(g3_terminal *of)
+{
+    g3_octets octets = G3_EMPTY;
+    g3_burst burst = G3_INIT(g3_burst);
+    unsigned long before = grown, was = refused;
+    refused = grown + 1;
+    g3_status status = g3_terminal_next_burst(of, &octets, &burst);
+    if (status != G3_NOTHING || grown != before) printf("nothing is sent: %u, %lu growths\n", status, grown - before), bad = 1;
+    grown = before, refused = was;
+}
+
 /* One station says its turn to the other one. Tells how many bursts there were. */
 static unsigned say(g3_terminal *from, g3_terminal *to, int by_frames)
 {
@@ -163,7 +175,7 @@ static unsigned say(g3_terminal *from, g3_terminal *to, int by_frames)
         uint64_t size = 0;
         g3_status status = g3_terminal_next_burst(from, &octets, &burst);
         if (status == G3_NO_MEMORY) status = g3_terminal_next_burst(from, &octets, &burst);
-        if (status == G3_NOTHING) return said;
+        if (status == G3_NOTHING) return is_through(from), said;
         if (status != G3_OK) printf("growth %lu refused: a burst: %u\n", refused, status), bad = 1;
         DOES(g3_octets_copy(&octets, again, sizeof again, &size));
         g3_octets_free(&octets);
@@ -190,22 +202,23 @@ static void calls(int by_frames)
     g3_caps caps = {G3_V17, 1, 1, 2432, 2};
     g3_wish wish = {G3_V17, G3_MH, 64};
     g3_state here = G3_INIT(g3_state), there = here;
-    uint64_t count = 0;
+    uint64_t count = 0, now = 0;
     DOES(g3_page_new(&page, 1728, 1));
     for (unsigned row = 0; row < 6; row++) DOES(g3_page_push_row(&page, image + row, 216));
     DOES(g3_document_new(&document));
     DOES(g3_document_push(&document, &page));
     DOES(g3_answerer_new(&answerer, &caps));
     DOES(g3_caller_new(&caller, &document, &wish));
-    for (unsigned turns = 0; turns < 40 && (here.end == 0 || there.end == 0); turns++) {
+    for (unsigned turns = 0; turns < 60 && (here.end == 0 || there.end == 0); turns++) {
         unsigned said = say(&answerer, &caller, 0);
         said += say(&caller, &answerer, by_frames);
         tells(&caller);
         tells(&answerer);
         DOES(g3_terminal_state(&caller, &here));
         DOES(g3_terminal_state(&answerer, &there));
-        if (said == 0 && here.end == 0) DOES(g3_terminal_wait_over(&caller, here.wait));
-        if (said == 0 && here.end != 0 && there.end == 0) DOES(g3_terminal_wait_over(&answerer, there.wait));
+        DOES(g3_terminal_tick(&caller, now, said == 0 ? G3_QUIET : G3_CARRIER));
+        DOES(g3_terminal_tick(&answerer, now, said == 0 ? G3_QUIET : G3_CARRIER));
+        now += said == 0 ? 3000 : 1000;
     }
     if (here.end != G3_END_NORMAL || there.end != G3_END_NORMAL || here.pages != 1 || there.pages != 1)
         printf("growth %lu refused: ends %u %u\n", refused, here.end, there.end), bad = 1;

@@ -34,7 +34,7 @@ static g3_status hears(void *from, void *to)
 
 static g3_status call(uint32_t which, void *a, void *b)
 {
-    static uint64_t told, place;
+    static uint64_t told, place, now;
     static const uint8_t *address;
     static g3_size size;
     static g3_counts counts;
@@ -125,6 +125,8 @@ static g3_status call(uint32_t which, void *a, void *b)
         if (g3_octets_data(a, below(50) ? &address : NULL, number) == G3_OK)
             for (uint64_t at = 0; at < told; at++) buffer[at % sizeof buffer] ^= address[at];
         return G3_OK;
+    case 55: case 56: return g3_terminal_tick(a, now += below(4) ? below(9000) : 0, below(4));
+    case 57: return g3_terminal_due(a, number);
     default: g3_page_free(a); return G3_OK;
     }
 }
@@ -136,7 +138,7 @@ int main(int argc, char **argv)
     for (int calls = argc == 2 ? atoi(argv[1]) : 0; calls > 0; calls--) {
         uint32_t first = below(8), second = (first + 1 + below(7)) % 8;
         if (below(20) == 0) refused = grown + 1 + below(4);
-        g3_status status = call(below(58), below(50) ? &handles[first] : NULL, below(50) ? &handles[second] : NULL);
+        g3_status status = call(below(61), below(50) ? &handles[first] : NULL, below(50) ? &handles[second] : NULL);
         int is_known = status <= G3_TOO_MANY_CODED_ROWS || (status >= G3_BAD_ADDRESS && status <= G3_SHORT_FIELD)
             || status == G3_NOT_CALLABLE || status == G3_NOT_COMPATIBLE || status == G3_FRAME_LOST
             || (status >= G3_EMPTY_HANDLE && status <= G3_BAD_SIZE);

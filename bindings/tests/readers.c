@@ -64,19 +64,19 @@ static uint64_t reads(const shared *of)
     g3_progress far = G3_INIT(g3_progress);
     g3_params params = G3_INIT(g3_params);
     g3_signal peer = G3_INIT(g3_signal);
-    uint64_t row = 0, raster = 0, length = 0, copied = 0, seen = 0, pages = 0, sum = 0;
+    uint64_t row = 0, raster = 0, length = 0, copied = 0, seen = 0, pages = 0, due = 0, sum = 0;
     if (g3_page_size(&of->page, &size) != G3_OK || g3_page_row(&of->page, 1, buffer, sizeof buffer, &row) != G3_OK
         || g3_page_write_raster(&of->page, 216, buffer, sizeof buffer, &raster) != G3_OK || g3_octets_len(&of->octets, &length) != G3_OK
         || g3_octets_data(&of->octets, &data, &seen) != G3_OK || g3_document_pages(&of->document, &pages) != G3_OK
         || g3_deframer_counts(&of->deframer, &counts) != G3_OK || g3_terminal_state(&of->terminal, &state) != G3_OK
         || g3_terminal_progress(&of->terminal, &far) != G3_OK || g3_terminal_params(&of->terminal, &params) != G3_NOTHING
-        || g3_terminal_peer(&of->terminal, &peer) != G3_NOTHING)
+        || g3_terminal_peer(&of->terminal, &peer) != G3_NOTHING || g3_terminal_due(&of->terminal, &due) != G3_OK)
         return 0;
     for (uint64_t at = 0; at < raster; at++) sum += (at + 1) * buffer[at];
     if (g3_octets_copy(&of->octets, buffer, sizeof buffer, &copied) != G3_OK || copied != length || seen != length) return 0;
     if (memcmp(buffer, data, length) != 0) return 0;
     for (uint64_t at = 0; at < seen; at++) sum += (at + 1000) * data[at];
-    return sum + size.rows + size.width + row + raster + pages + counts.good + state.listens + state.wait + far.pages;
+    return sum + size.rows + size.width + row + raster + pages + counts.good + state.listens + state.wait + far.pages + due;
 }
 
 /* What is made of a page, while others read it. */

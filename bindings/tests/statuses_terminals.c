@@ -76,6 +76,52 @@ static void terminals(void)
     IS(G3_EMPTY_HANDLE, g3_terminal_stop(&t));
 }
 
+/* The clock of an answerer: T2 runs from the first quiet tick, a carrier ends it, and DIS is sent again when it is over. */
+static void clocks(void)
+{
+    g3_terminal t = G3_EMPTY;
+    g3_octets o = G3_EMPTY;
+    g3_burst burst = G3_INIT(g3_burst);
+    g3_state state = G3_INIT(g3_state);
+    g3_caps caps = {G3_V17, 1, 1, 2432, 1};
+    uint64_t at = 77;
+    IS(G3_EMPTY_HANDLE, g3_terminal_tick(&t, 0, G3_QUIET));
+    IS(G3_EMPTY_HANDLE, g3_terminal_tick(NULL, 0, G3_QUIET));
+    IS(G3_EMPTY_HANDLE, g3_terminal_due(&t, &at));
+    IS(G3_OK, g3_answerer_new(&t, &caps));
+    IS(G3_BAD_LENGTH, g3_terminal_due(&t, NULL));
+    IS(G3_BAD_CHOICE, g3_terminal_tick(&t, 0, 0));
+    IS(G3_BAD_CHOICE, g3_terminal_tick(&t, 0, 3));
+    IS(G3_OK, g3_terminal_next_burst(&t, &o, &burst));
+    g3_octets_free(&o);
+    IS(G3_OK, g3_terminal_tick(&t, 1000, G3_CARRIER));
+    IS(G3_OK, g3_terminal_due(&t, &at));
+    IS(35000, (g3_status)at); /* T1, from the beginning */
+    IS(G3_BAD_CHOICE, g3_terminal_tick(&t, 999, G3_QUIET));
+    IS(G3_OK, g3_terminal_tick(&t, 2000, G3_QUIET));
+    IS(G3_OK, g3_terminal_due(&t, &at));
+    IS(9000, (g3_status)at); /* T2, 7 s from now */
+    IS(G3_OK, g3_terminal_tick(&t, 8999, G3_QUIET));
+    IS(G3_NOTHING, g3_terminal_next_burst(&t, &o, &burst));
+    IS(G3_OK, g3_terminal_tick(&t, 9000, G3_CARRIER));
+    IS(G3_OK, g3_terminal_tick(&t, 10000, G3_QUIET));
+    IS(G3_OK, g3_terminal_tick(&t, 16999, G3_QUIET));
+    IS(G3_NOTHING, g3_terminal_next_burst(&t, &o, &burst));
+    IS(G3_OK, g3_terminal_tick(&t, 17000, G3_QUIET));
+    IS(G3_OK, g3_terminal_next_burst(&t, &o, &burst));
+    IS(1, burst.carrier == G3_V21 && burst.last == 1);
+    g3_octets_free(&o);
+    IS(G3_OK, g3_terminal_tick(&t, 18000, G3_QUIET));
+    IS(G3_OK, g3_terminal_due(&t, &at));
+    IS(25000, (g3_status)at); /* T2 again, from the end of the burst */
+    IS(G3_OK, g3_terminal_lost(&t));
+    IS(G3_NOTHING, g3_terminal_due(&t, &at));
+    IS(25000, (g3_status)at);
+    IS(G3_OK, g3_terminal_state(&t, &state));
+    IS(G3_END_LINE_LOST, state.end);
+    g3_terminal_free(&t);
+}
+
 static void agreed(void)
 {
     g3_terminal t = G3_EMPTY, empty = G3_EMPTY;
@@ -122,6 +168,7 @@ int main(void)
 {
     documents();
     terminals();
+    clocks();
     agreed();
     return bad;
 }

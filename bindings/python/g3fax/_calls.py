@@ -59,8 +59,8 @@ class Document(_Owner):
 
 
 class Terminal(_Owner):
-    """A station of a call with error correction, from octets of the line to octets of the line: a Caller or an Answerer. It has no clock
-    and no modem: bindings/README.md, "A call", says what a program does with it."""
+    """A station of a call with error correction, from octets of the line to octets of the line: a Caller or an Answerer. It has no
+    modem: bindings/README.md, "A call", says what a program does with it."""
 
     def __init__(self) -> None:
         super().__init__("g3_terminal_free")
@@ -92,6 +92,23 @@ class Terminal(_Owner):
         """A wait is over; one that doesn't run changes nothing."""
         with self._lock:
             _done(_library.g3_terminal_wait_over(self._at, _number(wait, "wait")))
+
+    def tick(self, now: int, carrier: bool = False) -> None:
+        """Tells the time, in milliseconds since the call was set up, and whether a carrier of either station is on, or has just ended. A
+        wait that is over on a quiet line ends: wait_over isn't called then."""
+        with self._lock:
+            _done(_library.g3_terminal_tick(self._at, _number(now, "now", 64), 2 if _flag(carrier, "carrier") else 1))
+
+    @property
+    def due(self) -> Optional[int]:
+        """When the next wait is over, by the time of the ticks, if the line stays as it is and nothing comes; None if no wait runs."""
+        at = _u64()
+        with self._lock:
+            status = _library.g3_terminal_due(self._at, ctypes.byref(at))
+        if status == _NOTHING:
+            return None
+        _done(status)
+        return at.value
 
     def set_busy(self, is_busy: bool) -> None:
         """Whether an answerer can't take pages for now."""

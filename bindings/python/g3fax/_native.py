@@ -116,6 +116,8 @@ _FUNCTIONS = {
     "g3_terminal_hear_frame": [_address, _address, _size],
     "g3_terminal_hear_training": [_address, _address, _size],
     "g3_terminal_wait_over": [_address, _u32],
+    "g3_terminal_tick": [_address, _u64, _u32],
+    "g3_terminal_due": [_address, _address],
     "g3_wait_millis": [_u32],
     "g3_carrier_rate": [_u32],
     "g3_terminal_set_busy": [_address, _u32],

@@ -133,6 +133,9 @@ G3_CHECK g3_status g3_terminal_hear_training(g3_terminal *terminal, const uint8_
 enum { G3_T1 = 1, G3_T2 = 2, G3_T4 = 4, G3_T5 = 5 };
 G3_CHECK g3_status g3_terminal_wait_over(g3_terminal *terminal, uint32_t wait);
 uint32_t g3_wait_millis(uint32_t wait);
+enum { G3_QUIET = 1, G3_CARRIER = 2 };
+G3_CHECK g3_status g3_terminal_tick(g3_terminal *terminal, uint64_t now, uint32_t line);
+G3_CHECK g3_status g3_terminal_due(const g3_terminal *terminal, uint64_t *at);
 G3_CHECK g3_status g3_terminal_set_busy(g3_terminal *terminal, uint32_t is);
 g3_status g3_terminal_stop(g3_terminal *terminal);
 g3_status g3_terminal_hang_up(g3_terminal *terminal);

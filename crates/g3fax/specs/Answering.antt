@@ -1,10 +1,18 @@
--- An answerer's terminal in a handle.
+-- The terminals of callers and answerers in handles.
 use Rattle.std.specs.Prelude.{List}
 use Rattle.raster.specs.Pages.{PagePixels}
 use Rattle.stations.specs.Limiting.{LimitedFields}
+use Rattle.stations.specs.Stopping.{StoppableCallerFields}
 use Rattle.terminals.specs.Runs.{TerminalFields}
+use Rattle.g3fax.specs.declared.timing.Timing.{Timing}
 
--- the terminal of an answerer, and the pages that were taken out of it and not handed out yet, the oldest first
+-- the terminal of a caller, and its clock
+pub record CallingFields : Type 0 where
+  pub terminal : TerminalFields StoppableCallerFields
+  pub timing : Timing
+
+-- the terminal of an answerer, its clock, and the pages that were taken out of it and not handed out yet, the oldest first
 pub record AnsweringFields : Type 0 where
   pub terminal : TerminalFields LimitedFields
+  pub timing : Timing
   pub waiting : List PagePixels

@@ -1,5 +1,5 @@
 -- What a call answers of the bursts of a terminal.
-use Rattle.std.specs.Prelude.{ℕ, ◌≡◌, ◌≢◌, ◌⊎◌, Ok}
+use Rattle.std.specs.Prelude.{ℕ, ◌≡◌, ◌≢◌, ◌⊎◌, ◌↔◌, Bool, false, Ok}
 use Rattle.std.specs.declared.alloc.AllocError.{AllocError}
 use Rattle.std.specs.declared.option.Option.{Option}
 use Rattle.std.specs.declared.option.Option.TheVariants.{None, Some}
@@ -7,7 +7,7 @@ use Rattle.signals.specs.declared.signal.Side.{Side}
 use Rattle.stations.specs.Limiting.{LimitedFields}
 use Rattle.stations.specs.Stopping.{StoppableCallerFields}
 use Rattle.terminals.specs.Runs.{TerminalFields}
-use Rattle.terminals.specs.Sending.{Sends}
+use Rattle.terminals.specs.Sending.{HasBurst, Sends}
 use Rattle.terminals.specs.Speaking.{BurstsOf}
 use Rattle.terminals.specs.Stations.{AnswererLends, CallerLends}
 use Rattle.terminals.specs.declared.sending.SentBurst.{SentBurst}
@@ -40,12 +40,17 @@ pub record GivesBurst (S : Type 0) (side : Side) (lends : BurstsOf S) (old new :
   pub octets_are : HasOctets (λ octets. octets ≡ sent.octets.items) octets
   pub told : TellsBurst sent burst
 
--- The next burst of the turn fills an empty handle with its octets, and its details are told. 106 only if none is left. By any status above
--- 0 nothing changes.
+-- 106 exactly if no burst of the turn is left
+abbrev pub IsNothing : {S : Type 0} → BurstsOf S → TerminalFields S → ℕ → Type 0
+IsNothing lends old status = (has : Bool) × HasBurst lends old.speaking has × ((status ≡ nothing_there) ↔ (has ≡ false))
+
+-- The next burst of the turn fills an empty handle with its octets, and its details are told. 106 exactly if none is left, whatever memory is
+-- refused. By any status above 0 nothing changes.
 pub record NextBurst (S : Type 0) (side : Side) (lends : BurstsOf S) (old new : TerminalFields S) (before after : Option Kept)
     (burst : G3Burst) (status : ℕ) : Type 0 where
   pub fills : Fills (λ octets. GivesBurst S side lends old new octets burst) before status after
   pub framing : new.framing ≡ old.framing
   pub kept : status ≢ ok → new ≡ old
   pub nothing : status ≡ nothing_there → Sends {E = AllocError} side lends old.speaking new.speaking (Ok None)
+  pub exactly : before ≡ None → IsNothing lends old status
   pub only : before ≡ None → (status ≡ ok) ⊎ ((status ≡ nothing_there) ⊎ (status ≡ no_memory))

@@ -11,10 +11,11 @@ use Rattle.stations.specs.Stopping.{StoppableCallerFields}
 use Rattle.terminals.specs.Runs.{TerminalFields}
 use Rattle.page_code.specs.RowCoders.{RowCoding}
 use Rattle.page_code.specs.RowReaders.{RowReading}
-use Rattle.g3fax.specs.Answering.{AnsweringFields}
+use Rattle.g3fax.specs.Answering.{AnsweringFields, CallingFields}
 use Rattle.g3fax.specs.Statuses.{ok, empty_handle, other_handle, full_handle, no_room}
 use Rattle.g3fax.specs.declared.handle.Kept.{Kept}
 use Rattle.g3fax.specs.declared.handle.Kept.TheVariants.{Octets, Page, Deframer, Document, Caller, Answerer, RowCoder, RowReader}
+use Rattle.g3fax.specs.declared.timing.Timing.{Timing}
 
 -- a handle of octets for which this holds
 abbrev pub HasOctets : (List ℕ → Type 0) → Option Kept → Type 0
@@ -65,13 +66,13 @@ HasDocument Holds (Some (RowCoder coder)) = ⊥
 HasDocument Holds (Some (RowReader reader)) = ⊥
 
 -- a handle of a caller's terminal for which this holds
-abbrev pub HasCaller : (TerminalFields StoppableCallerFields → Type 0) → Option Kept → Type 0
+abbrev pub HasCaller : (CallingFields → Type 0) → Option Kept → Type 0
 HasCaller Holds None = ⊥
 HasCaller Holds (Some (Octets octets)) = ⊥
 HasCaller Holds (Some (Page page)) = ⊥
 HasCaller Holds (Some (Deframer state)) = ⊥
 HasCaller Holds (Some (Document pages)) = ⊥
-HasCaller Holds (Some (Caller terminal)) = Holds terminal
+HasCaller Holds (Some (Caller calling)) = Holds calling
 HasCaller Holds (Some (Answerer answering)) = ⊥
 HasCaller Holds (Some (RowCoder coder)) = ⊥
 HasCaller Holds (Some (RowReader reader)) = ⊥
@@ -301,41 +302,64 @@ OfTerminal Calls Answers (Some (Octets octets)) status = status ≡ other_handle
 OfTerminal Calls Answers (Some (Page page)) status = status ≡ other_handle
 OfTerminal Calls Answers (Some (Deframer state)) status = status ≡ other_handle
 OfTerminal Calls Answers (Some (Document pages)) status = status ≡ other_handle
-OfTerminal Calls Answers (Some (Caller terminal)) status = Calls terminal
+OfTerminal Calls Answers (Some (Caller calling)) status = Calls calling.terminal
 OfTerminal Calls Answers (Some (Answerer answering)) status = Answers answering
 OfTerminal Calls Answers (Some (RowCoder coder)) status = status ≡ other_handle
 OfTerminal Calls Answers (Some (RowReader reader)) status = status ≡ other_handle
 
--- What happens to the terminal in a handle: the first relation for a caller's, the second for an answerer's, whose waiting pages stay. An
+-- What happens to the terminal in a handle and to its timing: the first relation for a caller's, the second for an answerer's, whose
+-- waiting pages stay. An
 -- empty handle is 100, another kind is 101, and the handle stays.
+abbrev pub OnTimed :
+    (TerminalFields StoppableCallerFields → Timing → TerminalFields StoppableCallerFields → Timing → Type 0)
+    → (TerminalFields LimitedFields → Timing → TerminalFields LimitedFields → Timing → Type 0) → Option Kept → Option Kept → ℕ → Type 0
+OnTimed Calls Answers None new status = (status ≡ empty_handle) × (new ≡ None)
+OnTimed Calls Answers (Some (Octets octets)) new status = (status ≡ other_handle) × (new ≡ Some (Octets octets))
+OnTimed Calls Answers (Some (Page page)) new status = (status ≡ other_handle) × (new ≡ Some (Page page))
+OnTimed Calls Answers (Some (Deframer state)) new status = (status ≡ other_handle) × (new ≡ Some (Deframer state))
+OnTimed Calls Answers (Some (Document pages)) new status = (status ≡ other_handle) × (new ≡ Some (Document pages))
+OnTimed Calls Answers (Some (Caller old)) None status = ⊥
+OnTimed Calls Answers (Some (Caller old)) (Some (Octets octets)) status = ⊥
+OnTimed Calls Answers (Some (Caller old)) (Some (Page page)) status = ⊥
+OnTimed Calls Answers (Some (Caller old)) (Some (Deframer state)) status = ⊥
+OnTimed Calls Answers (Some (Caller old)) (Some (Document pages)) status = ⊥
+OnTimed Calls Answers (Some (Caller old)) (Some (Caller new)) status = Calls old.terminal old.timing new.terminal new.timing
+OnTimed Calls Answers (Some (Caller old)) (Some (Answerer answering)) status = ⊥
+OnTimed Calls Answers (Some (Caller old)) (Some (RowCoder coder)) status = ⊥
+OnTimed Calls Answers (Some (Caller old)) (Some (RowReader reader)) status = ⊥
+OnTimed Calls Answers (Some (Answerer old)) None status = ⊥
+OnTimed Calls Answers (Some (Answerer old)) (Some (Octets octets)) status = ⊥
+OnTimed Calls Answers (Some (Answerer old)) (Some (Page page)) status = ⊥
+OnTimed Calls Answers (Some (Answerer old)) (Some (Deframer state)) status = ⊥
+OnTimed Calls Answers (Some (Answerer old)) (Some (Document pages)) status = ⊥
+OnTimed Calls Answers (Some (Answerer old)) (Some (Caller terminal)) status = ⊥
+OnTimed Calls Answers (Some (Answerer old)) (Some (Answerer new)) status =
+    Answers old.terminal old.timing new.terminal new.timing × (new.waiting ≡ old.waiting)
+OnTimed Calls Answers (Some (Answerer old)) (Some (RowCoder coder)) status = ⊥
+OnTimed Calls Answers (Some (Answerer old)) (Some (RowReader reader)) status = ⊥
+OnTimed Calls Answers (Some (RowCoder coder)) new status = (status ≡ other_handle) × (new ≡ Some (RowCoder coder))
+OnTimed Calls Answers (Some (RowReader reader)) new status = (status ≡ other_handle) × (new ≡ Some (RowReader reader))
+
+-- what happens to the terminal in a handle, whose timing stays
 abbrev pub OnTerminal :
     (TerminalFields StoppableCallerFields → TerminalFields StoppableCallerFields → Type 0)
     → (TerminalFields LimitedFields → TerminalFields LimitedFields → Type 0) → Option Kept → Option Kept → ℕ → Type 0
-OnTerminal Calls Answers None new status = (status ≡ empty_handle) × (new ≡ None)
-OnTerminal Calls Answers (Some (Octets octets)) new status = (status ≡ other_handle) × (new ≡ Some (Octets octets))
-OnTerminal Calls Answers (Some (Page page)) new status = (status ≡ other_handle) × (new ≡ Some (Page page))
-OnTerminal Calls Answers (Some (Deframer state)) new status = (status ≡ other_handle) × (new ≡ Some (Deframer state))
-OnTerminal Calls Answers (Some (Document pages)) new status = (status ≡ other_handle) × (new ≡ Some (Document pages))
-OnTerminal Calls Answers (Some (Caller old)) None status = ⊥
-OnTerminal Calls Answers (Some (Caller old)) (Some (Octets octets)) status = ⊥
-OnTerminal Calls Answers (Some (Caller old)) (Some (Page page)) status = ⊥
-OnTerminal Calls Answers (Some (Caller old)) (Some (Deframer state)) status = ⊥
-OnTerminal Calls Answers (Some (Caller old)) (Some (Document pages)) status = ⊥
-OnTerminal Calls Answers (Some (Caller old)) (Some (Caller new)) status = Calls old new
-OnTerminal Calls Answers (Some (Caller old)) (Some (Answerer answering)) status = ⊥
-OnTerminal Calls Answers (Some (Caller old)) (Some (RowCoder coder)) status = ⊥
-OnTerminal Calls Answers (Some (Caller old)) (Some (RowReader reader)) status = ⊥
-OnTerminal Calls Answers (Some (Answerer old)) None status = ⊥
-OnTerminal Calls Answers (Some (Answerer old)) (Some (Octets octets)) status = ⊥
-OnTerminal Calls Answers (Some (Answerer old)) (Some (Page page)) status = ⊥
-OnTerminal Calls Answers (Some (Answerer old)) (Some (Deframer state)) status = ⊥
-OnTerminal Calls Answers (Some (Answerer old)) (Some (Document pages)) status = ⊥
-OnTerminal Calls Answers (Some (Answerer old)) (Some (Caller terminal)) status = ⊥
-OnTerminal Calls Answers (Some (Answerer old)) (Some (Answerer new)) status = Answers old.terminal new.terminal × (new.waiting ≡ old.waiting)
-OnTerminal Calls Answers (Some (Answerer old)) (Some (RowCoder coder)) status = ⊥
-OnTerminal Calls Answers (Some (Answerer old)) (Some (RowReader reader)) status = ⊥
-OnTerminal Calls Answers (Some (RowCoder coder)) new status = (status ≡ other_handle) × (new ≡ Some (RowCoder coder))
-OnTerminal Calls Answers (Some (RowReader reader)) new status = (status ≡ other_handle) × (new ≡ Some (RowReader reader))
+OnTerminal Calls Answers old new status =
+    OnTimed (λ before was after is. Calls before after × (is ≡ was)) (λ before was after is. Answers before after × (is ≡ was)) old new status
+
+-- the status for a handle that should have a terminal, by it and its timing: the first relation for a caller's, the second for an
+-- answerer's; 100 if it is empty, 101 if it has something else
+abbrev pub OfTimed :
+    (TerminalFields StoppableCallerFields → Timing → Type 0) → (TerminalFields LimitedFields → Timing → Type 0) → Option Kept → ℕ → Type 0
+OfTimed Calls Answers None status = status ≡ empty_handle
+OfTimed Calls Answers (Some (Octets octets)) status = status ≡ other_handle
+OfTimed Calls Answers (Some (Page page)) status = status ≡ other_handle
+OfTimed Calls Answers (Some (Deframer state)) status = status ≡ other_handle
+OfTimed Calls Answers (Some (Document pages)) status = status ≡ other_handle
+OfTimed Calls Answers (Some (Caller calling)) status = Calls calling.terminal calling.timing
+OfTimed Calls Answers (Some (Answerer answering)) status = Answers answering.terminal answering.timing
+OfTimed Calls Answers (Some (RowCoder coder)) status = status ≡ other_handle
+OfTimed Calls Answers (Some (RowReader reader)) status = status ≡ other_handle
 
 -- an empty handle is filled with something of this kind, status 0; a full one is 102; by any status above 0 it stays
 pub record Fills (Holds : Option Kept → Type 0) (old : Option Kept) (status : ℕ) (new : Option Kept) : Type 0 where

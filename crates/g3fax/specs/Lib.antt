@@ -23,3 +23,4 @@ pub mod SignalsMeant
 pub mod States
 pub mod Statuses
 pub mod Taking
+pub mod Ticking

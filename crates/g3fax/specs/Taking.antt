@@ -17,6 +17,7 @@ pages_left answering = answering.waiting ++ answering.terminal.speaking.station.
 pub record HandsOutPage (old : AnsweringFields) (page : PagePixels) (new : AnsweringFields) : Type 0 where
   pub oldest : pages_left old ≡ page ∷ pages_left new
   pub framing : new.terminal.framing ≡ old.terminal.framing
+  pub timing : new.timing ≡ old.timing
   pub waited : old.waiting ≢ [] → new.terminal ≡ old.terminal
   pub taken : old.waiting ≡ [] → new.terminal.speaking ≡ with_pages_taken old.terminal.speaking
 

@@ -60,7 +60,7 @@ pub extern "C" fn g3_core_terminal_params(
         None => EMPTY_HANDLE,
         Some(kept) => {
             let status = match &*kept {
-                Kept::Caller(calling) => caller_params(calling, params),
+                Kept::Caller(calling) => caller_params(&calling.terminal, params),
                 Kept::Answerer(answering) => answerer_params(answering, params),
                 _ => OTHER_HANDLE,
             };
@@ -131,7 +131,7 @@ pub extern "C" fn g3_core_terminal_peer(
         None => EMPTY_HANDLE,
         Some(kept) => {
             let status = match &*kept {
-                Kept::Caller(calling) => caller_peer(calling, signal),
+                Kept::Caller(calling) => caller_peer(&calling.terminal, signal),
                 Kept::Answerer(answering) => answerer_peer(answering, signal),
                 _ => OTHER_HANDLE,
             };

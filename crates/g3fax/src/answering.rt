@@ -1,14 +1,31 @@
-//! An answerer's terminal in a handle.
+//! The terminals of callers and answerers in handles.
 
+use crate::timing::Timing;
 use raster::Page;
-use stations::LimitedAnswerer;
+use stations::{LimitedAnswerer, StoppableCaller};
 use std::marker::Model;
 use terminals::Terminal;
 
-/// The terminal of an answerer, and the pages taken out of it that wait to be handed out.
+/// The terminal of a caller, and its clock.
+#[derive(Drop)]
+pub struct Calling {
+    pub(crate) terminal: Terminal<StoppableCaller>,
+    pub(crate) timing: Timing,
+}
+
+impl Model for Calling {
+    ghost use Rattle.g3fax.specs.Answering.{CallingFields};
+
+    ghost Value = { CallingFields };
+
+    ghost view = { λ c. record { terminal = c.terminal; timing = c.timing } };
+}
+
+/// The terminal of an answerer, its clock, and the pages taken out of it that wait to be handed out.
 #[derive(Drop)]
 pub struct Answering {
     pub(crate) terminal: Terminal<LimitedAnswerer>,
+    pub(crate) timing: Timing,
     // a terminal gives all its pages at once and is free for others then: with a limit of n there are never more than 2n - 1
     pub(crate) waiting: Vec<Page>,
 }
@@ -18,5 +35,5 @@ impl Model for Answering {
 
     ghost Value = { AnsweringFields };
 
-    ghost view = { λ a. record { terminal = a.terminal; waiting = a.waiting.items } };
+    ghost view = { λ a. record { terminal = a.terminal; timing = a.timing; waiting = a.waiting.items } };
 }

@@ -7,12 +7,13 @@ ghost use Rattle.signals.specs.Agreement.{width_of_pixels};
 ghost use Rattle.std.specs.Prelude.{◌≡◌, ◌<◌, ◌↔◌, IfErr, IfOk, IfSome, IsSome, IsTrue, true};
 ghost use Rattle.stations.specs.CallerFields.{AreCallable};
 
-use crate::answering::Answering;
+use crate::answering::{Answering, Calling};
 use crate::codes::coding_of;
 use crate::handle::{G3Handle, Kept};
 use crate::status::{
     BAD_CHOICE, EMPTY_HANDLE, FULL_HANDLE, NOT_CALLABLE, NOTHING, OK, OTHER_HANDLE,
 };
+use crate::timing::Timing;
 use raster::{Document, Page};
 use signals::{Caps, Modems, PageWidth, Wish};
 use stations::{Caller, LimitedAnswerer, Limits, StoppableCaller, Turn};
@@ -114,6 +115,7 @@ fn answering(alloc: Global, caps: Caps, limit: u32) -> Answering
     let (station, first) = LimitedAnswerer::new(alloc, caps, limits);
     Answering {
         terminal: Terminal::new(alloc, station, first),
+        timing: Timing::new(),
         waiting: Vec::new(alloc),
     }
 }
@@ -170,13 +172,9 @@ fn test_document(document: &Option<Document>) -> u32
 }
 
 /// Returns the terminal of a new caller of a document. Errors: there is none; then the document stays.
-fn calling(
-    alloc: Global,
-    document: &mut Option<Document>,
-    wish: Wish,
-) -> Result<Terminal<StoppableCaller>, u32>
-    ensures ok { IfOk result (λ terminal. IsNewCaller (pages_of document.old) wish terminal) }
-    ensures made { IfOk result (λ terminal. AnswersDocument document.old 0) }
+fn calling(alloc: Global, document: &mut Option<Document>, wish: Wish) -> Result<Calling, u32>
+    ensures ok { IfOk result (λ calling. IsNewCaller (pages_of document.old) wish calling) }
+    ensures made { IfOk result (λ calling. AnswersDocument document.old 0) }
     ensures err { IfErr result (λ status. (document.new ≡ document.old) × AnswersDocument document.old status) }
     ensures no { IfErr result (λ status. 0 < status) }
 {
@@ -188,7 +186,10 @@ fn calling(
         return Err(NOTHING);
     };
     match Caller::new(alloc, pages, wish) {
-        Ok(caller) => Ok(Terminal::new(alloc, StoppableCaller::new(caller), Turn::Silent)),
+        Ok(caller) => Ok(Calling {
+            terminal: Terminal::new(alloc, StoppableCaller::new(caller), Turn::Silent),
+            timing: Timing::new(),
+        }),
         Err(_) => Err(NOT_CALLABLE),
     }
 }
@@ -220,8 +221,8 @@ pub extern "C" fn g3_core_caller_new(
         _ => Err(OTHER_HANDLE),
     };
     match made {
-        Ok(terminal) => {
-            *kept = Kept::Caller(terminal);
+        Ok(calling) => {
+            *kept = Kept::Caller(calling);
             out.put(kept);
             OK
         }

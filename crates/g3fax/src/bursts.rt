@@ -1,16 +1,18 @@
 //! What terminals have to send, for C.
 
 ghost use Rattle.g3fax.specs.Bursts.{NextBurst, TellsBurst, answerer_bursts, caller_bursts};
-ghost use Rattle.g3fax.specs.Handles.{HasOctets, OnTerminal};
+ghost use Rattle.g3fax.specs.Handles.{HasOctets, OnTimed};
+ghost use Rattle.g3fax.specs.Ticking.{NotesBurst};
 ghost use Rattle.signals.specs.declared.signal.Side.TheVariants.{Answerer, Caller};
 ghost use Rattle.std.specs.Prelude.{◌≡◌, ◌≢◌};
 ghost use Rattle.stations.specs.Limiting.{LimitedFields};
 ghost use Rattle.stations.specs.Stopping.{StoppableCallerFields};
 
 use crate::codes::in_64_bits;
-use crate::handle::{G3Handle, Kept, opened_terminal, room};
+use crate::handle::{G3Handle, Kept, opened_timed, room};
 use crate::numbers::{carrier_number, check_number};
 use crate::status::{FULL_HANDLE, NO_MEMORY, NOTHING, OK};
+use crate::timing::Timing;
 use std::alloc::Global;
 use terminals::{SentBurst, Station, Terminal};
 
@@ -55,14 +57,20 @@ fn give(sent: SentBurst, boxed: Box<Kept>, out: &mut G3Handle, burst: &mut G3Bur
 fn next_burst<S: Station>(
     alloc: Global,
     terminal: &mut Terminal<S>,
+    timing: &mut Timing,
     out: &mut G3Handle,
     burst: &mut G3Burst,
 ) -> u32
     ensures next { NextBurst S S.sends S.lends terminal.old terminal.new out.old.value out.new.value burst.new result }
+    ensures noted { NotesBurst result timing.old timing.new }
     ensures untold { result ≢ 0 → burst.new ≡ burst.old }
 {
     if out.is_full(alloc) {
         return FULL_HANDLE;
+    }
+    // first, so that a terminal with nothing to send takes no memory
+    if !terminal.has_burst() {
+        return NOTHING;
     }
     let Some(kept) = room(alloc) else {
         return NO_MEMORY;
@@ -70,6 +78,7 @@ fn next_burst<S: Station>(
     match terminal.next_burst() {
         Ok(Some(sent)) => {
             give(sent, kept, out, burst);
+            *timing = timing.after_burst();
             OK
         }
         Ok(None) => NOTHING,
@@ -78,7 +87,8 @@ fn next_burst<S: Station>(
 }
 
 /// Takes the next burst that the terminal has to send: its octets fill an empty handle, the least significant bit of each first, and its
-/// details are told. Returns `G3_FULL_HANDLE` (102), `G3_NOTHING` (106) if nothing is left to be sent, or `G3_NO_MEMORY` (9).
+/// details are told. Returns `G3_FULL_HANDLE` (102), `G3_NOTHING` (106) if nothing is left to be sent, which takes no memory, or `G3_NO_MEMORY`
+/// (9).
 #[unsafe(no_mangle)]
 pub extern "C" fn g3_core_terminal_next_burst(
     alloc: Global,
@@ -86,12 +96,14 @@ pub extern "C" fn g3_core_terminal_next_burst(
     out: &mut G3Handle,
     burst: &mut G3Burst,
 ) -> u32
-    ensures next { OnTerminal
-        (λ old new. NextBurst StoppableCallerFields Caller caller_bursts old new out.old.value out.new.value burst.new result)
-        (λ old new. NextBurst LimitedFields Answerer answerer_bursts old new out.old.value out.new.value burst.new result)
+    ensures next { OnTimed
+        (λ old was new is. NextBurst StoppableCallerFields Caller caller_bursts old new out.old.value out.new.value burst.new result
+        × NotesBurst result was is)
+        (λ old was new is. NextBurst LimitedFields Answerer answerer_bursts old new out.old.value out.new.value burst.new result
+        × NotesBurst result was is)
         terminal.old.value terminal.new.value result }
     ensures out { result ≢ 0 → out.new.value ≡ out.old.value }
     ensures untold { result ≢ 0 → burst.new ≡ burst.old }
 {
-    opened_terminal!(alloc, terminal, terminal => next_burst(alloc, terminal, out, burst))
+    opened_timed!(alloc, terminal, terminal, timing => next_burst(alloc, terminal, timing, out, burst))
 }

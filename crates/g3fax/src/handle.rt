@@ -4,17 +4,15 @@ ghost use Rattle.g3fax.specs.declared.handle.Kept.{Kept};
 ghost use Rattle.std.specs.Prelude.{◌≡◌, ◌≢◌, ◌↔◌, ◌⊎◌, IfNone, IfSome, IsTrue, None, Some};
 ghost use Rattle.std.specs.declared.option.Option.{Option};
 
-use crate::answering::Answering;
+use crate::answering::{Answering, Calling};
 use crate::loose::Loose;
 use crate::status::{FULL_HANDLE, NO_MEMORY, OK};
 use hdlc::Deframer;
 use page_code::{RowCoder, RowReader};
 use raster::{Document, Page};
-use stations::StoppableCaller;
 use std::alloc::Global;
 use std::marker::Model;
 use std::{mem, ptr};
-use terminals::Terminal;
 
 /// A value of a handle.
 #[derive(Drop)]
@@ -27,9 +25,9 @@ pub enum Kept {
     Deframer(Deframer),
     /// The pages of a call; None before the first.
     Document(Option<Document>),
-    /// The terminal of a caller.
-    Caller(Terminal<StoppableCaller>),
-    /// The terminal of an answerer, with pages that were taken out of it.
+    /// The terminal of a caller, with its clock.
+    Caller(Calling),
+    /// The terminal of an answerer, with its clock, and with pages that were taken out of it.
     Answerer(Answering),
     /// A coder of a page row by row.
     RowCoder(RowCoder),
@@ -190,7 +188,10 @@ macro_rules! opened_terminal {
             None => crate::status::EMPTY_HANDLE,
             Some(mut kept) => {
                 let status = match &mut *kept {
-                    crate::handle::Kept::Caller($name) => $work,
+                    crate::handle::Kept::Caller(calling) => {
+                        let $name = &mut calling.terminal;
+                        $work
+                    }
                     crate::handle::Kept::Answerer(answering) => {
                         let $name = &mut answering.terminal;
                         $work
@@ -205,6 +206,34 @@ macro_rules! opened_terminal {
 }
 
 pub(crate) use opened_terminal;
+
+/// Works on the terminal of a handle and its timing: as `opened` does.
+macro_rules! opened_timed {
+    ($alloc:expr, $handle:expr, $name:ident, $timing:ident => $work:expr) => {
+        match $handle.take($alloc) {
+            None => crate::status::EMPTY_HANDLE,
+            Some(mut kept) => {
+                let status = match &mut *kept {
+                    crate::handle::Kept::Caller(calling) => {
+                        let $name = &mut calling.terminal;
+                        let $timing = &mut calling.timing;
+                        $work
+                    }
+                    crate::handle::Kept::Answerer(answering) => {
+                        let $name = &mut answering.terminal;
+                        let $timing = &mut answering.timing;
+                        $work
+                    }
+                    _ => crate::status::OTHER_HANDLE,
+                };
+                $handle.put(kept);
+                status
+            }
+        }
+    };
+}
+
+pub(crate) use opened_timed;
 
 /// Frees what a handle has; it is empty then.
 #[unsafe(no_mangle)]

@@ -1,19 +1,21 @@
 //! What terminals hear, for C, and how their calls are stopped.
 
-ghost use Rattle.g3fax.specs.Handles.{OnTerminal};
+ghost use Rattle.g3fax.specs.Handles.{OnTerminal, OnTimed};
 ghost use Rattle.g3fax.specs.Hearing.{EndsWait, HangsUp, HearsFrame, HearsOctets, LosesLine, StopsCall, TakesInput, answerer_steps, caller_steps};
 ghost use Rattle.g3fax.specs.Numbers.{wait_of};
 ghost use Rattle.g3fax.specs.Pages.{is_set};
+ghost use Rattle.g3fax.specs.Ticking.{NotesCheck};
 ghost use Rattle.std.specs.Prelude.{◌≡◌};
 ghost use Rattle.stations.specs.Limiting.{LimitedFields};
 ghost use Rattle.stations.specs.Stopping.{StoppableCallerFields};
 ghost use Rattle.terminals.specs.Hearing.{busy, check};
-ghost use Rattle.terminals.specs.Stopping.{caller_cut_off, caller_stop_says, limited_cut_off, limited_stop_says};
+ghost use Rattle.terminals.specs.Stopping.{CallerShows, LimitedShows, caller_cut_off, caller_stop_says, limited_cut_off, limited_stop_says};
 
 use crate::frames::{LONGEST_CONTENT, framed};
-use crate::handle::{G3Handle, opened_terminal};
+use crate::handle::{G3Handle, opened_terminal, opened_timed};
 use crate::numbers::wait_of;
 use crate::status::{BAD_CHOICE, BAD_LENGTH, FRAME_LOST, NO_MEMORY, OK};
+use crate::timing::Timing;
 use std::alloc::Global;
 use terminals::{HearFault, Station, Stoppable, Terminal};
 
@@ -73,11 +75,20 @@ pub extern "C" fn g3_core_terminal_hear_frame(
 }
 
 /// Hears a training check.
-fn hear_training<S: Station>(terminal: &mut Terminal<S>, octets: &[u8]) -> u32
-    ensures { TakesInput S S.steps terminal.old (check octets.now) terminal.new result }
+fn hear_training<S: Stoppable>(
+    terminal: &mut Terminal<S>,
+    timing: &mut Timing,
+    octets: &[u8],
+) -> u32
+    ensures takes { TakesInput S S.steps terminal.old (check octets.now) terminal.new result }
+    ensures noted { NotesCheck S S.shows terminal.old octets.now result timing.old timing.new }
 {
+    let listens = terminal.shown().listens;
     match terminal.hear_training(octets) {
-        Ok(()) => OK,
+        Ok(()) => {
+            *timing = timing.after_check(listens, octets);
+            OK
+        }
         Err(_) => NO_MEMORY,
     }
 }
@@ -89,10 +100,13 @@ pub extern "C" fn g3_core_terminal_hear_training(
     terminal: &mut G3Handle,
     octets: &[u8],
 ) -> u32
-    ensures { OnTerminal (λ old new. TakesInput StoppableCallerFields caller_steps old (check octets.now) new result)
-        (λ old new. TakesInput LimitedFields answerer_steps old (check octets.now) new result) terminal.old.value terminal.new.value result }
+    ensures { OnTimed
+        (λ old was new is. TakesInput StoppableCallerFields caller_steps old (check octets.now) new result
+        × NotesCheck StoppableCallerFields CallerShows old octets.now result was is)
+        (λ old was new is. TakesInput LimitedFields answerer_steps old (check octets.now) new result
+        × NotesCheck LimitedFields LimitedShows old octets.now result was is) terminal.old.value terminal.new.value result }
 {
-    opened_terminal!(alloc, terminal, terminal => hear_training(terminal, octets))
+    opened_timed!(alloc, terminal, terminal, timing => hear_training(terminal, timing, octets))
 }
 
 /// Ends a wait.

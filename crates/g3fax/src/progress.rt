@@ -120,7 +120,7 @@ pub extern "C" fn g3_core_terminal_progress(
         None => EMPTY_HANDLE,
         Some(kept) => {
             let status = match &*kept {
-                Kept::Caller(calling) => tell_calling(calling, progress),
+                Kept::Caller(calling) => tell_calling(&calling.terminal, progress),
                 Kept::Answerer(answering) => tell_answering(answering, progress),
                 _ => OTHER_HANDLE,
             };

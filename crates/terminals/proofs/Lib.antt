@@ -1,4 +1,5 @@
 pub mod After
+pub mod Clocks
 pub mod Cutting
 pub mod Fed
 pub mod CutOff

@@ -1,5 +1,6 @@
 pub mod BurstSizes
 pub mod Bursts
+pub mod Clocks
 pub mod Hearing
 pub mod Memory
 pub mod Runs

@@ -1,5 +1,5 @@
 -- A burst as it goes out on its carrier: frames and flags, or the zeros of a training check.
-use Rattle.std.specs.Prelude.{ℕ, zero, suc, ◌≡◌, ◌⊎◌, ◌↔◌, ◌+◌, ◌*◌, ◌<◌, Bool, false, List, [], ◌∷◌, ◌++◌, length, drop, replicate, Option}
+use Rattle.std.specs.Prelude.{ℕ, zero, suc, ◌≡◌, ◌≢◌, ◌⊎◌, ◌↔◌, ◌+◌, ◌*◌, ◌<◌, Bool, false, List, [], ◌∷◌, ◌++◌, length, drop, replicate, Option}
 use Rattle.std.specs.Prelude.{Some}
 use Rattle.std.specs.Prelude.{None, Result, Ok, Err, IsTrue}
 use Rattle.raster.specs.Packed.{FillsOctets}
@@ -61,3 +61,8 @@ SendsNext side bursts old new (Err refused) = new ≡ old
 abbrev pub Sends : {S E : Type 0} → Side → BurstsOf S → Speaking S → Speaking S → Result (Option SentBurst) E → Type 0
 Sends side lends old new result =
     (bursts : List PlainBurst) × AreLent lends old.station old.turn bursts × SendsNext side bursts old new result
+
+-- a burst of the turn that is kept is left to be sent, of the first 255, which are more than a turn has
+abbrev pub HasBurst : {S : Type 0} → BurstsOf S → Speaking S → Bool → Type 0
+HasBurst lends now is =
+    (bursts : List PlainBurst) × AreLent lends now.station now.turn bursts × (IsTrue is ↔ ((now.taken < 255) × (drop now.taken bursts ≢ [])))

@@ -1,7 +1,8 @@
-//! Laws of what is heard, of where it leads, of DCN, of what can be written, and of what is held. Nothing runs.
+//! Laws of what is heard, of where it leads, of waits, of DCN, of what can be written, and of what is held. Nothing runs.
 
 ghost use Rattle.terminals.specs.BurstSizes.{AnswerersBurstsAreShort, CallersBurstsAreShort, FramesAreShort};
 ghost use Rattle.terminals.specs.Bursts.{AnswerersSendOne, CallersSendTwo};
+ghost use Rattle.terminals.specs.Clocks.{CalmIsQuiet, CarriersHold, WaitsAreNamed, WaitsPass};
 ghost use Rattle.terminals.specs.Hearing.{CutsChangeNothing};
 ghost use Rattle.terminals.specs.Memory.{OneFrameIsKept, OpenPagesAreLimited};
 ghost use Rattle.terminals.specs.StationsAfter.{AnswererIsAfter, CallerIsAfter};
@@ -21,6 +22,23 @@ pub fn cuts_change_nothing()
 pub fn stations_are_after()
     ensures caller { CallerIsAfter }
     ensures answerer { AnswererIsAfter }
+{}
+
+/// A wait is over only if the station shows it and its duration has passed since the time that it runs from.
+pub fn waits_pass()
+    ensures { WaitsPass }
+{}
+
+/// The time that `wait` names is the first one at which a wait is over, if nothing comes before; if none is named, none is over at any
+/// time.
+pub fn waits_are_named()
+    ensures { WaitsAreNamed }
+{}
+
+/// T2 and T4 are never over while a carrier is on, nor before the line has been quiet since a carrier of either side.
+pub fn carriers_hold()
+    ensures hold { CarriersHold }
+    ensures calm { CalmIsQuiet }
 {}
 
 /// DCN goes out as one burst by V.21, with no other frame, from each station in every state.

@@ -2,6 +2,7 @@
 //! their flags. It uses `stations`, `hdlc` and the crates below them.
 #![tactic(auto)]
 
+mod clock;
 mod fault;
 mod input;
 pub mod laws;
@@ -12,6 +13,7 @@ mod stopping;
 mod terminal;
 mod timing;
 
+pub use crate::clock::{Clock, Durations, LineState};
 pub use crate::fault::HearFault;
 pub use crate::input::Input;
 pub use crate::sending::SentBurst;

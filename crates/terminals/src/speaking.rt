@@ -4,7 +4,7 @@ ghost use Rattle.std.specs.Prelude.{◌≡◌, [], OnOk, OnErr, true, false};
 ghost use Rattle.signals.specs.Reading.{read_content};
 ghost use Rattle.terminals.specs.Hearing.{heard, heard_if, plain_input};
 ghost use Rattle.terminals.specs.Runs.{TakesAll, TakesSome};
-ghost use Rattle.terminals.specs.Sending.{Sends};
+ghost use Rattle.terminals.specs.Sending.{HasBurst, Sends};
 ghost use Rattle.terminals.specs.Speaking.{Takes, is_silent, spoken};
 ghost use Rattle.terminals.specs.Stopping.{hung_up, silenced, stopped};
 
@@ -85,6 +85,18 @@ impl<S: Station> Speaker<S> {
         let sent = send(alloc, self.station.side(), burst)?;
         self.taken = next;
         Ok(Some(sent))
+    }
+
+    /// Whether a burst of the turn that is kept is left to be sent.
+    pub(crate) fn has_burst(&self) -> bool
+        ensures { HasBurst S.lends self.now result }
+    {
+        let mut bursts = self.station.lend(&self.turn);
+        if self.taken == u8::MAX {
+            return false;
+        }
+        pass(&mut bursts, self.taken);
+        bursts.take_next().is_some()
     }
 
     /// The station hears what a content says; a content that says no signal is left out. Returns false if memory was

@@ -4,7 +4,7 @@ ghost use Rattle.std.specs.Prelude.{◌≡◌, ℕ, List, [], OnOk, OnErr};
 ghost use Rattle.hdlc.specs.DeframerState.{IsAfter};
 ghost use Rattle.terminals.specs.Hearing.{HasHeard, check, over, busy, good_frames};
 ghost use Rattle.terminals.specs.Runs.{Hears};
-ghost use Rattle.terminals.specs.Sending.{Sends};
+ghost use Rattle.terminals.specs.Sending.{HasBurst, Sends};
 ghost use Rattle.terminals.specs.Speaking.{Takes};
 ghost use Rattle.terminals.specs.Stations.{without_pages};
 ghost use Rattle.terminals.specs.Stopping.{IsShown, hung_up, silenced, stopped, with_pages_taken};
@@ -114,6 +114,13 @@ impl<S: Station> Terminal<S> {
         ensures framing { self.new.framing ≡ self.old.framing }
     {
         self.speaker.hear(Input::Busy(is))
+    }
+
+    /// Returns whether a burst of the turn that is kept is left to be sent. Takes no memory.
+    pub fn has_burst(&self) -> bool
+        ensures { HasBurst S.lends self.now.speaking result }
+    {
+        self.speaker.has_burst()
     }
 
     /// Takes the next burst of the turn that is kept, to be sent: flags, the frames of its items, flags; or the zeros

@@ -1,14 +1,16 @@
 -- What the check asks of `next_burst`.
-use Rattle.std.proofs.Common.{◌≡◌, None, Some, Ok, Option, arith, inl, refl, rules, subst}
+use Rattle.std.proofs.Common.{◌≡◌, ◌∙◌, None, Some, Ok, Option, arith, false, inl, inr, refl, rules, subst, sym, true}
 use Rattle.std.specs.declared.alloc.AllocError.{AllocError}
 use Rattle.terminals.specs.Sending.{Sends}
 use Rattle.terminals.specs.declared.sending.SentBurst.{SentBurst}
+use Rattle.g3fax.proofs.BurstLemmas.{sends_none}
 use Rattle.g3fax.proofs.bursts.next_burst.Goals as goal
 
 pub returns-in-Ok-Some-clause-next : goal.returns-in-Ok-Some-clause-next
 returns-in-Ok-Some-clause-next g c =
     let empty : c.args.out.now.value ≡ None = search rules in
     let is : c.in-Ok-Some.field-0 ≡ Some c.in-Ok-Some.sent = search rules in
+    let has : c.has_burst.result ≡ true = search rules in
     record {
       fills = record {
         done = λ done. (
@@ -27,5 +29,27 @@ returns-in-Ok-Some-clause-next g c =
       framing = c.next_burst.ensures.framing;
       kept = λ other. absurd (other refl);
       nothing = λ nothing. absurd (omega (arith, nothing));
+      exactly = λ before. (
+        c.has_burst.result,
+        c.has_burst.ensures,
+        ((λ nothing. absurd (omega (arith, nothing))), λ none. let e : true ≡ false = sym has ∙ none in absurd cc),
+      );
       only = λ before. inl refl;
+    }
+
+pub returns-then-not-has_burst-clause-next : goal.returns-then-not-has_burst-clause-next
+returns-then-not-has_burst-clause-next g c =
+    let empty : c.args.out.now.value ≡ None = search rules in
+    let none : c.has_burst.result ≡ false = search rules in
+    record {
+      fills = record {
+        done = λ done. absurd (omega (arith, done));
+        kept = λ other. c.is_full.ensures.kept;
+        full = λ full. absurd (full empty);
+      };
+      framing = refl;
+      kept = λ other. refl;
+      nothing = λ nothing. sends_none g.S.Station.sends g.S.Station.lends c.args.terminal.now.speaking c.has_burst.result c.has_burst.ensures none;
+      exactly = λ before. (c.has_burst.result, c.has_burst.ensures, ((λ nothing. none), λ is. refl));
+      only = λ before. inr (inl refl);
     }
