@@ -1,5 +1,7 @@
-pub mod Clocks
 pub mod Expecting
+pub mod FrameWords
+pub mod FrameLines
+pub mod FramesWritten
 pub mod TalkedLines
 mod HexPieces
 pub mod Led
@@ -7,6 +9,7 @@ mod LineOctets
 mod ServedLines
 pub mod OneLine
 pub mod Refusals
+pub mod SentFrames
 pub mod Stored
 pub mod StoredLines
 pub mod TakenLines

@@ -1,13 +1,11 @@
 -- What one line says.
-use Rattle.std.proofs.Common.{◌≡◌, ◌≤◌, ◌<◌, ◌+◌, ◌*◌, ◌^◌, ℕ, zero, suc, Bool, false, replicate, List, [], ◌∷◌, ◌++◌, Ok, Result, cond}
+use Rattle.std.proofs.Common.{◌≡◌, ◌≤◌, ◌<◌, ◌+◌, ◌*◌, ◌^◌, ℕ, zero, suc, Bool, false, replicate, List, [], ◌∷◌, ◌++◌, cond}
 use Rattle.std.proofs.Common.{nat_eq}
 use Rattle.std.proofs.Common.{length, get_or, codes, refl, ap, sym, ◌∙◌, subst, arith, length-append, inl, inr}
 use Rattle.std.proofs.lemmas.Fmt.{decimal_is_IsNumeral, length-decimal-le}
 use Rattle.std.specs.Fmt.{decimal}
-use Rattle.std.specs.Result.{result_unwrap_or}
 use Rattle.hex.specs.Hex.{IsBytes, encode_upper, upper_digits}
 use Rattle.hex.proofs.HexLemmas.{decode_of-encode_upper, length-encode_with}
-use Rattle.hex.specs.declared.error.FromHexError.{FromHexError}
 use Rattle.raster.specs.Octets.{AreOctets}
 use Rattle.raster.specs.Packed.{FillsOctets}
 use Rattle.raster.specs.declared.packed.Order.TheVariants.{LsbFirst}
@@ -21,7 +19,9 @@ use Rattle.terminals.specs.declared.sending.SentBurst.{SentBurst}
 use Rattle.conversations.specs.LineLaws.{ChannelsHaveNames, FitsALine, KindsHaveNames, PlainSaid, ReadsWhatIsSent, SaysOneThing}
 use Rattle.conversations.specs.LineLaws.{AnswerersFitLines, CallersFitLines, SentFitsALine}
 use Rattle.conversations.specs.LineLaws.{quiet, busy, not_ready, ready, missed, stop, ended, received, plain_said, rx_line}
-use Rattle.conversations.specs.Lines.{AreBits, IsBurst, IsNumber, IsReceived, IsWordOf, ReceivedAfter}
+use Rattle.conversations.proofs.FrameWords.{not_in_bits, one_coded, same_after}
+use Rattle.conversations.specs.FrameLines.{AreCoded, IsInFrames}
+use Rattle.conversations.specs.Lines.{AreBits, HasCome, IsBurst, IsNumber, IsReceived, IsWordOf, ReceivedAfter}
 use Rattle.conversations.specs.Lines.{channel_name, kind_name, octets_for, spaced}
 use Rattle.conversations.specs.Writing.{burst_words, channel_of, kind_of}
 use Rattle.conversations.specs.declared.carrier.Channel.{Channel}
@@ -32,7 +32,7 @@ use Rattle.conversations.specs.declared.line.Said.{Said}
 use Rattle.conversations.specs.declared.line.Said.TheVariants.{Quiet, Busy, Received, NotReady, Ready, Missed, Stop, End}
 use Rattle.conversations.specs.declared.line.TimedLine.{TimedLine}
 use Rattle.conversations.proofs.Words.{bits_are, channel_solid, kind_solid, number_solid, one_number, same_cut, word_is_not_rx, word_solid}
-use Rattle.conversations.proofs.Words.{rx_solid}
+use Rattle.conversations.proofs.Words.{ok_is, rx_solid}
 
 -- ---- names
 
@@ -97,9 +97,6 @@ is_said_back word Missed h = rw h refl
 is_said_back word Stop h = rw h refl
 is_said_back word End h = rw h refl
 
-ok_is : (a b : List ℕ) (r : Result (List ℕ) FromHexError) → r ≡ Ok a → r ≡ Ok b → a ≡ b
-ok_is a b r p q = ap (λ (x : Result (List ℕ) FromHexError). result_unwrap_or x []) (sym p ∙ q)
-
 one_bits : (text : List ℕ) (n m : ℕ) (xs ys : List ℕ) → AreBits text n xs → AreBits text m ys → (n ≡ m) × (xs ≡ ys)
 one_bits text n m xs ys h k =
     let are = bits_are text k.count k.hex (number_solid 7 k.count m k.count_is) k.text_is n xs h in
@@ -116,8 +113,22 @@ one_burst text c d k l n m xs ys (rest, is, bits) (other, same, others) =
     let last = one_bits other n m xs ys (subst (λ t. AreBits t n xs) second.1 bits) others in
     rw (channels_have_names c d first.0, kinds_have_names k l second.0, last.0, last.1) refl
 
+one_in_frames : (text : List ℕ) (c d : Channel) (k l : Kind) (n m : ℕ) (xs ys : List ℕ) → IsInFrames text c k n xs →
+    IsInFrames text d l m ys → received c k n xs ≡ received d l m ys
+one_in_frames text c d k l n m xs ys h g =
+    let after = same_after text h.after g.after h.text_is g.text_is in
+    let one = one_coded g.after n m xs ys (subst (λ t. AreCoded t n xs) after h.coded) g.coded in
+    rw (h.by_v21, g.by_v21, h.as_frames, g.as_frames, one.0, one.1) refl
+
+one_come : (text : List ℕ) (c d : Channel) (k l : Kind) (n m : ℕ) (xs ys : List ℕ) → HasCome text c k n xs → HasCome text d l m ys →
+    received c k n xs ≡ received d l m ys
+one_come text c d k l n m xs ys (inl h) (inl g) = one_burst text c d k l n m xs ys h g
+one_come text c d k l n m xs ys (inl h) (inr g) = absurd (not_in_bits text g.after c k n xs g.text_is h)
+one_come text c d k l n m xs ys (inr h) (inl g) = absurd (not_in_bits text h.after d l m ys h.text_is g)
+one_come text c d k l n m xs ys (inr h) (inr g) = one_in_frames text c d k l n m xs ys h g
+
 one_received : (text : List ℕ) (said other : Said) → IsReceived text said → IsReceived text other → plain_said said ≡ plain_said other
-one_received text (Received c k n xs) (Received d l m ys) h g = one_burst text c d k l n m xs.items ys.items h g
+one_received text (Received c k n xs) (Received d l m ys) h g = one_come text c d k l n m xs.items ys.items h g
 one_received text (Received c k n xs) Quiet h g = absurd g
 one_received text (Received c k n xs) Busy h g = absurd g
 one_received text (Received c k n xs) NotReady h g = absurd g
@@ -169,7 +180,7 @@ says_one_thing line one other h k = elim h.words [
 
 -- ---- what is sent
 
-are_bytes : (xs : List ℕ) → AreOctets xs → IsBytes xs
+pub are_bytes : (xs : List ℕ) → AreOctets xs → IsBytes xs
 are_bytes [] h i = omega arith
 are_bytes (x ∷ xs) h zero = h.0
 are_bytes (x ∷ xs) h (suc i) = are_bytes xs h.1 i
@@ -241,7 +252,7 @@ reads_what_is_sent burst time n fits number = record {
       burst_words burst,
       refl,
       number,
-      (spaced (decimal burst.bits ∷ encode_upper burst.octets.items ∷ []), refl, sent_bits burst fits),
+      inl (spaced (decimal burst.bits ∷ encode_upper burst.octets.items ∷ []), refl, sent_bits burst fits),
     ),
   );
 }

@@ -7,7 +7,7 @@ use Rattle.conversations.proofs.ServedLines.{AreAmong, Serves, all_read_among, b
 use Rattle.conversations.proofs.ServedLines.{serves_more, step_serves, taken_serves}
 use Rattle.conversations.specs.Answering.{StoreStep, StoresEach, limited_behaviour, pages_of}
 use Rattle.conversations.specs.Conversations.{ConversationFields, Gives, PlainGiven, SendsIfBegun, TakesLine, gives, heard_given, line_gives}
-use Rattle.conversations.specs.Conversations.{missed_given, refused_so, stopped_for}
+use Rattle.conversations.specs.Conversations.{missed_given, refused_so, state_of, stopped_for}
 use Rattle.conversations.specs.Refusing.{refusal_in}
 use Rattle.conversations.specs.declared.refusing.Refusal.{Refusal}
 use Rattle.conversations.specs.Conversations.{over_given, nothing, stopping, losing, frames, input}
@@ -16,15 +16,12 @@ use Rattle.conversations.specs.Lines.{Says}
 use Rattle.conversations.specs.StoredLines.{AreOfLine, AreOfLines, IsNewAnswerer, LastIsSaid, RefusedIsLast, StoredIsSaid}
 use Rattle.conversations.specs.StoredLines.{received_octets, signals_in, storing}
 use Rattle.conversations.specs.Talking.{GivesAll}
-use Rattle.conversations.specs.Clocks.{clock_at, wait_over}
 use Rattle.conversations.specs.Hearing.{heard_as}
 use Rattle.conversations.specs.declared.hearing.Heard.{Heard}
 use Rattle.conversations.specs.declared.hearing.Heard.TheVariants.{Frames, Check, Nothing}
 use Rattle.conversations.specs.declared.line.Said.{Said}
 use Rattle.conversations.specs.declared.line.Said.TheVariants.{Quiet, Busy, Received, NotReady, Ready, Missed, Stop, End}
 use Rattle.conversations.specs.declared.line.TimedLine.{TimedLine}
-use Rattle.conversations.specs.declared.clock.Clock.{Clock}
-use Rattle.conversations.specs.declared.clock.Durations.{Durations}
 use Rattle.hdlc.specs.Flags as Flags
 use Rattle.raster.specs.Packed as Packed
 use Rattle.raster.specs.Pages.{PagePixels}
@@ -45,6 +42,7 @@ use Rattle.stations.specs.declared.stopping.Cut.TheVariants.{Stop as StopCut, Lo
 use Rattle.stations.specs.declared.turn.Turn.{Turn}
 use Rattle.stations.specs.declared.waiting.Wait.{Wait}
 use Rattle.stations.specs.declared.waiting.Wait.TheVariants.{T1, T2, T4, T5}
+use Rattle.terminals.specs.Clocks.{clock_at, wait_over}
 use Rattle.terminals.specs.Hearing.{CutsChangeNothing, HasHeard, PlainInput, contents, heard_of}
 use Rattle.terminals.specs.Runs.{TakesAll, TerminalFields}
 use Rattle.terminals.specs.Speaking.{BurstsOf, Speaking}
@@ -52,6 +50,8 @@ use Rattle.terminals.specs.StationsAfter.{answerer_inputs}
 use Rattle.terminals.specs.Stations.{answerer_takes}
 use Rattle.terminals.specs.Stopping.{LimitedStepsUnlessCut, limited_cut_off, limited_stop_says}
 use Rattle.terminals.specs.declared.sending.SentBurst.{SentBurst}
+use Rattle.terminals.specs.declared.clock.Clock.{Clock}
+use Rattle.terminals.specs.declared.clock.Durations.{Durations}
 use Rattle.terminals.specs.declared.stopping.Shown.{Shown}
 
 -- an answerer with limits takes a step, unless its call was cut off
@@ -251,7 +251,7 @@ heard_line : CutsChangeNothing → (caps : Caps) (params : Params) (line octets 
     HeardLine caps params line octets (refused_so limited_behaviour new).terminal
 heard_line cuts caps params line octets timed old new h says is =
     let g = gives limited_behaviour old is.shown timed in
-    let of = gives_of old.begun limited_behaviour.side is.shown (clock_at old.clock timed.said timed.at) old.durations timed.said in
+    let of = gives_of old.begun limited_behaviour.side is.shown (clock_at old.clock (state_of timed.said) timed.at) old.durations timed.said in
     record {
       here = octets_given g;
       of_it = of_line line timed (octets_given g) says of.octets;

@@ -1,19 +1,20 @@
 -- A line that was taken, from what each step of the code leaves.
-use Rattle.std.proofs.Common.{◌≡◌, ◌∙◌, Bool, true, ap, refl, subst}
+use Rattle.std.proofs.Common.{◌≡◌, ◌⊎◌, ◌∙◌, Bool, true, ap, refl, subst}
 use Rattle.std.specs.Prelude.{Option, cond}
-use Rattle.conversations.specs.Clocks.{asked_since, clock_at, heard_now}
-use Rattle.conversations.specs.Conversations.{Behaviour, ConversationFields, Gives, IsInTime, PlainGiven, TakesLine, begins, line_gives}
+use Rattle.conversations.specs.Conversations.{Behaviour, ConversationFields, Gives, IsInTime, IsRefused, PlainGiven, RefusesLine, TakesLine}
+use Rattle.conversations.specs.Conversations.{begins, line_gives, state_of}
 use Rattle.conversations.specs.Refusing.{WatchFields, Watches, v21_octets}
-use Rattle.conversations.specs.declared.clock.Clock.{Clock}
 use Rattle.conversations.specs.declared.line.TimedLine.{TimedLine}
 use Rattle.signals.specs.declared.signal.Side.{Side}
+use Rattle.terminals.specs.Clocks.{asked_since, clock_at, heard_now}
 use Rattle.terminals.specs.Runs.{TerminalFields}
+use Rattle.terminals.specs.declared.clock.Clock.{Clock}
 use Rattle.terminals.specs.declared.stopping.Shown.{Shown}
 
 pub line_taken :
     {S : Type 0} (b : Behaviour S) (old : ConversationFields S) (line : TimedLine) (terminal : TerminalFields S) (clock heard asked : Clock)
     (begun brought : Bool) (given : PlainGiven) (shown later : Shown) (side : Side) (watch : Option WatchFields) →
-    IsInTime old line → b.shows old.terminal.speaking.station shown → side ≡ b.side → clock ≡ clock_at old.clock line.said line.at →
+    IsInTime old line → b.shows old.terminal.speaking.station shown → side ≡ b.side → clock ≡ clock_at old.clock (state_of line.said) line.at →
     given ≡ line_gives old.begun side shown clock old.durations line.said → Gives b old.terminal given terminal brought →
     b.shows terminal.speaking.station later → heard ≡ heard_now brought clock → asked ≡ asked_since later.longer heard →
     begun ≡ cond old.begun true (begins line.said line.at) → Watches old.watch (v21_octets old.begun line.said) watch →
@@ -40,3 +41,25 @@ line_taken b old line terminal clock heard asked begun brought given shown later
       says = refl;
       watches = watched;
     }
+
+-- a line for which memory was refused, from what each step of the code leaves
+pub line_refused :
+    {S : Type 0} (b : Behaviour S) (old : ConversationFields S) (line : TimedLine) (terminal : TerminalFields S) (clock : Clock)
+    (given : PlainGiven) (shown : Shown) (side : Side) (watch : Option WatchFields) → IsInTime old line →
+    b.shows old.terminal.speaking.station shown → side ≡ b.side → clock ≡ clock_at old.clock (state_of line.said) line.at →
+    given ≡ line_gives old.begun side shown clock old.durations line.said → IsRefused b old.terminal given terminal →
+    (watch ≡ old.watch) ⊎ Watches old.watch (v21_octets old.begun line.said) watch →
+    RefusesLine S b old line (record old { terminal = terminal; watch = watch })
+line_refused b old line terminal clock given shown side watch in_time shows side_is clock_is given_is refused watched = record {
+  shown = shown;
+  in_time = in_time;
+  shows = shows;
+  given =
+      subst (λ g. IsRefused b old.terminal g terminal)
+      (given_is ∙
+      (ap (λ s. line_gives old.begun s shown clock old.durations line.said) side_is ∙
+      ap (λ c. line_gives old.begun b.side shown c old.durations line.said) clock_is))
+      refused;
+  watched = watched;
+  rest = refl;
+}

@@ -4,10 +4,9 @@ use Rattle.std.proofs.lemmas.List.{append-nil}
 use Rattle.std.proofs.KnownBytes.{Appends-trans}
 use Rattle.std.specs.Io.KnownBytes.{Appends}
 use Rattle.std.specs.Prelude.{◌↔◌, ℕ, IsSome, IsTrue, Bool, true, false, Option, Some, None, Ok, flat_map}
-use Rattle.conversations.specs.Conversations.{ConversationFields, SendsIfBegun}
+use Rattle.conversations.specs.Conversations.{ConversationFields, SendsIfBegun, next_quiet}
 use Rattle.conversations.specs.Talking.{GivesAll, GivesNext, WritesTurn, rest_text}
-use Rattle.conversations.specs.Clocks.{next_quiet}
-use Rattle.conversations.specs.Writing.{on_lines, rest_lines, tx_line}
+use Rattle.conversations.specs.Writing.{burst_line, on_lines, rest_lines}
 use Rattle.conversations.specs.declared.writing.Says.{Says}
 use Rattle.signals.specs.declared.signal.Side.{Side}
 use Rattle.terminals.specs.Speaking.{BurstsOf}
@@ -15,10 +14,10 @@ use Rattle.terminals.specs.declared.sending.SentBurst.{SentBurst}
 use Rattle.terminals.specs.declared.stopping.Shown.{Shown}
 
 -- some bursts were given and written: where the bursts that are left are given, all are
-pub record IsGiving {S : Type 0} (side : Side) (lends : BurstsOf S) (first now : ConversationFields S) (before here : Option (List ℕ)) :
+pub record IsGiving {S : Type 0} (frames : Bool) (side : Side) (lends : BurstsOf S) (first now : ConversationFields S) (before here : Option (List ℕ)) :
     Type 0 where
   pub done : List SentBurst
-  pub written : Appends before here (flat_map tx_line done)
+  pub written : Appends before here (flat_map (burst_line frames) done)
   pub all : (rest : List SentBurst) (new : ConversationFields S) → GivesAll side lends now rest new →
       GivesAll side lends first (done ++ rest) new
 
@@ -32,24 +31,26 @@ given_next E side lends true old new None is = is
 given_next E side lends true old new (Some sent) is = is
 
 -- before the first burst
-pub begins_giving : {S : Type 0} (side : Side) (lends : BurstsOf S) (first : ConversationFields S) (before : Option (List ℕ)) →
-    Appends before before [] → IsGiving side lends first first before before
-begins_giving side lends first before nothing =
+pub begins_giving : {S : Type 0} (frames : Bool) (side : Side) (lends : BurstsOf S) (first : ConversationFields S) (before : Option (List ℕ)) →
+    Appends before before [] → IsGiving frames side lends first first before before
+begins_giving frames side lends first before nothing =
     record { done = []; written = nothing; all = λ rest new is. is }
 
-flat_push : (xs : List SentBurst) (x : SentBurst) → flat_map tx_line (xs ++ x ∷ []) ≡ flat_map tx_line xs ++ tx_line x
-flat_push [] x = append-nil (tx_line x)
-flat_push (y ∷ xs) x = ap (λ (l : List ℕ). tx_line y ++ l) (flat_push xs x) ∙ sym (append_assoc (tx_line y) (flat_map tx_line xs) (tx_line x))
+flat_push : (line : SentBurst → List ℕ) (xs : List SentBurst) (x : SentBurst) →
+    flat_map line (xs ++ x ∷ []) ≡ flat_map line xs ++ line x
+flat_push line [] x = append-nil (line x)
+flat_push line (y ∷ xs) x =
+    ap (λ (l : List ℕ). line y ++ l) (flat_push line xs x) ∙ sym (append_assoc (line y) (flat_map line xs) (line x))
 
 -- one burst more is given and written
-pub one_given : {S : Type 0} (side : Side) (lends : BurstsOf S) (first now next : ConversationFields S)
-    (before here after : Option (List ℕ)) (burst : SentBurst) → IsGiving side lends first now before here →
-    GivesNext side lends now (Some burst) next → Appends here after (tx_line burst) → IsGiving side lends first next before after
-one_given side lends first now next before here after burst way gives line = record {
+pub one_given : {S : Type 0} (frames : Bool) (side : Side) (lends : BurstsOf S) (first now next : ConversationFields S)
+    (before here after : Option (List ℕ)) (burst : SentBurst) → IsGiving frames side lends first now before here →
+    GivesNext side lends now (Some burst) next → Appends here after (burst_line frames burst) → IsGiving frames side lends first next before after
+one_given frames side lends first now next before here after burst way gives line = record {
   done = way.done ++ burst ∷ [];
   written =
-      subst (λ (l : List ℕ). Appends before after l) (sym (flat_push way.done burst))
-      (Appends-trans before here after (flat_map tx_line way.done) (tx_line burst) way.written line);
+      subst (λ (l : List ℕ). Appends before after l) (sym (flat_push (burst_line frames) way.done burst))
+      (Appends-trans before here after (flat_map (burst_line frames) way.done) (burst_line frames burst) way.written line);
   all = λ rest new is.
       subst (λ (l : List SentBurst). GivesAll side lends first l new) (sym (append_assoc way.done (burst ∷ []) rest))
       (way.all (burst ∷ rest) new (next, gives, is));
@@ -57,7 +58,7 @@ one_given side lends first now next before here after burst way gives line = rec
 
 -- no burst is left, and what comes after them is written
 pub turn_written : {S : Type 0} (side : Side) (lends : BurstsOf S) (shows : S → Shown → Type 0) (first now new : ConversationFields S)
-    (before here after : Option (List ℕ)) (over : Bool) → IsGiving side lends first now before here →
+    (before here after : Option (List ℕ)) (over : Bool) → IsGiving first.says.frames side lends first now before here →
     GivesNext side lends now None new → (shown : Shown) → shows new.terminal.speaking.station shown → (IsTrue over ↔ IsSome shown.end) →
     Appends here after (rest_text side new shown) → WritesTurn S side lends shows first new before after over
 turn_written side lends shows first now new before here after over way none shown so is_over rest = record {
@@ -65,7 +66,7 @@ turn_written side lends shows first now new before here after over way none show
   gives = subst (λ (l : List SentBurst). GivesAll side lends first l new) (append-nil way.done) (way.all [] new none);
   rest = rest_text side new shown;
   says_rest = (shown, so, is_over, refl);
-  writes = Appends-trans before here after (flat_map tx_line way.done) (rest_text side new shown) way.written rest;
+  writes = Appends-trans before here after (flat_map (burst_line first.says.frames) way.done) (rest_text side new shown) way.written rest;
 }
 
 -- what is said after the bursts, of values that are equal

@@ -7,6 +7,7 @@ use Rattle.std.proofs.lemmas.Str.{IsUtf8-from_ascii}
 use Rattle.std.proofs.lemmas.Fmt.{IsAscii-from_digits}
 use Rattle.std.proofs.lemmas.Int.Digits.{digits_value-lt}
 use Rattle.std.specs.Int.{div_ceil}
+use Rattle.std.specs.Result.{result_unwrap_or}
 use Rattle.std.specs.Char.{digit_value}
 use Rattle.std.specs.Str.Parse.{AllDigits, IsNumeral, digits_value, without_leading_plus}
 use Rattle.std.proofs.lemmas.Str.Parse.{without_leading_plus_none}
@@ -14,7 +15,7 @@ use Rattle.std.proofs.Common.{le_trans}
 use Rattle.hex.specs.Hex.{decode_of}
 use Rattle.hex.proofs.HexLemmas.{decode_of-ok}
 use Rattle.hex.specs.declared.error.FromHexError.{FromHexError}
-use Rattle.conversations.specs.Lines.{AreBits, HasNoSpace, IsBurst, IsNumber, IsReceived, IsWordOf, ReceivedAfter, Says, SaysNothing}
+use Rattle.conversations.specs.Lines.{AreBits, HasCome, HasNoSpace, IsBurst, IsNumber, IsReceived, IsWordOf, ReceivedAfter, Says, SaysNothing}
 use Rattle.conversations.specs.Lines.{channel_name, kind_name, octets_for, spaced}
 use Rattle.conversations.specs.declared.line.Said.{Said}
 use Rattle.conversations.specs.declared.line.Said.TheVariants.{Quiet, Busy, Received, NotReady, Ready, Missed, Stop, End}
@@ -95,6 +96,10 @@ digits_utf8 most digits number h = IsUtf8-from_ascii digits (IsAscii-from_digits
 -- digits write one number
 pub one_number : (most other : ℕ) (digits : List ℕ) (m n : ℕ) → IsNumber most digits m → IsNumber other digits n → m ≡ n
 one_number most other digits m n h k = h.value ∙ sym k.value
+
+-- a result is one value
+pub ok_is : (a b : List ℕ) (r : Result (List ℕ) FromHexError) → r ≡ Ok a → r ≡ Ok b → a ≡ b
+ok_is a b r p q = ap (λ (x : Result (List ℕ) FromHexError). result_unwrap_or x []) (sym p ∙ q)
 
 -- ---- bits
 
@@ -204,7 +209,7 @@ module _ (text digits after : List ℕ) (solid : HasNoSpace digits) (cut : text 
   no_time none timed (time, burst, is, number, received) =
       none timed.at (subst (λ d. IsNumber 15 d timed.at) (time_cut time burst timed.at is number).0 number)
 
-  pub no_received : ((channel : Channel) (kind : Kind) (count : ℕ) (octets : List ℕ) → IsBurst after channel kind count octets → ⊥)
+  pub no_received : ((channel : Channel) (kind : Kind) (count : ℕ) (octets : List ℕ) → HasCome after channel kind count octets → ⊥)
       → (timed : TimedLine) → ReceivedAfter text timed → ⊥
   no_received none timed (time, burst, is, number, received) =
       not_received timed.said (subst (λ b. IsReceived b timed.said) (time_cut time burst timed.at is number).1 received)

@@ -1,10 +1,7 @@
 -- The conversation of a station as a process: what each line gives the station, and when its waits are over.
-use Rattle.std.specs.Prelude.{ℕ, ◌≡◌, ◌⊎◌, ◌<◌, ◌≤◌, ◌+◌, ◌++◌, [], ◌∷◌, Bool, true, false, cond, max, nat_le, nat_lt, List, Option, Some, None, Result, Ok, Err}
-use Rattle.conversations.specs.Clocks.{after_burst, asked_since, clock_at, heard_now, new_clock, wait_over}
+use Rattle.std.specs.Prelude.{ℕ, ◌≡◌, ◌⊎◌, ◌<◌, ◌≤◌, ◌+◌, ◌++◌, [], ◌∷◌, Bool, true, false, cond, nat_le, nat_lt, List, Option, Some, None, Result, Ok, Err}
 use Rattle.conversations.specs.Hearing.{heard_as}
 use Rattle.conversations.specs.Refusing.{WatchFields, Watches, refusal_in, v21_octets}
-use Rattle.conversations.specs.declared.clock.Clock.{Clock}
-use Rattle.conversations.specs.declared.clock.Durations.{Durations}
 use Rattle.conversations.specs.declared.conversation.TakeFault.{TakeFault}
 use Rattle.conversations.specs.declared.conversation.TakeFault.TheVariants.{OutOfTime, NoMemory}
 use Rattle.conversations.specs.declared.giving.Given.{Given}
@@ -24,6 +21,7 @@ use Rattle.stations.specs.declared.listening.Listening.TheVariants.{V21, Trainin
 use Rattle.stations.specs.declared.stopping.Cut.{Cut}
 use Rattle.stations.specs.declared.turn.Turn.{Turn}
 use Rattle.stations.specs.declared.waiting.Wait.{Wait}
+use Rattle.terminals.specs.Clocks.{after_burst, asked_since, clock_at, heard_now, most_step, new_clock, wait_due, wait_over}
 use Rattle.terminals.specs.Hearing.{HasHeard, PlainInput, check, said, over, busy, good_frames}
 use Rattle.terminals.specs.Runs.{Hears, TerminalFields}
 use Rattle.terminals.specs.Sending.{Sends}
@@ -31,6 +29,10 @@ use Rattle.terminals.specs.Speaking.{BurstsOf, StepOf, Takes}
 use Rattle.stations.specs.Limiting.{LimitedFields}
 use Rattle.terminals.specs.Stopping.{hung_up, silenced, stopped}
 use Rattle.terminals.specs.Stopping.{with_pages_taken as without_its_pages}
+use Rattle.terminals.specs.declared.clock.Clock.{Clock}
+use Rattle.terminals.specs.declared.clock.Durations.{Durations}
+use Rattle.terminals.specs.declared.clock.LineState.{LineState}
+use Rattle.terminals.specs.declared.clock.LineState.TheVariants.{Quiet as IsQuiet, Carrier as HasCarrier, Unsaid}
 use Rattle.terminals.specs.declared.fault.HearFault.TheVariants.{FrameLost}
 use Rattle.terminals.specs.declared.sending.SentBurst.{SentBurst}
 use Rattle.terminals.specs.declared.stopping.Shown.{Shown}
@@ -70,6 +72,17 @@ missed_given (Training speed) = input (check [])
 missed_given (V21OrPage speed) = nothing
 missed_given (V21ThenPage speed) = nothing
 
+-- what a line says of the line of the call: `quiet` that nothing is on it, `busy` and `rx` that a carrier is on or has just ended
+abbrev pub state_of : Said → LineState
+state_of Quiet = IsQuiet
+state_of Busy = HasCarrier
+state_of (Received channel kind bits octets) = HasCarrier
+state_of NotReady = Unsaid
+state_of Ready = Unsaid
+state_of Missed = Unsaid
+state_of Stop = Unsaid
+state_of End = Unsaid
+
 -- What a line gives a station. Until the station has begun nothing is heard and no wait is over.
 abbrev pub line_gives : Bool → Side → Shown → Clock → Durations → Said → PlainGiven
 line_gives begun side shown c d Quiet = cond begun (over_given (wait_over side shown c d)) nothing
@@ -92,6 +105,11 @@ begins Ready at = false
 begins Missed at = false
 begins Stop at = true
 begins End at = false
+
+-- the time from which a quiet line does something: a station that has begun ends a wait then, and an answerer that hasn't begins
+abbrev pub next_quiet : Bool → Side → Shown → Clock → Durations → Option ℕ
+next_quiet true side shown c d = wait_due side shown c d
+next_quiet false side shown c d = Some 1000
 
 -- octets bring a good frame that the octets before them hadn't
 abbrev pub brings_frame : List ℕ → List ℕ → Bool
@@ -149,36 +167,29 @@ pub record ConversationFields (S : Type 0) : Type 0 where
   pub says : Says
   pub watch : Option WatchFields
 
--- nothing is said beside bursts and a word
+-- nothing is said beside bursts, in bits, and a word
 abbrev pub says_least : Says
-says_least = record { hears = false; waits = false }
+says_least = record { hears = false; waits = false; frames = false }
 
 -- a new conversation of a station, at time 0
 abbrev pub IsNew : {S : Type 0} → TerminalFields S → Durations → Bool → ConversationFields S → Type 0
 IsNew terminal durations begun new =
     new ≡ record { terminal = terminal; clock = new_clock; durations = durations; begun = begun; says = says_least; watch = None }
 
--- How much later than the line before it a line can be, in milliseconds. A line that was quiet and is quiet is said so again before T1 is
--- over, or 35 s if that is more: a clock that jumps further has stood still, or tells the time of day. A carrier in between may be a block
--- at 2,400 bit/s, of 275 s: ten minutes are enough
-abbrev pub most_step : Option ℕ → Said → Durations → ℕ
-most_step (Some since) Quiet d = max d.t1 35000
-most_step calm what d = max d.t1 600000
-
 -- the time of a line can follow that of the last one: it isn't before it, nor too late
 abbrev pub IsInTime : {S : Type 0} → ConversationFields S → TimedLine → Type 0
-IsInTime c line = (c.clock.now ≤ line.at) × (line.at ≤ c.clock.now + most_step c.clock.calm line.said c.durations)
+IsInTime c line = (c.clock.now ≤ line.at) × (line.at ≤ c.clock.now + most_step c.clock.calm (state_of line.said) c.durations)
 
 -- it can't: it is before that of the last line, or too late
 abbrev pub IsOutOfTime : {S : Type 0} → ConversationFields S → TimedLine → Type 0
-IsOutOfTime c line = (line.at < c.clock.now) ⊎ (c.clock.now + most_step c.clock.calm line.said c.durations < line.at)
+IsOutOfTime c line = (line.at < c.clock.now) ⊎ (c.clock.now + most_step c.clock.calm (state_of line.said) c.durations < line.at)
 
 -- what a line gives the station of a conversation, by what the station shows
 abbrev pub gives : {S : Type 0} → Behaviour S → ConversationFields S → Shown → TimedLine → PlainGiven
-gives b old shown line = line_gives old.begun b.side shown (clock_at old.clock line.said line.at) old.durations line.said
+gives b old shown line = line_gives old.begun b.side shown (clock_at old.clock (state_of line.said) line.at) old.durations line.said
 
--- A line was taken, at a time that can follow that of the line before it: the terminal was given what it gives, and the clock and the beginning were
--- noted.
+-- A line was taken, at a time that can follow that of the line before it: the terminal was given what it gives, and the clock and the
+-- beginning were noted.
 pub record TakesLine (S : Type 0) (b : Behaviour S) (old : ConversationFields S) (line : TimedLine) (new : ConversationFields S) :
     Type 0 where
   pub shown : Shown
@@ -188,19 +199,20 @@ pub record TakesLine (S : Type 0) (b : Behaviour S) (old : ConversationFields S)
   pub shows : b.shows old.terminal.speaking.station shown
   pub given : Gives b old.terminal (gives b old shown line) new.terminal brought
   pub shows_later : b.shows new.terminal.speaking.station later
-  pub clock : new.clock ≡ asked_since later.longer (heard_now brought (clock_at old.clock line.said line.at))
+  pub clock : new.clock ≡ asked_since later.longer (heard_now brought (clock_at old.clock (state_of line.said) line.at))
   pub begun : new.begun ≡ cond old.begun true (begins line.said line.at)
   pub durations : new.durations ≡ old.durations
   pub says : new.says ≡ old.says
   pub watches : Watches old.watch (v21_octets old.begun line.said) new.watch
 
--- memory was refused at a line: all but the terminal and what is watched is as it was
+-- memory was refused at a line: all but the terminal and what is watched is as it was, and what is watched is too, unless it heard the line
 pub record RefusesLine (S : Type 0) (b : Behaviour S) (old : ConversationFields S) (line : TimedLine) (new : ConversationFields S) :
     Type 0 where
   pub shown : Shown
   pub in_time : IsInTime old line
   pub shows : b.shows old.terminal.speaking.station shown
   pub given : IsRefused b old.terminal (gives b old shown line) new.terminal
+  pub watched : (new.watch ≡ old.watch) ⊎ Watches old.watch (v21_octets old.begun line.said) new.watch
   pub rest : new ≡ record old { terminal = new.terminal; watch = new.watch }
 
 -- a line was taken; or its time can't follow that of the line before it, and nothing has changed; or memory was refused

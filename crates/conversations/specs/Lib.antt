@@ -1,7 +1,8 @@
 pub mod Answering
-pub mod Clocks
 pub mod Conversations
 pub mod Conversing
+pub mod FrameLines
+pub mod FrameLineLaws
 pub mod Hearing
 pub mod Led
 pub mod LineLaws

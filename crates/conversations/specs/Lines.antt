@@ -9,6 +9,7 @@ use Rattle.conversations.specs.declared.carrier.Channel.{Channel}
 use Rattle.conversations.specs.declared.carrier.Channel.TheVariants.{V21, Message}
 use Rattle.conversations.specs.declared.carrier.Kind.{Kind}
 use Rattle.conversations.specs.declared.carrier.Kind.TheVariants.{Frames, Check}
+use Rattle.conversations.specs.FrameLines.{IsInFrames}
 use Rattle.conversations.specs.declared.line.Said.{Said}
 use Rattle.conversations.specs.declared.line.Said.TheVariants.{Quiet, Busy, Received, NotReady, Ready, Missed, Stop, End}
 use Rattle.conversations.specs.declared.line.TimedLine.{TimedLine}
@@ -78,12 +79,16 @@ abbrev pub IsTimed : List ℕ → TimedLine → Type 0
 IsTimed line timed = (word : List ℕ) × (time : List ℕ)
     × (line ≡ spaced (word ∷ time ∷ [])) × IsWordOf word timed.said × IsNumber 15 time timed.at
 
+-- CARRIER KIND BITS HEX or v21 frames HEX HEX ..: a burst that has come
+abbrev pub HasCome : List ℕ → Channel → Kind → ℕ → List ℕ → Type 0
+HasCome text channel kind bits octets = IsBurst text channel kind bits octets ⊎ IsInFrames text channel kind bits octets
+
 -- the line says that this burst was received
 abbrev pub IsReceived : List ℕ → Said → Type 0
-IsReceived burst (Received channel kind bits octets) = IsBurst burst channel kind bits octets.items
+IsReceived burst (Received channel kind bits octets) = HasCome burst channel kind bits octets.items
 IsReceived burst said = ⊥
 
--- T CARRIER KIND BITS HEX, what follows `rx`: the time and a burst
+-- what follows `rx`: the time and a burst
 abbrev pub ReceivedAfter : List ℕ → TimedLine → Type 0
 ReceivedAfter text timed = (time : List ℕ) × (burst : List ℕ)
     × (text ≡ spaced (time ∷ burst ∷ [])) × IsNumber 15 time timed.at × IsReceived burst timed.said

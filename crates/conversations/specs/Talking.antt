@@ -1,10 +1,9 @@
 -- The answer to a line: what the station makes of it, and the lines that are written.
 use Rattle.std.specs.Prelude.{ℕ, ◌≡◌, ◌++◌, ◌∷◌, [], ◌↔◌, ⊤, Bool, IsTrue, IsSome, List, Option, Some, None, Ok, flat_map}
 use Rattle.std.specs.Io.KnownBytes.{Appends}
-use Rattle.conversations.specs.Conversations.{Behaviour, ConversationFields, IsOutOfTime, SendsIfBegun, TakesLine, refused_so}
-use Rattle.conversations.specs.Clocks.{next_quiet}
+use Rattle.conversations.specs.Conversations.{Behaviour, ConversationFields, IsOutOfTime, SendsIfBegun, TakesLine, refused_so, next_quiet}
 use Rattle.conversations.specs.Lines.{Says, SaysNothing}
-use Rattle.conversations.specs.Writing.{on_lines, rest_lines, tx_line}
+use Rattle.conversations.specs.Writing.{burst_line, on_lines, rest_lines}
 use Rattle.conversations.specs.declared.line.TimedLine.{TimedLine}
 use Rattle.conversations.specs.declared.talking.AnswerFault.{AnswerFault}
 use Rattle.conversations.specs.declared.talking.AnswerFault.TheVariants.{NoLine, OutOfTime}
@@ -41,7 +40,7 @@ pub record WritesTurn (S : Type 0) (side : Side) (lends : BurstsOf S) (shows : S
   pub gives : GivesAll side lends old bursts new
   pub rest : List ℕ
   pub says_rest : SaysRest side shows new over rest
-  pub writes : Appends before after (flat_map tx_line bursts ++ rest)
+  pub writes : Appends before after (flat_map (burst_line old.says.frames) bursts ++ rest)
 
 -- a relation that says how what a line brought is kept: the keeper and the conversation before and after, and if all was kept
 abbrev pub KeepsOf : Type 0 → Type 0 → Type 1

@@ -4,6 +4,7 @@ use Rattle.std.specs.Fmt.{decimal}
 use Rattle.hex.specs.Hex.{encode_upper}
 use Rattle.stations.specs.declared.carrier.Carrier.{Carrier}
 use Rattle.stations.specs.declared.carrier.Carrier.TheVariants.{V21, Training, Page}
+use Rattle.terminals.specs.Hearing.{contents}
 use Rattle.terminals.specs.declared.sending.SentBurst.{SentBurst}
 use Rattle.conversations.specs.declared.carrier.Channel.{Channel}
 use Rattle.conversations.specs.declared.carrier.Channel.TheVariants as channel
@@ -11,6 +12,7 @@ use Rattle.conversations.specs.declared.carrier.Kind.{Kind}
 use Rattle.conversations.specs.declared.carrier.Kind.TheVariants.{Frames, Check}
 use Rattle.conversations.specs.declared.hearing.Expected.{Expected}
 use Rattle.conversations.specs.declared.writing.Says.{Says}
+use Rattle.conversations.specs.FrameLines.{contents_text}
 use Rattle.conversations.specs.Hearing.{expected_first, expected_then}
 use Rattle.conversations.specs.Lines.{channel_name, kind_name, spaced}
 use Rattle.stations.specs.declared.listening.Listening.{Listening}
@@ -36,6 +38,25 @@ burst_words burst = spaced (channel_name (channel_of burst.carrier) ∷ kind_nam
 -- the line of a burst that is sent: `tx` and the burst's words
 abbrev pub tx_line : SentBurst → List ℕ
 tx_line burst = spaced (codes "tx" ∷ burst_words burst ∷ []) ++ 10 ∷ []
+
+-- v21 frames HEX HEX ..: the words of a burst by V.21, as the contents of its good frames, in capitals
+abbrev pub frames_words : SentBurst → List ℕ
+frames_words burst = codes "v21 frames" ++ contents_text (contents burst.octets.items)
+
+-- the line of a burst by V.21, as contents
+abbrev pub frames_line : SentBurst → List ℕ
+frames_line burst = spaced (codes "tx" ∷ frames_words burst ∷ []) ++ 10 ∷ []
+
+-- the line of a burst by a carrier, in contents if they are wanted and it goes by V.21
+abbrev pub line_by : Bool → Carrier → SentBurst → List ℕ
+line_by false carrier burst = tx_line burst
+line_by true V21 burst = frames_line burst
+line_by true (Training speed) burst = tx_line burst
+line_by true (Page speed) burst = tx_line burst
+
+-- the line of a burst that is sent, in contents if they are wanted and it goes by V.21
+abbrev pub burst_line : Bool → SentBurst → List ℕ
+burst_line frames burst = line_by frames burst.carrier burst
 
 -- hear CARRIER KIND: a line of what a station expects
 abbrev pub hear_line : Expected → List ℕ

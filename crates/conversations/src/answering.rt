@@ -56,10 +56,10 @@ pub fn keep_pages<P: PageStore>(
     }
 }
 
-/// Takes a line, stops the call if a second DCS wasn't allowed, and stores each page that the answerer accepted at the line before any burst can be sent: a page is confirmed only once it is
-/// stored. Returns None if all pages are stored, in order: then the bursts are those of the answerer's turn. Returns the error of the first
-/// page that is refused: the pages before it are stored, and DCN is sent in place of the turn. Errs as `Conversation::take` does, with
-/// nothing stored.
+/// Takes a line, stops the call if a second DCS wasn't allowed, and stores each page that the answerer accepted at the line before any
+/// burst can be sent: a page is confirmed only once it is stored. Returns None if all pages are stored, in order: then the bursts are those
+/// of the answerer's turn. Returns the error of the first page that is refused: the pages before it are stored, and DCN is sent in place of
+/// the turn. Errs as `Conversation::take` does, with nothing stored.
 pub fn answer_line<P: PageStore>(
     conversation: &mut Conversation<LimitedAnswerer>,
     line: &TimedLine,

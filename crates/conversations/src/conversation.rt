@@ -1,16 +1,14 @@
 //! The conversation of a station as a process: lines that are taken, and bursts that are given.
 
 ghost use Rattle.conversations.specs.Conversations.{IsInTime, IsNew, IsOutOfTime, SendsIfBegun, TakesOrRefuses, behaviour, with_pages_taken, hung_up_so};
-ghost use Rattle.conversations.specs.Conversations.{refused_so};
+ghost use Rattle.conversations.specs.Conversations.{next_quiet, refused_so};
 ghost use Rattle.conversations.specs.Refusing.{WatchFields, refusal_in};
 ghost use Rattle.conversations.specs.declared.refusing.Refused.TheVariants.{Never};
 ghost use Rattle.hdlc.specs.DeframerState.{IsAfter};
-ghost use Rattle.conversations.specs.Clocks.{next_quiet};
 ghost use Rattle.std.specs.Prelude.{◌≡◌, ◌↔◌, [], IsTrue, IsSome, Some, true, false};
 ghost use Rattle.terminals.specs.declared.stopping.Shown.{Shown as AnyShown};
 
-use crate::clock::{Clock, Durations};
-use crate::giving::{give, has_begun, line_gives, most_step};
+use crate::giving::{clock_at, give, has_begun, line_gives, most_step};
 use crate::line::TimedLine;
 use crate::refusing::{Refusal, Watch, refusal_in, v21_octets, watch_octets};
 use crate::writing::Says;
@@ -19,7 +17,7 @@ use signals::Caps;
 use stations::{CallEnd, LimitedAnswerer, StoppableCaller};
 use std::alloc::{AllocError, Global};
 use std::marker::Model;
-use terminals::{SentBurst, Shown, Station, Stoppable, Terminal};
+use terminals::{Clock, Durations, SentBurst, Shown, Station, Stoppable, Terminal};
 use thiserror::Error;
 
 /// Why a line wasn't taken.
@@ -148,7 +146,7 @@ impl<S: Stoppable> Conversation<S> {
         if self.is_out_of_time(line) {
             return Err(TakeFault::OutOfTime);
         }
-        let clock = self.clock.at(&line.said, line.at);
+        let clock = clock_at(self.clock, &line.said, line.at);
         let side = self.terminal.station().side();
         let given = line_gives(
             self.begun,
@@ -218,7 +216,7 @@ impl<S: Stoppable> Conversation<S> {
         ensures no { result ≡ false → IsInTime self.now line.now }
     {
         let now = self.clock.now;
-        let most = most_step(self.clock.calm, &line.said, self.durations);
+        let most = most_step(self.clock, &line.said, self.durations);
         line.at < now || line.at - now > u64::from(most)
     }
 

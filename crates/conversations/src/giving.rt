@@ -1,17 +1,17 @@
 //! What a line gives a station.
 
-ghost use Rattle.conversations.specs.Conversations.{begins, heard_given, line_gives, missed_given, most_step, over_given, plain_given};
+ghost use Rattle.conversations.specs.Conversations.{begins, heard_given, line_gives, missed_given, over_given, plain_given, state_of};
 ghost use Rattle.conversations.specs.Conversations.{Gives, IsRefused, behaviour, frames, is_check, nothing};
+ghost use Rattle.terminals.specs.Clocks.{clock_at, most_step};
 ghost use Rattle.terminals.specs.Hearing.{check as heard_check};
 ghost use Rattle.std.specs.Prelude.{◌≡◌, cond, true, IfOk, OnErr};
 
-use crate::clock::{Clock, Durations};
 use crate::hearing::{Heard, heard_as};
 use crate::line::Said;
 use signals::Side;
 use stations::{Listening, Wait};
 use std::alloc::AllocError;
-use terminals::{Shown, Stoppable, Terminal};
+use terminals::{Clock, Durations, LineState, Shown, Stoppable, Terminal};
 
 /// The input that a line means for a station.
 #[derive(Clone, Copy, Debug, PartialEq, Eq)]
@@ -91,14 +91,29 @@ fn missed_given<'a>(begun: bool, listens: Listening) -> Given<'a>
     }
 }
 
-/// How much later than the line before it a line can be, in milliseconds, by since when the line is calm.
-pub(crate) fn most_step(calm: Option<u64>, said: &Said, durations: Durations) -> u32
-    ensures { result ≡ most_step calm said.now durations }
+/// What a line says of the line of the call.
+fn state_of(said: &Said) -> LineState
+    ensures { result ≡ state_of said.now }
 {
-    match (calm, said) {
-        (Some(_), Said::Quiet) => durations.t1.max(35_000),
-        _ => durations.t1.max(600_000),
+    match said {
+        Said::Quiet => LineState::Quiet,
+        Said::Busy | Said::Received { .. } => LineState::Carrier,
+        Said::NotReady | Said::Ready | Said::Missed | Said::Stop | Said::End => LineState::Unsaid,
     }
+}
+
+/// The clock of a station at a line.
+pub(crate) fn clock_at(clock: Clock, said: &Said, at: u64) -> Clock
+    ensures { result ≡ clock_at clock (state_of said.now) at }
+{
+    clock.at(state_of(said), at)
+}
+
+/// How much later than the line before it a line can be, in milliseconds.
+pub(crate) fn most_step(clock: Clock, said: &Said, durations: Durations) -> u32
+    ensures { result ≡ most_step clock.calm (state_of said.now) durations }
+{
+    clock.most_step(state_of(said), durations)
 }
 
 /// True if a station has begun after a line: an answerer begins at the first quiet line from 1,000 ms on, or at a line that stops it.

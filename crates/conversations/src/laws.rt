@@ -1,7 +1,6 @@
-//! Laws of the waits of a conversation, of where its station stands, and of what an answerer stores. Nothing runs.
+//! Laws of what is heard, of where a conversation's station stands, and of what an answerer stores. Nothing runs.
 
 ghost use Rattle.conversations.specs.Answering.{NoneAreLeft};
-ghost use Rattle.conversations.specs.Clocks.{CalmIsQuiet, CarriersHold, WaitsAreNamed, WaitsPass};
 ghost use Rattle.conversations.specs.Hearing.{ExpectsWhatIsHeard};
 ghost use Rattle.conversations.specs.Led.{AnswerersAreLed, CallersAreLed};
 ghost use Rattle.conversations.specs.StoredLines.{LastIsSaid, RefusedIsLast, StoredIsSaid};
@@ -11,26 +10,9 @@ use crate::answering::PageStore;
 pub mod lines;
 pub mod refusing;
 
-/// A wait is over only if the station shows it and its duration has passed since the time that it runs from.
-pub fn waits_pass()
-    ensures { WaitsPass }
-{}
-
-/// The time that `wait` names is the first one at which a wait is over, if nothing comes before; if none is named, none is over at any
-/// time.
-pub fn waits_are_named()
-    ensures { WaitsAreNamed }
-{}
-
 /// What `hear` says is what is heard, and nothing else.
 pub fn hears_are_heard()
     ensures { ExpectsWhatIsHeard }
-{}
-
-/// T2 and T4 are never over while a carrier is on, nor before the line has been quiet since a carrier of either side.
-pub fn carriers_hold()
-    ensures hold { CarriersHold }
-    ensures calm { CalmIsQuiet }
 {}
 
 /// After a line that was taken each station stands where its table leads by what the line gives it, whoever is on the line, unless its call

@@ -3,7 +3,6 @@
 
 mod answering;
 mod carrier;
-mod clock;
 mod conversation;
 mod conversing;
 mod giving;
@@ -17,7 +16,6 @@ mod writing;
 
 pub use crate::answering::{PageStore, answer_line, keep_pages, store_pages};
 pub use crate::carrier::{Channel, Kind};
-pub use crate::clock::{Clock, Durations};
 pub use crate::conversation::{Conversation, TakeFault};
 pub use crate::conversing::{ConverseFault, Ending, converse};
 pub use crate::hearing::{Expected, Heard, expected_first, expected_then, heard_as};

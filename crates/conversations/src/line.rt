@@ -1,15 +1,19 @@
 //! A line that says what is on the line of a call, and when.
 
-ghost use Rattle.conversations.specs.Lines.{AreBits, IsBurst, IsNumber, ReceivedAfter, IsWordOf, HasNoSpace, Says, SaysNothing};
+ghost use Rattle.conversations.specs.FrameLines.{AreCoded, EndsWord, IsContent, NoFrameComes, SaysNoFrames, WritesFirst, WritesFrames};
+ghost use Rattle.conversations.specs.Lines.{AreBits, HasCome, IsBurst, IsNumber, ReceivedAfter, IsWordOf, HasNoSpace, Says, SaysNothing};
 ghost use Rattle.conversations.specs.declared.carrier.Channel.{Channel as ChannelValue};
 ghost use Rattle.conversations.specs.declared.carrier.Kind.{Kind as KindValue};
 ghost use Rattle.conversations.specs.declared.line.LineRefused.TheVariants.{NoLine};
 ghost use Rattle.conversations.specs.declared.line.Said.{Said as SaidValue};
 ghost use Rattle.conversations.specs.declared.line.TimedLine.{TimedLine as TimedValue};
+ghost use Rattle.raster.specs.Octets.{AreOctets};
 ghost use Rattle.std.specs.Prelude.{◌≡◌, ◌↔◌, ◌≤◌, ◌++◌, ◌∷◌, ℕ, IsTrue, List, MatchOption, MatchResult, codes};
 
 use crate::carrier::{Channel, Kind};
+use hdlc::write_frame;
 use hex::FromHexError;
+use run_tables::{BitWriter, Order};
 use std::alloc::Global;
 use thiserror::Error;
 
@@ -172,6 +176,122 @@ fn read_burst(alloc: Global, text: &[u8]) -> Result<Burst, LineRefused>
     })
 }
 
+/// The octets before the first space, and those from it on.
+fn cut_word(text: &[u8]) -> (&[u8], &[u8])
+    ensures solid { HasNoSpace result.0.now }
+    ensures ends { EndsWord result.1.now }
+    ensures cut { text.now ≡ result.0.now ++ result.1.now }
+{
+    for place in 0..text.len() {
+        if text[place] == b' ' {
+            return text.split_at(place);
+        }
+    }
+    text.split_at(text.len())
+}
+
+/// Reads a content of 3 to 300 octets.
+fn read_content(alloc: Global, word: &[u8]) -> Result<Vec<u8>, LineRefused>
+    ensures { MatchResult result (λ content. IsContent word.now content.items)
+        (λ refused. refused ≡ NoLine → (content : List ℕ) → IsContent word.now content → ⊥) }
+{
+    let content = match hex::decode(alloc, word) {
+        Ok(content) => content,
+        Err(FromHexError::OutOfMemory) => return Err(LineRefused::NoMemory),
+        Err(_) => return Err(LineRefused::NoLine),
+    };
+    if content.len() < 3 || content.len() > 300 {
+        return Err(LineRefused::NoLine);
+    }
+    Ok(content)
+}
+
+/// Reads a space and a content, writes the content's frame, and returns what comes after it.
+fn write_first<'a>(
+    alloc: Global,
+    text: &'a [u8],
+    writer: &mut BitWriter,
+) -> Result<&'a [u8], LineRefused>
+    ensures { MatchResult result
+        (λ after. WritesFirst text.now after.now writer.old writer.new)
+        (λ refused. refused ≡ NoLine → NoFrameComes text.now) }
+{
+    let Some(rest) = text.strip_prefix(b" ") else {
+        return Err(LineRefused::NoLine);
+    };
+    let (word, after) = cut_word(rest);
+    let content = match read_content(alloc, word) {
+        Ok(content) => content,
+        Err(refused) => return Err(refused),
+    };
+    if write_frame(&content, writer).is_err() {
+        return Err(LineRefused::NoMemory);
+    }
+    Ok(after)
+}
+
+/// Reads contents, each after a space, and writes their frames. An `Err` may leave some of them.
+fn write_frames(alloc: Global, text: &[u8], writer: &mut BitWriter) -> Result<(), LineRefused>
+    ensures { MatchResult result
+        (λ _. WritesFrames text.now writer.old writer.new)
+        (λ refused. refused ≡ NoLine → SaysNoFrames text.now) }
+{
+    let mut rest = text;
+    while !rest.is_empty() {
+        match write_first(alloc, rest, writer) {
+            Ok(after) => rest = after,
+            Err(refused) => return Err(refused),
+        }
+    }
+    Ok(())
+}
+
+/// Octets are below 256, which a proof needs. Nothing runs.
+fn are_octets(octets: &[u8])
+    ensures { AreOctets octets.now }
+{}
+
+/// Reads contents, each after a space, as the bits of their frames.
+fn read_frames(alloc: Global, text: &[u8]) -> Result<Bits, LineRefused>
+    ensures { MatchResult result (λ bits. AreCoded text.now bits.count bits.octets.items)
+        (λ refused. refused ≡ NoLine → (count : ℕ) → (octets : List ℕ) → AreCoded text.now count octets → ⊥) }
+{
+    let mut writer = BitWriter::new(alloc, Order::LsbFirst);
+    match write_frames(alloc, text, &mut writer) {
+        Ok(()) => {}
+        Err(refused) => return Err(refused),
+    }
+    let count = writer.bits();
+    if count > u128::from(u64::MAX) {
+        return Err(LineRefused::NoMemory); // so many bits are in no memory
+    }
+    let octets = writer.into_octets();
+    are_octets(&octets);
+    Ok(Bits {
+        count: count as u64,
+        octets,
+    })
+}
+
+/// Reads a burst that has come: CARRIER KIND BITS HEX, or v21 frames HEX HEX ..
+fn read_come(alloc: Global, text: &[u8]) -> Result<Burst, LineRefused>
+    ensures { MatchResult result (λ burst. HasCome text.now burst.channel burst.kind burst.content.count burst.content.octets.items)
+        (λ refused. refused ≡ NoLine → (channel : ChannelValue) → (kind : KindValue) → (count : ℕ) → (octets : List ℕ)
+        → HasCome text.now channel kind count octets → ⊥) }
+{
+    let Some(contents) = text.strip_prefix(b"v21 frames") else {
+        return read_burst(alloc, text);
+    };
+    match read_frames(alloc, contents) {
+        Ok(content) => Ok(Burst {
+            channel: Channel::V21,
+            kind: Kind::Frames,
+            content,
+        }),
+        Err(refused) => Err(refused),
+    }
+}
+
 /// What a word says that is followed by the time alone.
 fn said_by(word: &[u8]) -> Option<Said>
     ensures { MatchOption result ((said : SaidValue) → IsWordOf word.now said → ⊥) (IsWordOf word.now) }
@@ -213,7 +333,7 @@ fn read_received(alloc: Global, text: &[u8]) -> Result<TimedLine, LineRefused>
         channel,
         kind,
         content,
-    } = read_burst(alloc, rest)?;
+    } = read_come(alloc, rest)?;
     let Bits {
         count: bits,
         octets,

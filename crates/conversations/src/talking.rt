@@ -6,7 +6,7 @@ ghost use Rattle.std.specs.Prelude.{◌≡◌, Bool, IfErr, IfOk, is_none};
 
 use crate::conversation::{Conversation, TakeFault};
 use crate::line::{LineRefused, TimedLine, read_line};
-use crate::writing::{write_burst, write_rest};
+use crate::writing::{write_rest, write_sent};
 use stations::Listening;
 use std::alloc::{AllocError, Global};
 use std::io;
@@ -88,9 +88,9 @@ pub struct Answered<E> {
     pub unkept: Option<E>,
 }
 
-/// Writes the bursts that are left of the turn, in order, a line each, and then `done` if the call is over, else what the station says beside
-/// and `wait`; returns true for `done`. `at` is the time of the answered line, in milliseconds. Errs with `Writer`, `NoMemory` or `Follower`; a part of the answer may
-/// be written then.
+/// Writes the bursts that are left of the turn, in order, a line each, and then `done` if the call is over, else what the station says
+/// beside and `wait`; returns true for `done`. `at` is the time of the answered line, in milliseconds. Errs with `Writer`, `NoMemory` or
+/// `Follower`; a part of the answer may be written then.
 pub fn write_turn<S: Stoppable, W: Write, F: Follower>(
     alloc: Global,
     conversation: &mut Conversation<S>,
@@ -102,6 +102,7 @@ pub fn write_turn<S: Stoppable, W: Write, F: Follower>(
         WritesTurn S S.sends S.lends S.shows conversation.old conversation.new (W.contents writer.old) (W.contents writer.new) over) }
     ensures late { IfErr result IsLate }
 {
+    let frames = conversation.says().frames;
     for _burst in 0..MOST_BURSTS {
         let Some(burst) = conversation.next_burst()? else {
             let shown = conversation.terminal().shown();
@@ -111,14 +112,14 @@ pub fn write_turn<S: Stoppable, W: Write, F: Follower>(
             return Ok(over);
         };
         follower.said(at, &burst).map_err(AnswerFault::Follower)?;
-        write_burst(alloc, &burst, writer)?;
+        write_sent(alloc, frames, &burst, writer)?;
     }
     Err(AnswerFault::NoMemory)
 }
 
-/// Answers a line, which comes without its LF: takes it, stops the call if a second DCS wasn't allowed, keeps what it brought, and only then writes the bursts of the turn and a word. If
-/// something can't be kept, the answer is what the conversation says after that. Errs with `NoLine`, or with `OutOfTime` if the time can't
-/// follow: nothing has changed. Errs with `NoMemory`, `Writer` or `Follower`.
+/// Answers a line, which comes without its LF: takes it, stops the call if a second DCS wasn't allowed, keeps what it brought, and only
+/// then writes the bursts of the turn and a word. If something can't be kept, the answer is what the conversation says after that. Errs
+/// with `NoLine`, or with `OutOfTime` if the time can't follow: nothing has changed. Errs with `NoMemory`, `Writer` or `Follower`.
 pub fn answer<S: Stoppable, K: Keeper<S>, W: Write, F: Follower>(
     alloc: Global,
     line: &[u8],

@@ -1,12 +1,15 @@
 //! What a station as a process writes: the bursts that are sent, and a word after them.
 
-ghost use Rattle.conversations.specs.Writing.{channel_of, hear_line, hear_lines, kind_of, on_lines, rest_lines, then_line, tx_line, wait_line};
+ghost use Rattle.conversations.specs.FrameLines.{contents_text};
+ghost use Rattle.conversations.specs.Writing.{burst_line, channel_of, frames_line, hear_line, hear_lines, kind_of, on_lines, rest_lines};
+ghost use Rattle.conversations.specs.Writing.{then_line, tx_line, wait_line};
 ghost use Rattle.hex.specs.Hex.{encode_upper};
 ghost use Rattle.std.specs.Io.KnownBytes.{Appends};
 ghost use Rattle.std.specs.Prelude.{◌≡◌, ◌↔◌, IfOk, IsSome, IsTrue, OnOk};
 
 use crate::carrier::{Channel, Kind};
 use crate::hearing::{Expected, expected_first, expected_then};
+use hdlc::Deframer;
 use stations::{Carrier, Listening};
 use std::alloc::Global;
 use std::io;
@@ -16,20 +19,23 @@ use terminals::{SentBurst, Shown};
 /// How many octets are written in hex at a time.
 const PIECE: usize = 1024;
 
-/// What a station says beside its bursts, and beside the words `wait` and `done`.
+/// What a station says beside its bursts and the words `wait` and `done`, and how it says its bursts.
 #[derive(Clone, Copy, Debug, PartialEq, Eq)]
 pub struct Says {
     /// What it expects on the line, a line `hear CARRIER KIND` for each thing.
     pub hears: bool,
     /// The time from which a quiet line does something, after `wait`.
     pub waits: bool,
+    /// Its bursts by V.21 as the contents of their frames, in place of bits.
+    pub frames: bool,
 }
 
 impl Says {
-    /// Nothing, as a driver wants it that reads bursts and words alone.
+    /// Nothing, and bursts in bits, as a driver wants it that reads bursts and words alone.
     pub const LEAST: Says = Says {
         hears: false,
         waits: false,
+        frames: false,
     };
 }
 
@@ -81,6 +87,44 @@ pub fn write_burst<W: Write>(alloc: Global, burst: &SentBurst, writer: &mut W) -
     write!(writer, "tx {channel} {kind} {} ", burst.bits)?;
     write_hex(alloc, &burst.octets, writer)?;
     writer.write_all(b"\n")
+}
+
+/// Writes the contents that wait, each after a space.
+fn write_contents<W: Write>(alloc: Global, ear: &mut Deframer, writer: &mut W) -> io::Result<()>
+    ensures { OnOk result (Appends (W.contents writer.old) (W.contents writer.new) (contents_text ear.old.queue)) }
+{
+    while let Some(content) = ear.next() {
+        writer.write_all(b" ")?;
+        write_hex(alloc, content, writer)?;
+    }
+    Ok(())
+}
+
+/// Writes the line of a burst by V.21 as the contents of its good frames, `tx v21 frames HEX HEX ..` and LF. Errs if the writer fails or
+/// memory is refused; a part of the line may be written then.
+fn write_frames<W: Write>(alloc: Global, burst: &SentBurst, writer: &mut W) -> io::Result<()>
+    ensures { OnOk result (Appends (W.contents writer.old) (W.contents writer.new) (frames_line burst.now)) }
+{
+    let mut ear = Deframer::new(alloc);
+    ear.feed(&burst.octets)?;
+    writer.write_all(b"tx v21 frames")?;
+    write_contents(alloc, &mut ear, writer)?;
+    writer.write_all(b"\n")
+}
+
+/// Writes the line of a burst that is sent, as contents if `frames` says so and it goes by V.21. Errs as `write_burst` does.
+pub(crate) fn write_sent<W: Write>(
+    alloc: Global,
+    frames: bool,
+    burst: &SentBurst,
+    writer: &mut W,
+) -> io::Result<()>
+    ensures { OnOk result (Appends (W.contents writer.old) (W.contents writer.new) (burst_line frames burst.now)) }
+{
+    match burst.carrier {
+        Carrier::V21 if frames => write_frames(alloc, burst, writer),
+        _ => write_burst(alloc, burst, writer),
+    }
 }
 
 /// Writes a line of what a station expects. Errs if the writer fails.

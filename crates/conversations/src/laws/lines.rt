@@ -1,5 +1,6 @@
 //! Laws of one line. Nothing runs.
 
+ghost use Rattle.conversations.specs.FrameLineLaws.{ContentsAreHeard, FramesByOctets, ReadsFramesSent, SaysItsFrames};
 ghost use Rattle.conversations.specs.LineLaws.{AnswerersFitLines, CallersFitLines, ChannelsHaveNames, KindsHaveNames, ReadsWhatIsSent};
 ghost use Rattle.conversations.specs.LineLaws.{SaysOneThing, SentFitsALine};
 
@@ -20,6 +21,19 @@ pub fn says_one_thing()
 pub fn reads_what_is_sent()
     ensures reads { ReadsWhatIsSent }
     ensures fits { SentFitsALine }
+{}
+
+/// What a line says by the contents of frames is heard as these contents, and no other. A burst by V.21 is sent so as the contents of its
+/// frames, and no other, in words that are read, after `rx` and a time, as octets with the same good frames.
+pub fn frames_are_heard()
+    ensures heard { ContentsAreHeard }
+    ensures sent { SaysItsFrames }
+    ensures reads { ReadsFramesSent }
+{}
+
+/// A frame as it stands in a line, worked by hand.
+pub fn frames_by_octets()
+    ensures { FramesByOctets }
 {}
 
 /// Each burst that a station sends fits a line, so it is read as it was sent.

@@ -4,5 +4,5 @@ use Rattle.conversations.proofs.talking.write_turn.Given as goal
 
 abbrev pub invariant-loop-burst : goal.invariant-loop-burst
 invariant-loop-burst g l =
-    IsGiving g.S.Station.sends g.S.Station.lends l.fn.conversation l.conversation (g.W.Write.contents l.fn.writer)
+    IsGiving l.fn.conversation.says.frames g.S.Station.sends g.S.Station.lends l.fn.conversation l.conversation (g.W.Write.contents l.fn.writer)
     (g.W.Write.contents l.writer)
