@@ -3,7 +3,7 @@
 Of those named worked_ the frames are worked by hand from T.30's tables, in bench/fuzz/reference_station.py; only flags, stuffed bits and
 check sequences are added here. Of those named reference_ the answers are the ones of that reading. A conversation is the words of its
 station, with IN and DIR; the lines in; the lines out; and the last line on standard error. A caller has its document, an answerer the pages
-that it stores."""
+that it stores; of some the records of `--json` are worked too."""
 
 import os
 import sys
@@ -21,8 +21,9 @@ WHITE = (TOP / "docs" / "examples" / "row.pbm").read_bytes()
 TWO_WIDTHS = WHITE + b"P4\n2048 1\n" + bytes(256)
 
 
-def write(name, words, lines, answers, errors, document=b"", pages=()):
+def write(name, words, lines, answers, errors, document=b"", pages=(), records=()):
     texts = {"words": words, "lines": "\n".join(lines), "expected": "\n".join(answers), "error": "\n".join(errors)}
+    texts |= {"records": "\n".join(records)} if records else {}
     for kind, text in texts.items():
         (folder / f"{name}.{kind}").write_text(text + "\n" * bool(text), encoding="ascii", newline="")
     for kind, octets in (("pbm", document), ("pages", b"".join(pages))):
@@ -56,8 +57,11 @@ def referred(name, words, lines, document=b"", errors=None):
         source.write_bytes(document)
     asked = words.replace("IN", str(source)).split()
     texts = [text_of(line) for line in lines]
-    told, _ = reference.serve(reference.end_of(reference.arguments(asked), pages.append), [text.encode() for text in texts], answers.extend)
+    end = reference.end_of(reference.arguments(asked), pages.append)
+    told, status = reference.serve(end, [text.encode() for text in texts], answers.extend)
     write("reference_" + name, words, texts, answers, errors or told, document, pages)
+    if not status and not told[-1].startswith("end normal "):
+        (folder / f"reference_{name}.done").touch()
 
 
 FTT = "FF1344"  # X010 0010, where a CFR is X010 0001 (T.30, 5.3.6.1.4)
@@ -93,14 +97,58 @@ JUMPING = [
     ("quiet 96301", []),
     "fault 31 at line 6",
 ]
+# Frames by V.21 as contents, said and heard; a burst in bits is heard too. A content of two octets is none.
+FRAMED = [
+    ("quiet 1000", [f"tx v21 frames {DIS}", "wait"]),
+    (f"rx 2000 v21 frames {DCS}", ["wait"]),
+    (("rx 4000", PAGE, CHECK), [f"tx v21 frames {CFR}", "wait"]),
+    (("rx 6000", PAGE, WHITE_BURST), ["wait"]),
+    ("rx 6500 v21 frames", ["wait"]),
+    (f"rx 7000 v21 frames FF132000 {LAST.lower()}", [f"tx v21 frames {MCF}", "wait"]),
+    (("rx 8000", "v21", [DCN]), ["done"]),
+    "end normal pages 1",
+]
+TWO_OCTETS = [("quiet 1000", [f"tx v21 frames {DIS}", "wait"]), (f"rx 2000 v21 frames {DCS} FF13", []), "fault 31 at line 2"]
 BEGUN = ["quiet 1000", ("rx 2000", "v21", [DCS]), ("rx 4000", PAGE, CHECK)]
 FIRST_OF_TWO, SECOND = "FF13BF4F000000", "FF13BF2F010000"
 SENT = [("rx 6000", PAGE, WHITE_BURST), ("rx 7000", "v21", [FIRST_OF_TWO])]
-worked("answerer", "--answer --out DIR", ANSWERED, pages=[WHITE])
+# A caller without error correction: DCS without bit 27, as HylaFAX and as an old machine with three octets send it. The second one gets DCN
+# (X111 1010, where X is 0 of an answerer), and with --no-refuse nothing, as the first one.
+WITHOUT, OF_THREE = "FF13830022F840", "FF1383002278"
+REFUSED_TWICE = [
+    ("quiet 1000", [("v21", [DIS]), "wait"]),
+    (("rx 2000", "v21", [WITHOUT]), ["wait"]),
+    (("rx 4000", PAGE, CHECK), ["wait"]),
+    (("rx 7000", "v21", [OF_THREE]), [("v21", ["FF13FA"]), "done"]),
+    "the call is refused: the caller sends without error correction\nend refused pages 0",
+]
+NOT_REFUSED = [*REFUSED_TWICE[:3], (REFUSED_TWICE[3][0], ["wait"]), ("stop 8000", [("v21", ["FF13FA"]), "done"]), "end stopped pages 0"]
+STORED = '{"at":14000,"code":"mmr","file":"page-1.pbm","height":1,"lines":"standard","page":1,"speed":"v17-14400","width":1728}'
+NORMAL = ['{"pages":1,"whole":true}', '{"end":"normal","pages":1}']
+UNKNOWN = [f'{{"at":{at},"heard":{{"control_field":"83","signal":"other"}}}}' for at in (2000, 7000)]
+WHY = '{"pages":0,"whole":false,"why":"the caller sends without error correction"}'
+worked("answerer", "--answer --out DIR", ANSWERED, pages=[WHITE], records=[STORED, *NORMAL])
+# The same call, with TSI (X100 0010, its 20 signs from the last to the first) and a NSS (X010 0010) before the DCS.
+TSI, NSS = "FF0343" + b"321 03 94+".ljust(20).hex(), "FF0323AD00"
+NAMED = [*ANSWERED[:7], (("rx 10200", "v21", [TSI, NSS, DCS]), []), *ANSWERED[8:]]
+OTHERS = [
+    '{"at":10200,"heard":{"control_field":"43","signal":"other"},"words":"TSI: +49 30 123"}',
+    '{"at":10200,"heard":{"control_field":"23","signal":"other"},"words":"NSS"}',
+]
+worked("answerer_of_a_caller_with_a_name", "--answer --out DIR", NAMED, pages=[WHITE], records=[*OTHERS, STORED, *NORMAL])
+# A DIS without bit 27: no error correction.
+NO_CORRECTION = [(("rx 1000", "v21", ["FF1380006EFA40"]), [("v21", [DCN])]), "end not-compatible confirmed 0"]
+LACKS = ['{"confirmed":0,"whole":false,"why":"the answerer has no error correction"}', '{"confirmed":0,"end":"not-compatible"}']
+worked("caller_that_is_not_compatible", "--call IN", NO_CORRECTION, document=WHITE, records=LACKS)
+worked_whole("no_error_correction", "--answer --out DIR", REFUSED_TWICE, records=[*UNKNOWN, WHY, '{"end":"refused","pages":0}'])
+worked_whole("no_error_correction_waited_for", "--answer --no-refuse --out DIR", NOT_REFUSED)
 worked_whole("answerer_says_what_it_hears", "--answer --hear --out DIR", HEARING, pages=[WHITE])
 worked_whole("clock_that_jumps", "--answer --out DIR", JUMPING)
+worked_whole("answerer_in_frames", "--answer --frames --out DIR", FRAMED, pages=[WHITE])
+worked_whole("content_of_two_octets", "--answer --frames --out DIR", TWO_OCTETS)
 worked("caller_before_a_busy_answerer", "--call IN", CALLED, document=WHITE)
-worked("caller", "--call IN", SENT_WELL, document=WHITE)
+CONFIRMED = ['{"at":50000,"confirmed":1}', '{"confirmed":1,"whole":true}', '{"confirmed":1,"end":"normal"}']
+worked("caller", "--call IN", SENT_WELL, document=WHITE, records=CONFIRMED)
 worked("caller_alone", "--call IN", UNANSWERED, document=WHITE)
 referred("no_lines", "--answer --out DIR", [])
 referred("line_drops_after_a_page", "--answer --out DIR", BEGUN + SENT + ["end 7500", "quiet 7600"])

@@ -4,7 +4,8 @@
     try_json_station.py PROGRAM FOLDER
 
 Each conversation of .ci/conversations is made with and without `--json`. The trace's records, put back together, are the lines of the trace
-without it; the record of how the call ended is its line; and a fault's record has its number and its line. FOLDER is empty, for the pages.
+without it; the record of how the call ended is its line; and a fault's record has its number and its line. What is told while a call runs
+is in records alone, whose fields are held against the kept .records by station.sh. FOLDER is empty, for the pages.
 Prints how many runs there were, and ends with status 1 where something differs. It needs Python's standard library alone."""
 
 import json
@@ -31,8 +32,10 @@ def made(words, lines, *more):
     return done.stdout, done.stderr, traced, done.returncode
 
 
-def told_text(record):
-    """The line of a record on standard error."""
+def told_text(record, why):
+    """The lines of a record on standard error. `why` is that of the record of how the call stands."""
+    if record.get("end") == "refused":
+        return f"the call is refused: {why}\nend refused pages {record['pages']}"
     if "end" in record:
         counted = "confirmed" if "confirmed" in record else "pages"
         return f"end {record['end']} {counted} {record[counted]}"
@@ -63,7 +66,11 @@ for words in sorted(KEPT.glob("*.words")):
     also, told_records, traced_records, other = made(given, KEPT / f"{name}.lines", "--json")
     compare(name, "the answers", also, printed)
     compare(name, "the trace", [traced_text(record) for record in records(traced_records)], traced.decode().splitlines())
-    compare(name, "what is told", [told_text(record) for record in records(told_records)], told.decode().splitlines())
+    found = records(told_records)
+    why = next((record.get("why") for record in found if "whole" in record), None)
+    ends = [told_text(record, why) for record in found if not {"at", "whole"} & set(record)]
+    compare(name, "what is told", "\n".join(ends), told.decode().rstrip("\n"))
+    compare(name, "how the call stands", [record["whole"] for record in found if "whole" in record], [not status])
     compare(name, "the status", other, status)
     runs += 2
 if runs < 52:

@@ -11,7 +11,7 @@ converse() {
     is_same "$work/output" "$kept.expected" "the answers of conversation $1"
     is_same "$work/error" "$kept.error" "the last line of conversation $1"
     wanted=1
-    ! grep -q '^end normal ' "$kept.error" || wanted=0
+    ! grep -q '^end normal ' "$kept.error" && [ ! -f "$kept.done" ] || wanted=0
     [ "$status" = "$wanted" ] || fails "conversation $1 ended with status $status, and not $wanted"
     cat "$work/stored"/* > "$work/pages" 2> /dev/null || :
     if [ -f "$kept.pages" ]; then
@@ -19,6 +19,11 @@ converse() {
     else
         [ ! -s "$work/pages" ] || fails "conversation $1 left a page"
     fi
+    count=$((count + 1))
+    [ -f "$kept.records" ] || return 0
+    rm -f "$work/stored"/*
+    "$program" station --json $words < "$kept.lines" > "$work/output" 2> "$work/error" || :
+    is_same "$work/error" "$kept.records" "the records of conversation $1"
     count=$((count + 1))
 }
 
@@ -91,6 +96,34 @@ answers_so() {
     "$program" station --answer --out "$work/stored" "$@" < "$kept.lines" > "$work/output" 2> "$work/error" || status=$?
     [ "$status" = 1 ] && [ "$(cat "$work/error")" = "$wanted" ] || fails "$* ended with status $status"
     [ "$(tail -n 1 "$work/output")" = done ] || fails "$* doesn't end with done"
+    count=$((count + 1))
+}
+
+# All is done, with status 0, where each page is confirmed and only the last DCN is missing: the line drops, or T1 is over; not where the
+# block was answered by RNR alone, nor where the call is stopped. A fault's record comes after that of how the call stands.
+try_whole() {
+    lines=$top/.ci/conversations/worked_answerer.lines
+    while IFS='|' read -r less more wanted; do
+        status=0
+        rm -rf "$work/stored"
+        mkdir "$work/stored"
+        { head -n "-$less" "$lines"; printf "$more"; } > "$work/lines"
+        "$program" station --answer --out "$work/stored" < "$work/lines" > "$work/output" 2> "$work/error" || status=$?
+        [ "$status $(tail -n 1 "$work/error")" = "$wanted" ] || fails "a call without its last DCN: $status $(cat "$work/error")"
+        count=$((count + 1))
+    done << 'CASES'
+1||0 end line-lost pages 1
+1|end 15100\n|0 end line-lost pages 1
+1|quiet 15100\nquiet 50100\n|0 end no-answer pages 1
+1|stop 15100\n|1 end stopped pages 1
+2||1 end line-lost pages 1
+2|quiet 14100\nquiet 49100\n|1 end no-answer pages 1
+CASES
+    { head -n -1 "$lines"; echo hush; } > "$work/lines"
+    rm -f "$work/stored"/*
+    "$program" station --json --answer --out "$work/stored" < "$work/lines" > "$work/output" 2> "$work/error" || :
+    [ "$(sed -n 2p "$work/error")" = '{"pages":1,"whole":true}' ] || fails "the record before that of a fault"
+    sed -n 3p "$work/error" | grep -q '^{"fault":31,' || fails "the record of a fault"
     count=$((count + 1))
 }
 
@@ -402,19 +435,22 @@ IN|a station answers or calls: either --answer or --call is needed
 --answer --out DIR --limit 0|
 --answer --out DIR --t1 0|
 --call -|IN can't be standard input, where the lines come
---call --out DIR IN|--out, --standard, --widest, --limit, --mode and --most-.. are for a station with --answer
---call --most-pages 1 IN|--out, --standard, --widest, --limit, --mode and --most-.. are for a station with --answer
---call --most-octets 1 IN|--out, --standard, --widest, --limit, --mode and --most-.. are for a station with --answer
---call --most-seconds 1 IN|--out, --standard, --widest, --limit, --mode and --most-.. are for a station with --answer
+--call --out DIR IN|--out, --standard, --widest, --limit, --mode, --most-.. and --refuse are for a station with --answer
+--call --most-pages 1 IN|--out, --standard, --widest, --limit, --mode, --most-.. and --refuse are for a station with --answer
+--call --most-octets 1 IN|--out, --standard, --widest, --limit, --mode, --most-.. and --refuse are for a station with --answer
+--call --most-seconds 1 IN|--out, --standard, --widest, --limit, --mode, --most-.. and --refuse are for a station with --answer
 --answer --out DIR --most-pages 0|
---call --mode 600 IN|--out, --standard, --widest, --limit, --mode and --most-.. are for a station with --answer
+--call --refuse IN|--out, --standard, --widest, --limit, --mode, --most-.. and --refuse are for a station with --answer
+--call --no-refuse IN|--out, --standard, --widest, --limit, --mode, --most-.. and --refuse are for a station with --answer
+--answer --out DIR --refuse --no-refuse|--refuse and --no-refuse can't be used together
+--call --mode 600 IN|--out, --standard, --widest, --limit, --mode, --most-.. and --refuse are for a station with --answer
 --answer --out DIR --mode 64|a mode is three octal digits, perhaps after a 0, as 0640
 --answer --out DIR --mode 1640|a mode is three octal digits, perhaps after a 0, as 0640
 --answer --out DIR --mode 06400|a mode is three octal digits, perhaps after a 0, as 0640
 --answer --out DIR --mode 0680|a mode is three octal digits, perhaps after a 0, as 0640
 --answer --out DIR --mode rwx|a mode is three octal digits, perhaps after a 0, as 0640
---call --limit 1 IN|--out, --standard, --widest, --limit, --mode and --most-.. are for a station with --answer
---call --widest 1728 IN|--out, --standard, --widest, --limit, --mode and --most-.. are for a station with --answer
+--call --limit 1 IN|--out, --standard, --widest, --limit, --mode, --most-.. and --refuse are for a station with --answer
+--call --widest 1728 IN|--out, --standard, --widest, --limit, --mode, --most-.. and --refuse are for a station with --answer
 --call --t4 x IN|
 CASES
     faults "fault 8" station --answer --out "$work/missing"
@@ -425,6 +461,7 @@ CASES
     try_unwritable_folder
     try_modes
     try_limits
+    try_whole
     try_killed
     try_no_lines
     try_no_line_words

@@ -68,7 +68,7 @@ class Spoken:
 
     def result(self):
         """All that the program has to answer: its lines, those of standard error, the status and the pages."""
-        errors, status = self.over or ([self.end.last_line()], 1)
+        errors, status = self.over or ([self.end.last_line()], 0 if self.end.is_done() else 1)
         return "".join(line + "\n" for line in self.answers), "".join(line + "\n" for line in errors), status, self.pages
 
 
@@ -95,6 +95,7 @@ MODEM_NAMES = ["v17", "v17", "v27v29", "v29", "v27", "fallback"]
 def answerer_words(rand, folder):
     words = chosen(rand, {"--code": ["mh", "mmr"], "--modems": MODEM_NAMES, "--limit": ["1", "1", "2", "3", "1000"]})
     words += ["--widest", rand.choice(["1728", "2048", "2432"])] if rand.random() < 0.1 else []
+    words += rand.choice([[], [], ["--refuse"], ["--no-refuse"]])
     return ["--answer", "--out", folder] + words + ["--standard"] * (rand.random() < 0.1)
 
 

@@ -92,6 +92,22 @@ def signal_of(content):
     return signal
 
 
+def refusal_of(content, caps):
+    """Why a frame is a DCS that an answerer doesn't allow, or None: it may be another frame, or too short for a DCS."""
+    signal = read_signal(content)
+    if not signal or content[2] & 0xFE != 0x82 or (signal[0] == "DCS" and allows(caps, signal[1])):
+        return None
+    bits = bits_of(content[3:7]).ljust(32, "0")
+    corrects = bits[23] == bits[26] == "1"
+    return "the caller " + ("sends at a speed or pages that the answerer doesn't offer" if corrects else "sends without error correction")
+
+
+def allows(caps, params):
+    """Whether an answerer of these capabilities takes pages that come by these parameters."""
+    fits = params.width <= caps.widest and (caps.fine or not params.fine) and (caps.t6 or not params.t6)
+    return fits and supports(caps.modems, params.speed)
+
+
 def supports(modems, speed):
     return modems == "v17" or speed in MODEMS[modems][1]
 
@@ -253,8 +269,7 @@ class StationAnswerer(Answerer):
         return pages
 
     def on_dcs(self, params):
-        allowed = params.width <= self.caps.widest and (self.caps.fine or not params.fine) and (self.caps.t6 or not params.t6)
-        return super().on_dcs(params) if allowed and supports(self.caps.modems, params.speed) else SILENT
+        return super().on_dcs(params) if allows(self.caps, params) else SILENT
 
     def bursts(self, turn):
         if turn == SILENT:
@@ -277,7 +292,7 @@ class Ending:
     def __init__(self, station, waits):
         self.station, self.waits, self.ear = station, waits, Ear()
         self.turn, self.cut, self.number, self.at = SILENT, None, 0, 0
-        self.quiet_from, self.heard_from = None, 0
+        self.quiet_from, self.heard_from, self.spoken = None, 0, None
 
     def take(self, raw):
         """The lines that answer a line, and whether the process ends after them."""
@@ -290,7 +305,7 @@ class Ending:
         self.settle()
         bursts = self.station.bursts(self.turn)
         if bursts:
-            self.quiet_from = None
+            self.quiet_from, self.spoken = None, self.turn[0]
         is_over = bool(self.name())
         return [sent(burst) for burst in bursts] + ["done" if is_over else "wait"], is_over
 
@@ -310,6 +325,10 @@ class Ending:
         """The station's step. Its turn takes the place of one before it, unless it is silent."""
         turn = self.station.step(*given)
         self.turn = turn if turn != SILENT else self.turn
+
+    def is_done(self):
+        """Whether all was done: all pages are confirmed, and the last DCN is missing at most."""
+        return self.is_whole() and self.name() in ("normal", "no-answer", "line-lost", None)
 
     def stop(self):
         if not self.name():
@@ -375,21 +394,45 @@ class Calling(Ending):
         elif self.has_waited("t1", self.heard_from) if state == "WaitDis" else self.has_waited("t4", self.quiet_from):
             self.give("TIMEOUT")
 
+    def is_whole(self):
+        return self.station.confirmed() == len(self.station.document)
+
     def last_line(self):
         return f"end {self.name() or 'line-lost'} confirmed {self.station.confirmed()}"
 
 
 class Answering(Ending):
-    """`store(page)` writes a page's PBM, and errs with OSError where it can't."""
+    """`store(page)` writes a page's PBM, and errs with OSError where it can't. The call is stopped at the second DCS by V.21 that isn't
+    allowed, unless it `refuses` none."""
 
-    def __init__(self, caps, limit, waits, store):
+    def __init__(self, caps, limit, waits, store, refuses=True):
         super().__init__(StationAnswerer(caps, limit), waits)
         self.store, self.has_begun, self.stored, self.failed = store, False, 0, None
+        self.refuses, self.by_v21, self.reasons, self.last_pps = refuses, Ear(), [], None
 
     def rx(self, said):
-        station = self.station
         if not self.has_begun:
             return
+        self.listen(said)
+        if (said.carrier, said.kind) == ("v21", "hdlc"):
+            self.note(self.by_v21.contents(said.octets))
+        if self.refuses and len(self.reasons) > 1 and not self.name():
+            self.stop()
+            self.cut = "refused"
+
+    def note(self, contents):
+        """The DCSs that aren't allowed, and the last PPS."""
+        for content in contents:
+            why, signal = refusal_of(content, self.station.caps), read_signal(content)
+            self.reasons += [why] if why else []
+            self.last_pps = signal[1:3] if signal and signal[0] == "PPS" else self.last_pps
+
+    def is_whole(self):
+        """Whether the last block ended with EOP and was answered by MCF."""
+        return self.spoken == "MCF" and self.last_pps == ("EOP", self.station.accepted)
+
+    def listen(self, said):
+        station = self.station
         named = CARRIERS[station.params.speed] if station.state != "PhaseB" else None
         if said.kind == "raw" and station.state == "WaitTraining" and said.carrier == named:
             self.heard_from = said.at
@@ -423,7 +466,8 @@ class Answering(Ending):
             self.stored += 1
 
     def last_line(self):
-        return f"end {self.name() or 'line-lost'} pages {self.stored}"
+        why = f"the call is refused: {self.reasons[1]}\n" if self.name() == "refused" else ""
+        return f"{why}end {self.name() or 'line-lost'} pages {self.stored}"
 
 
 # Files.
@@ -527,12 +571,16 @@ def arguments(words):
     parser.add_argument("--widest", choices=["1728", "2048", "2432"])
     parser.add_argument("--frame", choices=["256", "64"])
     parser.add_argument("--limit", type=int, choices=range(1, 1001), metavar="PAGES")
+    refuses = parser.add_mutually_exclusive_group()
+    refuses.add_argument("--refuse", action="store_true")
+    refuses.add_argument("--no-refuse", action="store_true")
     for wait, millis in WAITS.items():
         parser.add_argument("--" + wait, type=int, default=millis, choices=range(1, 3600001), metavar="MS")
     parser.add_argument("--explain", action="store_true")
     parser.add_argument("input", nargs="?")
     asked = parser.parse_args(words)
-    foreign = [asked.frame, asked.fine, asked.input] if asked.answer else [asked.out, asked.standard, asked.widest, asked.limit]
+    of_answerer = [asked.out, asked.standard, asked.widest, asked.limit, asked.refuse, asked.no_refuse]
+    foreign = [asked.frame, asked.fine, asked.input] if asked.answer else of_answerer
     missing = asked.out is None if asked.answer else asked.input is None
     if missing or any(value not in (None, False) for value in foreign) or asked.input == "-":
         parser.error("other words of this end")
@@ -544,7 +592,7 @@ def end_of(asked, store):
     waits, t6 = {wait: getattr(asked, wait) for wait in WAITS}, asked.code == "mmr"
     if asked.answer:
         caps = Caps(asked.modems, not asked.standard, int(asked.widest or 2432), t6, True, True)
-        return Answering(caps, asked.limit or 2, waits, store)
+        return Answering(caps, asked.limit or 2, waits, store, not asked.no_refuse)
     pages = document_of(Path(asked.input).read_bytes())
     return Calling(pages, Wish(asked.modems, int(asked.frame or 256), asked.fine, t6), waits)
 
@@ -566,7 +614,7 @@ def serve(end, lines, write):
             break
     if getattr(end, "failed", None):
         return ["fault 8"], 1
-    return [end.last_line()], 0 if end.name() == "normal" else 1
+    return [end.last_line()], 0 if end.is_done() else 1
 
 
 def put(answers):

@@ -1,5 +1,6 @@
 -- What is noted while the pages of a call, or those in a capture, are written into a folder.
-use Rattle.std.specs.Prelude.{◌≡◌, ◌≤◌, ◌⊎◌, ◌+◌, ◌*◌, ◌-◌, ◌^◌, ℕ, Bool, false, true, Option, Some, None, length, max}
+use Rattle.std.specs.Prelude.{◌≡◌, ◌≤◌, ◌&&◌, ◌||◌, ◌+◌, ◌*◌, ◌-◌, ◌^◌, ℕ, Bool, false, true, Option, Some, None, is_some, length, max}
+use Rattle.std.specs.Prelude.{nat_le, not}
 use Rattle.captures.specs.PageNumbers.{after, page_missing}
 use Rattle.captures.specs.declared.captured.Captured.{Captured}
 use Rattle.captures.specs.declared.captured.Captured.TheVariants.{Page}
@@ -11,7 +12,11 @@ use Rattle.faxtool.specs.declared.commands.station.folder.CallLimits.{CallLimits
 use Rattle.raster.specs.Pages.{PagePixels}
 use Rattle.raster.specs.Pbm.{stride}
 use Rattle.raster.specs.PbmText.{header_text}
+use Rattle.signals.specs.declared.params.Params.{Params}
 use Rattle.stations.specs.Limiting.{LimitedFields}
+use Rattle.stations.specs.Listening.{answerer_peer}
+use Rattle.stations.specs.Stopping.{call_end}
+use Rattle.stations.specs.declared.stopping.CallEnd.{CallEnd}
 use Rattle.terminals.specs.Stopping.{limited_cut_off}
 
 -- The number of the last page, and whether nothing is missing of any page, before and after something was found in a capture. A page has
@@ -48,15 +53,31 @@ abbrev pub StoresWithin : CallLimits → PagePixels → ℕ → ℕ → ℕ → 
 StoresWithin limits page stored_then octets octets_then = (octets_then ≡ octets + image_octets page) × (octets_then ≤ limits.octets)
     × (stored_then ≤ limits.pages)
 
--- What is kept after a line, of a call that is stopped after so many milliseconds: all pages of the answerer are stored, or one is refused;
--- it is refused since the call has all that it may have, and the call goes on to its end; or all are stored, and the answerer hangs up since
--- its time is over.
+-- the last DCS that the answerer of a conversation allowed, if there was one
+abbrev pub params_of : ConversationFields LimitedFields → Option Params
+params_of c = let answerer = c.terminal.speaking.station.station in answerer_peer answerer.state answerer.accepted answerer.params
+
+-- why the call of a conversation's answerer ended, if it has
+abbrev pub end_of : ConversationFields LimitedFields → Option CallEnd
+end_of c = call_end c.terminal.speaking.station.station.ending c.terminal.speaking.station.cut
+
+-- the time of a call that goes on is over, after so many milliseconds, and the line is quiet
+abbrev pub is_late : ℕ → ConversationFields LimitedFields → Bool
+is_late most c = nat_le most c.clock.now && (is_some c.clock.calm && not (is_some (end_of c)))
+
+-- a conversation that hangs up, if its time is over
+abbrev pub ended_late : Bool → ConversationFields LimitedFields → ConversationFields LimitedFields
+ended_late true c = hung_up_so limited_cut_off c
+ended_late false c = c
+
+-- What is kept after a line, of a call that is stopped after so many milliseconds: all pages of the answerer are stored, or one is refused,
+-- after which it hangs up. If that one is refused since the call has all that it may have, all is well; and if none is refused, and only
+-- then, the answerer hangs up once its time is over.
 abbrev pub KeepsWithin : {P : Type 0} → StoreStep P → StoreStep P → (P → Bool) → ℕ → P → ConversationFields LimitedFields → P
     → ConversationFields LimitedFields → Bool → Type 0
-KeepsWithin stores refuses is_full most old c new after kept = StoresAll stores refuses c after old new kept
-    ⊎ (((kept ≡ true) × (is_full new ≡ true) × StoresAll stores refuses c after old new false)
-    ⊎ ((kept ≡ true) × (most ≤ c.clock.now) × ((mid : ConversationFields LimitedFields) × StoresAll stores refuses c mid old new true
-    × (after ≡ hung_up_so limited_cut_off mid))))
+KeepsWithin stores refuses is_full most old c new after kept = (mid : ConversationFields LimitedFields) × (all : Bool)
+    × StoresAll stores refuses c mid old new all × (kept ≡ (is_full new || all))
+    × (after ≡ ended_late (kept && (not (is_full new) && is_late most mid)) mid)
 
 -- The number of pages stored so far in a call and the first number that the next one's file may have, before and after a page is stored: its
 -- file has that number or a later one, and the next page's file a number after it. So of the names that were taken none is tried twice.

@@ -188,17 +188,22 @@ abbrev pub with_limits : App → App
 with_limits app = with_rule (with_rule (with_rule app (number_rule (codes "most-pages") 1 4294967295))
     (number_rule (codes "most-octets") 1 4294967295)) (number_rule (codes "most-seconds") 1 4294967295)
 
+-- the command with whether a call is stopped at the second DCS that isn't allowed
+abbrev pub with_refusing : App → App
+with_refusing app = with_rule (with_rule app (flag_rule (codes "refuse"))) (flag_rule (codes "no-refuse"))
+
 -- the command with the options for an answerer only, and those for a caller only
 abbrev pub with_station_choices : App → ValueParser → ValueParser → App
-with_station_choices app sizes widths = with_rule (with_rule (with_rule (with_limits (with_rule (with_rule (with_rule (with_rule app
-    (flag_rule (codes "standard"))) (named_rule (codes "widest") widths)) (number_rule (codes "limit") 1 1000))
-    (option_rule (codes "mode")))) (named_rule (codes "frame") sizes)) (flag_rule (codes "fine")))
+with_station_choices app sizes widths = with_rule (with_rule (with_rule (with_refusing (with_limits (with_rule (with_rule (with_rule
+    (with_rule app (flag_rule (codes "standard"))) (named_rule (codes "widest") widths)) (number_rule (codes "limit") 1 1000))
+    (option_rule (codes "mode"))))) (named_rule (codes "frame") sizes)) (flag_rule (codes "fine")))
     (number_rule (codes "from") 1 4294967295)
 
--- the command with how long the four waits run, and whether what is heard, and until when, is said
+-- the command with how long the four waits run, whether what is heard, and until when, is said, and whether frames are said as contents
 abbrev pub with_waits : App → App
-with_waits app = with_rule (with_rule (with_rule (with_rule (with_rule app (millis_rule (codes "t1"))) (millis_rule (codes "t2")))
-    (millis_rule (codes "t4"))) (millis_rule (codes "t5"))) (flag_rule (codes "hear"))
+with_waits app = with_rule (with_rule (with_rule (with_rule (with_rule (with_rule app (millis_rule (codes "t1")))
+    (millis_rule (codes "t2"))) (millis_rule (codes "t4"))) (millis_rule (codes "t5"))) (flag_rule (codes "hear")))
+    (flag_rule (codes "frames"))
 
 -- `station`: which station it is, its options, its waits, the file of its trace, a line a frame in it or not, records or not, and the file
 -- of the document
@@ -534,35 +539,49 @@ abbrev pub rights_named : Option Text → Option Rights
 rights_named None = Some Private
 rights_named (Some text) = option_map Mode (mode_named text)
 
--- a limit of the call was given
-abbrev pub has_limits : List Row → Bool
-has_limits rows = is_some (first_of (codes "most-pages") rows)
-    || (is_some (first_of (codes "most-octets") rows) || is_some (first_of (codes "most-seconds") rows))
-
 -- the limits of the call, if given
 pub record AreLimitsIn (rows : List Row) (limits : GivenLimits) : Type 0 where
   pub pages_are : ReadsNumber (codes "most-pages") rows limits.pages
   pub octets_are : ReadsNumber (codes "most-octets") rows limits.octets
   pub seconds_are : ReadsNumber (codes "most-seconds") rows limits.seconds
 
+-- it was said whether a call is stopped at the second DCS that isn't allowed
+abbrev pub has_refusing : List Row → Bool
+has_refusing rows = is_named (codes "true") (first_of (codes "refuse") rows) || is_named (codes "true") (first_of (codes "no-refuse") rows)
+
+-- it was said when the call is stopped: a limit, or what a DCS that isn't allowed does
+abbrev pub has_stops : List Row → Bool
+has_stops rows = is_some (first_of (codes "most-pages") rows) || (is_some (first_of (codes "most-octets") rows)
+    || (is_some (first_of (codes "most-seconds") rows) || has_refusing rows))
+
+-- a call is stopped at the second DCS that isn't allowed, unless that is said otherwise
+abbrev pub refuses_in : List Row → Bool
+refuses_in rows = not (is_named (codes "true") (first_of (codes "no-refuse") rows))
+
+-- it was said so and otherwise
+abbrev pub refuses_and_not : List Row → Bool
+refuses_and_not rows = is_named (codes "true") (first_of (codes "refuse") rows)
+    && is_named (codes "true") (first_of (codes "no-refuse") rows)
+
 -- an option for an answerer only was given
 abbrev pub has_answerer : List Row → Bool
 has_answerer rows = is_some (first_of (codes "out") rows) || (is_named (codes "true") (first_of (codes "standard") rows) ||
     (is_some (first_of (codes "widest") rows) || (is_some (first_of (codes "limit") rows)
-    || (is_some (first_of (codes "mode") rows) || has_limits rows))))
+    || (is_some (first_of (codes "mode") rows) || has_stops rows))))
 
 -- an option for a caller only was given
 abbrev pub has_caller : List Row → Bool
 has_caller rows = is_some (first_of (codes "frame") rows) || (is_named (codes "true") (first_of (codes "fine") rows) ||
     (is_some (first_of (codes "from") rows) || is_some (first_of (codes "in") rows)))
 
--- the lengths of the waits, if given, and whether what is heard, and until when, is said
+-- the lengths of the waits, if given, whether what is heard, and until when, is said, and whether frames are said as contents
 pub record AreWaitsIn (rows : List Row) (waits : GivenWaits) : Type 0 where
   pub t1_is : ReadsNumber (codes "t1") rows waits.t1
   pub t2_is : ReadsNumber (codes "t2") rows waits.t2
   pub t4_is : ReadsNumber (codes "t4") rows waits.t4
   pub t5_is : ReadsNumber (codes "t5") rows waits.t5
   pub hears_is : waits.hears ≡ is_named (codes "true") (first_of (codes "hear") rows)
+  pub frames_is : waits.frames ≡ is_named (codes "true") (first_of (codes "frames") rows)
 
 -- what an answerer can do, as the values say: it takes each code up to the one named, and fine lines unless it takes standard ones alone
 abbrev pub caps_in : List Row → Coding → Caps
@@ -576,7 +595,7 @@ caps_in rows coding = record {
 }
 
 -- the values of the command `station` are those of an answerer
-pub record IsAnswerOf (rows : List Row) (caps : Caps) (limit : ℕ) (limits : GivenLimits) (waits : GivenWaits) (out : Text)
+pub record IsAnswerOf (rows : List Row) (caps : Caps) (limit : ℕ) (limits : GivenLimits) (refuses : Bool) (waits : GivenWaits) (out : Text)
     (rights : Rights) (trace : Option Text) (frames : Bool) : Type 0 where
   pub answers : is_named (codes "true") (first_of (codes "answer") rows) ≡ true
   pub calls : is_named (codes "true") (first_of (codes "call") rows) ≡ false
@@ -588,6 +607,8 @@ pub record IsAnswerOf (rows : List Row) (caps : Caps) (limit : ℕ) (limits : Gi
   pub limit_given : ReadsNumber (codes "limit") rows given
   pub limit_is : limit ≡ limit_of given
   pub limits_are : AreLimitsIn rows limits
+  pub one_way : refuses_and_not rows ≡ false
+  pub refuses_is : refuses ≡ refuses_in rows
   pub waits_are : AreWaitsIn rows waits
   pub out_is : first_of (codes "out") rows ≡ Some out
   pub rights_are : rights_named (first_of (codes "mode") rows) ≡ Some rights
@@ -640,7 +661,7 @@ IsCommandOf met (Drive command) = (rows : List Row)
     (option_map string_bytes command.diagram) (string_bytes command.input)
 IsCommandOf met (Answer command) = (rows : List Row)
     × (met ≡ Some (codes "station", rows))
-    × IsAnswerOf rows command.caps command.limit command.limits command.waits (string_bytes command.out) command.rights
+    × IsAnswerOf rows command.caps command.limit command.limits command.refuses command.waits (string_bytes command.out) command.rights
     (option_map string_bytes command.trace) command.frames
 IsCommandOf met (Dial command) = (rows : List Row)
     × (met ≡ Some (codes "station", rows))

@@ -1,6 +1,7 @@
 -- The definitions of the program.
 pub mod Apart
 pub mod Bounds
+pub mod CallNotes
 pub mod Jobs
 pub mod Table
 pub mod Folders

@@ -2,7 +2,7 @@
 --
 -- No clause says what a file holds. So the octets that a command has read, and what a writer had before and after, are some octets of which
 -- the engine's definition holds.
-use Rattle.std.specs.Prelude.{◌≡◌, ◌⊎◌, ◌<◌, ◌||◌, ◌∷◌, ◌-◌, ℕ, Bool, List, Option, Some, None, Result, Ok, Err, not, true, false, is_some, codes, length}
+use Rattle.std.specs.Prelude.{◌≡◌, ◌⊎◌, ◌<◌, ◌&&◌, ◌||◌, ◌∷◌, ◌-◌, ℕ, Bool, List, Option, Some, None, Result, Ok, Err, not, true, false, is_some, codes, drop, length}
 use Rattle.std.specs.Prelude.{IfErr, IfOk, if◌then◌else◌}
 use Rattle.call_tallies.specs.ManyCalls.{TellsMany}
 use Rattle.calls.specs.BadLines.{LeavesDriven, RefusesDriven}
@@ -12,20 +12,26 @@ use Rattle.calls.specs.Transcripts.{end_text}
 use Rattle.line_sim.specs.declared.live.Ending.{Ending}
 use Rattle.clap.specs.Words.{kind_of}
 use Rattle.clap.specs.declared.error.kind.ErrorKind.TheVariants.{ArgumentConflict}
+use Rattle.conversations.specs.declared.refusing.Refusal.{Refusal}
 use Rattle.faults.specs.Faults.{IsOutside}
 use Rattle.faults.specs.declared.fault.ToolFault.{ToolFault}
 use Rattle.faults.specs.declared.fault.ToolFault.TheVariants.{No}
 use Rattle.page_files.specs.CodedPages.{AppendsCode, RefusesShow, ShowsPage}
-use Rattle.page_files.specs.Decodings.{RefusesDecoding, broken_asked}
 use Rattle.page_files.specs.Identified.{Identifies}
-use Rattle.page_files.specs.LaterPages.{AnswersPage, AreAfter}
+use Rattle.page_files.specs.LaterPages.{AnswersPage}
+use Rattle.page_files.specs.declared.identify.Identity.{Identity}
+use Rattle.page_files.specs.declared.identify.Identity.TheVariants.{Known, Several, Nothing}
 use Rattle.page_files.specs.declared.options.PageForm.{PageForm}
+use Rattle.raster.specs.Faults.{number_of}
 use Rattle.raster.specs.Pages.{PagePixels}
+use Rattle.raster.specs.Pbm.{AreImages, read_images}
+use Rattle.raster.specs.declared.fault.RasterFault.{RasterFault}
+use Rattle.stations.specs.CallerFields.{AreCallable}
 use Rattle.stations.specs.declared.stopping.CallEnd.{CallEnd}
 use Rattle.stations.specs.declared.stopping.CallEnd.TheVariants.{By, LineLost, Stopped}
-use Rattle.stations.specs.declared.turn.End.TheVariants.{Normal}
 use Rattle.stations.specs.declared.waiting.Wait.{Wait}
 use Rattle.stations.specs.declared.waiting.Wait.TheVariants.{T1, T2, T4, T5}
+use Rattle.faxtool.specs.CallNotes.{has_left}
 use Rattle.faxtool.specs.declared.args.station_words.GivenWaits.{GivenWaits}
 use Rattle.faxtool.specs.declared.args.words.Outcome.{Outcome}
 use Rattle.faxtool.specs.declared.args.words.Outcome.TheVariants.{Done, Fault, Incomplete, Words}
@@ -71,22 +77,20 @@ abbrev pub IsAnswered : DecodeCommand → Result Bool ToolFault → Type 0
 IsAnswered command end = (octets later : List ℕ) × (page : PagePixels) × (told : List ℕ)
     × AnswersPage command.form command.options command.page octets later page told end
 
--- the page with that number is refused
-abbrev pub IsUnanswered : DecodeCommand → ToolFault → Type 0
-IsUnanswered command fault = IsOutside fault ⊎ ((octets later : List ℕ) × AreAfter command.form octets (command.page - 1) later
-    × RefusesDecoding (broken_asked command.options.salvage command.options.repair) command.form later fault)
-
--- the page was decoded, with the end that the engine says; or it is refused
+-- the page was decoded, with the end that the engine says; or reading, writing or memory failed
 abbrev pub DecodeGives : DecodeCommand → Result Completeness ToolFault → Type 0
 DecodeGives command (Ok completeness) = (complete : Bool) × (completeness ≡ completeness_of complete) × IsAnswered command (Ok complete)
-DecodeGives command (Err fault) = IsAnswered command (Err fault) ⊎ IsUnanswered command fault
+DecodeGives command (Err fault) = IsOutside fault ⊎ IsAnswered command (Err fault)
 
--- the file was identified, or is refused as one that no way reads
+-- the file was identified as this
+abbrev pub IsIdentified : Identity → Type 0
+IsIdentified identity = (octets : List ℕ) × (before after : Option (List ℕ)) × Identifies octets before after identity
+
+-- the file is known; or it is a page whose width isn't; or it is refused as one that no way reads
 abbrev pub IdentifyGives : Result Completeness ToolFault → Type 0
-IdentifyGives (Ok completeness) = (completeness ≡ Whole)
-    × ((octets : List ℕ) × (before after : Option (List ℕ)) × Identifies octets before after None)
-IdentifyGives (Err fault) = IsOutside fault
-    ⊎ ((octets : List ℕ) × (before after : Option (List ℕ)) × Identifies octets before after (Some fault))
+IdentifyGives (Ok Whole) = IsIdentified Known
+IdentifyGives (Ok Lacking) = IsIdentified Several
+IdentifyGives (Err fault) = IsOutside fault ⊎ IsIdentified (Nothing fault)
 
 -- ---- frames
 
@@ -131,12 +135,17 @@ DriveGives command (Err fault) = IsUndriven command fault
 
 -- ---- stations
 
+-- the word of why a call was stopped: a second DCS wasn't allowed, for a reason, or something else stopped it
+abbrev pub stopped_word : Option Refusal → List ℕ
+stopped_word None = codes "stopped"
+stopped_word (Some why) = codes "refused"
+
 -- the word of why the call of a station ended, or that it goes on
-abbrev pub end_word : Option CallEnd → List ℕ
-end_word (Some (By end)) = end_text (Some end)
-end_word (Some Stopped) = codes "stopped"
-end_word (Some LineLost) = codes "line-lost"
-end_word None = end_text None
+abbrev pub end_word : Option CallEnd → Option Refusal → List ℕ
+end_word (Some (By end)) refused = end_text (Some end)
+end_word (Some Stopped) refused = stopped_word refused
+end_word (Some LineLost) refused = codes "line-lost"
+end_word None refused = end_text None
 
 -- how long a wait is to run, if that is given
 abbrev pub given_wait : GivenWaits → Wait → Option ℕ
@@ -150,21 +159,31 @@ abbrev pub IsHalt : Halted → Type 0
 IsHalt (halted.Line number reason) = Unit {0}
 IsHalt (halted.Fault fault) = IsOutside fault
 
--- what a station's command gives: a fault that stopped its lines, or whether its call ended normally
-abbrev pub ended_of : Option Halted → Option CallEnd → Result Completeness ToolFault
-ended_of (Some (halted.Fault fault)) end = Err fault
-ended_of (Some (halted.Line number reason)) end = Ok Lacking
-ended_of None (Some (By Normal)) = Ok Whole
-ended_of None _ = Ok Lacking
+-- What a station's command gives: a fault that stopped its lines; or all was done if the call is whole and lacks its last DCN at most.
+abbrev pub ended_of : Option Halted → Option CallEnd → Bool → Result Completeness ToolFault
+ended_of (Some (halted.Fault fault)) end whole = Err fault
+ended_of (Some (halted.Line number reason)) end whole = Ok Lacking
+ended_of None end whole = Ok (completeness_of (whole && has_left end))
 
--- the file has no document that a call carries, or no page with the number that is to be the first (28)
-abbrev pub IsNoDocument : Bool → ToolFault → Type 0
-IsNoDocument fine fault = IsOutside fault
-    ⊎ ((fault ≡ No 26) ⊎ ((fault ≡ No 28) ⊎ ((images : List ℕ) × RefusesDriven fine images fault)))
+-- why images have no pages from this number on: the first fault of the images, or there are fewer pages (28)
+abbrev pub HasNoPagesFrom : Bool → ℕ → List ℕ → ToolFault → Type 0
+HasNoPagesFrom fine from images fault = ((first : RasterFault) × (read_images fine images ≡ Err first) × (fault ≡ No (number_of first)))
+    ⊎ ((pages : List PagePixels) × AreImages fine images pages × (length pages < from) × (fault ≡ No 28))
+
+-- the pages of the images in a file from this number on; or why there are none
+abbrev pub SendsFrom : Bool → ℕ → Result (List PagePixels) ToolFault → Type 0
+SendsFrom fine from (Ok document) = (images : List ℕ) × (pages : List PagePixels) × AreImages fine images pages
+    × (document ≡ drop (from - 1) pages)
+SendsFrom fine from (Err fault) = IsOutside fault ⊎ ((images : List ℕ) × HasNoPagesFrom fine from images fault)
+
+-- the file has no document that a call carries: no pages from this number on, or one of them has a width that no call has (26)
+abbrev pub IsNoDocument : Bool → ℕ → ToolFault → Type 0
+IsNoDocument fine from fault = SendsFrom fine from (Err fault)
+    ⊎ ((document : List PagePixels) × SendsFrom fine from (Ok document) × ¬ AreCallable document × (fault ≡ No 26))
 
 -- a file or memory failed, or the file has no document that a call carries
 abbrev pub DialGives : DialCommand → Result Completeness ToolFault → Type 0
-DialGives command given = IfErr given (IsNoDocument command.options.fine)
+DialGives command given = IfErr given (IsNoDocument command.options.fine command.from)
 
 -- ---- the version
 

@@ -1,5 +1,6 @@
 -- What a fault is in words, with what the program alone knows of it, and what is wrong with a line of a station.
-use Rattle.std.specs.Prelude.{ℕ, ◌++◌, Bool, true, false, if◌then◌else◌, nat_eq, List, Option, Some, None, codes, option_map, unwrap_or}
+use Rattle.std.specs.Prelude.{ℕ, ◌≡◌, ◌≢◌, ◌≤◌, ◌⊎◌, ◌++◌, Bool, true, false, if◌then◌else◌, nat_eq, List, [], ◌∷◌, Option, Some, None}
+use Rattle.std.specs.Prelude.{codes, length, option_map, unwrap_or}
 use Rattle.std.specs.Str.{bytes_eq}
 use Rattle.std.specs.declared.io.ErrorKind.{ErrorKind}
 use Rattle.faults.specs.declared.fault.ToolFault.{ToolFault}
@@ -64,6 +65,15 @@ told words (Some (FewerPages count from)) = name_text words.known.file.now ++ (c
 told words (Some (RowsOf width)) = explained words.fault words.known ++ (codes "; each row ends after " ++ (decimal width
     ++ (codes " pixels: try --width " ++ decimal width)))
 
+-- the line that is read, before its next octet: a new one, if the line before has ended
+abbrev pub begun_line : Bool → List ℕ → List ℕ
+begun_line true line = []
+begun_line false line = line
+
+-- What is kept of a line after another octet: that too, unless it is the LF, the line has more than 400,000 octets, or memory is refused.
+abbrev pub KeepsOctet : List ℕ → ℕ → List ℕ → Type 0
+KeepsOctet line octet new = (new ≡ line) ⊎ ((octet ≢ 10) × (length line ≤ 400000) × (new ≡ line ++ octet ∷ []))
+
 -- what is wrong with a line of a station
 abbrev pub line_words : Wrong → List ℕ
 line_words wrong.TooLong = codes "the line has more than 400000 octets"
@@ -74,4 +84,5 @@ line_words wrong.Carrier = codes "a carrier is expected here"
 line_words wrong.Kind = codes "hdlc or raw is expected here"
 line_words wrong.Bits = codes "the number of bits is expected here, 1 to 7 digits"
 line_words wrong.Hex = codes "two hexadecimal digits are expected for each octet of the bits"
+line_words wrong.Content = codes "a frame's content of 3 to 300 octets is expected here"
 line_words wrong.OutOfTime = codes "the time is before that of the line before, or too long after it"

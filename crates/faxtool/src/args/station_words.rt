@@ -3,7 +3,8 @@ ghost use Rattle.std.specs.Prelude.{◌≡◌, IfOk, MatchResult, Some, codes, f
 ghost use Rattle.std.specs.Str.{bytes_eq};
 ghost use Rattle.clap.specs.Words.{first_of, found_of, rows_of};
 ghost use Rattle.faxtool.specs.Jobs.{AreWaitsIn, HasNoCommand, IsCommandOf, caps_in, has_answerer, has_caller, limit_of, is_named, takes_t6};
-ghost use Rattle.faxtool.specs.Jobs.{AreLimitsIn, has_limits, is_octal, mode_named, mode_of, rights_named, widest_named};
+ghost use Rattle.faxtool.specs.Jobs.{AreLimitsIn, has_refusing, has_stops, is_octal, mode_named, mode_of, refuses_and_not};
+ghost use Rattle.faxtool.specs.Jobs.{refuses_in, rights_named, widest_named};
 
 use crate::args::unfit::Unfit;
 use crate::args::words::{
@@ -30,6 +31,8 @@ pub struct GivenWaits {
     pub t5: Option<u32>,
     /// True if it says what it hears and until when it waits.
     pub hears: bool,
+    /// True if it says its bursts by V.21 as the contents of their frames.
+    pub frames: bool,
 }
 
 /// The limits of an answerer's call, if given.
@@ -88,10 +91,14 @@ fn answer_command(
     let Some(rights) = rights_named(text_in(matches, "mode")) else {
         return Ok(Err(Unfit::NoMode));
     };
+    if refuses_and_not(matches) {
+        return Ok(Err(Unfit::RefuseAndNot));
+    }
     Ok(Ok(Command::Answer(AnswerCommand {
         caps: caps_in(matches, coding),
         limit: limit_of(number_in(matches, "limit")),
         limits: limits_in(matches),
+        refuses: refuses_in(matches),
         waits: waits_in(matches),
         out: String::from_str(alloc, out)?,
         rights,
@@ -148,16 +155,38 @@ fn has_answerer(matches: &ArgMatches<'_>) -> bool
         || text_in(matches, "widest").is_some()
         || text_in(matches, "limit").is_some()
         || text_in(matches, "mode").is_some()
-        || has_limits(matches)
+        || has_stops(matches)
 }
 
-// Whether a limit of the call was given.
-fn has_limits(matches: &ArgMatches<'_>) -> bool
-    ensures { result ≡ has_limits (rows_of (found_of matches.now)) }
+// Whether it was said when the call is stopped: a limit, or what a DCS that isn't allowed does.
+fn has_stops(matches: &ArgMatches<'_>) -> bool
+    ensures { result ≡ has_stops (rows_of (found_of matches.now)) }
 {
     text_in(matches, "most-pages").is_some()
         || text_in(matches, "most-octets").is_some()
         || text_in(matches, "most-seconds").is_some()
+        || has_refusing(matches)
+}
+
+// Whether it was said if a call is stopped at the second DCS that isn't allowed.
+fn has_refusing(matches: &ArgMatches<'_>) -> bool
+    ensures { result ≡ has_refusing (rows_of (found_of matches.now)) }
+{
+    is_named(text_in(matches, "refuse"), "true") || is_named(text_in(matches, "no-refuse"), "true")
+}
+
+// Whether it was said so and otherwise.
+fn refuses_and_not(matches: &ArgMatches<'_>) -> bool
+    ensures { result ≡ refuses_and_not (rows_of (found_of matches.now)) }
+{
+    is_named(text_in(matches, "refuse"), "true") && is_named(text_in(matches, "no-refuse"), "true")
+}
+
+// Whether a call is stopped at the second DCS that isn't allowed: unless that is said otherwise.
+fn refuses_in(matches: &ArgMatches<'_>) -> bool
+    ensures { result ≡ refuses_in (rows_of (found_of matches.now)) }
+{
+    !is_named(text_in(matches, "no-refuse"), "true")
 }
 
 // Whether an option for a caller only was given.
@@ -239,6 +268,7 @@ fn waits_in(matches: &ArgMatches<'_>) -> GivenWaits
         t4: number_in(matches, "t4"),
         t5: number_in(matches, "t5"),
         hears: is_named(text_in(matches, "hear"), "true"),
+        frames: is_named(text_in(matches, "frames"), "true"),
     }
 }
 

@@ -444,6 +444,16 @@ const STATION_ARGUMENTS: &[Argument<'static>] = &[
         ..MOST
     },
     Argument {
+        id: "refuse",
+        help: "Stops the call at the second DCS that isn't allowed, as without error correction; so it is if not said (with --answer)",
+        ..FLAG
+    },
+    Argument {
+        id: "no-refuse",
+        help: "Answers no such DCS, and waits on (with --answer)",
+        ..FLAG
+    },
+    Argument {
         id: "frame",
         shown: &["N"],
         parser: Some(ValueParser::Names(&["256", "64"])),
@@ -485,6 +495,11 @@ const STATION_ARGUMENTS: &[Argument<'static>] = &[
     Argument {
         id: "hear",
         help: "Says before each wait what is heard, and after it until when",
+        ..FLAG
+    },
+    Argument {
+        id: "frames",
+        help: "Says bursts by V.21 as the contents of their frames, in place of bits",
         ..FLAG
     },
     Argument {

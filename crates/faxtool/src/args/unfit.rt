@@ -54,6 +54,8 @@ pub enum Unfit {
     NoFolder,
     /// A mode that is none.
     NoMode,
+    /// `--refuse` and `--no-refuse`.
+    RefuseAndNot,
     /// A caller with an option for an answerer.
     CallerAsAnswerer,
     /// A caller without IN.
@@ -96,8 +98,9 @@ impl Unfit {
                 "--frame, --fine, --from and IN are for a station with --call",
             Unfit::NoFolder => "--answer needs --out, the folder of the pages",
             Unfit::NoMode => "a mode is three octal digits, perhaps after a 0, as 0640",
+            Unfit::RefuseAndNot => "--refuse and --no-refuse can't be used together",
             Unfit::CallerAsAnswerer =>
-                "--out, --standard, --widest, --limit, --mode and --most-.. are for a station with --answer",
+                "--out, --standard, --widest, --limit, --mode, --most-.. and --refuse are for a station with --answer",
             Unfit::NoDocument => "--call needs IN, the file of the document",
             Unfit::DocumentStandard => "IN can't be standard input, where the lines come",
         }

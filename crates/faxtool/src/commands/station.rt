@@ -3,19 +3,26 @@
 pub(crate) mod ending;
 pub(crate) mod folder;
 pub(crate) mod no_line;
+pub(crate) mod notes;
+pub(crate) mod records;
 pub(crate) mod trace;
 
 ghost use Rattle.faults.specs.Faults.{IsOutside};
-ghost use Rattle.conversations.specs.Clocks.{duration};
-ghost use Rattle.faxtool.specs.Runs.{IsHalt, IsNoDocument, end_word, given_wait};
-ghost use Rattle.std.specs.Prelude.{◌≡◌, ◌-◌, IfErr, IfOk, IfSome, unwrap_or};
+ghost use Rattle.faxtool.specs.Runs.{IsHalt, IsNoDocument, SendsFrom, end_word, given_wait, stopped_word};
+ghost use Rattle.std.specs.Prelude.{◌≡◌, ◌<◌, ◌-◌, IfErr, IfOk, IfSome, List, drop, false, is_some, length, map, unwrap_or};
+ghost use Rattle.raster.specs.Pages.{IsDocument, PagePixels};
+ghost use Rattle.raster.specs.Pbm.{AreImages};
+ghost use Rattle.raster.specs.PbmText.{with_fine};
 ghost use Rattle.stations.specs.declared.waiting.Wait.{Wait as AnyWait};
+ghost use Rattle.terminals.specs.Clocks.{duration};
 ghost use Rattle.terminals.specs.Timing.{wait_millis};
 
 use crate::args::station_words::{GivenLimits, GivenWaits};
 use crate::commands::station::ending::end_station;
 use crate::commands::station::folder::{CallLimits, Folder};
 use crate::commands::station::no_line::{LastLine, NoLine, no_line};
+use crate::commands::station::notes::Notes;
+use crate::commands::station::records::write_confirmed;
 use crate::commands::station::trace::Trace;
 use crate::commands::{Completeness, NO_NAMES, Names, Runs};
 use crate::context::{Cause, Context, Part};
@@ -27,16 +34,17 @@ use crate::files::printed::{self, Printed};
 use crate::files::progress::Watch;
 use crate::files::{STANDARD, output};
 use calls::{CallOptions, end_word};
-use conversations::{Conversation, ConverseFault, Durations, Ending, Keeper, Says, converse};
+use conversations::{Conversation, ConverseFault, Ending, Keeper, Refusal, Says, converse};
 use faults::{FAILED, NO_MEMORY, ToolFault};
 use page_files::PageForm;
-use raster::{Document, Page, read_pbm, write_pbm};
-use signals::{Caps, Wish};
+use raster::laws::pbm_round_trip;
+use raster::{Document, Page, RasterFault, read_pbm, write_pbm};
+use signals::{Caps, Reason, Wish};
 use stations::{CallEnd, Caller, CallerFault, LimitedAnswerer, Limits, StoppableCaller, Turn};
 use std::alloc::{AllocError, Global};
 use std::io;
 use std::io::{BufRead, BufReader, BufWriter, ErrorKind, Write};
-use terminals::{Stoppable, Terminal};
+use terminals::{Durations, Stoppable, Terminal};
 
 /// How many octets of standard input are read at a time.
 const READ_AT_ONCE: usize = 65536;
@@ -75,21 +83,37 @@ impl From<AllocError> for Halted {
 pub(crate) struct Talked {
     /// Why its call ended, if it has.
     pub(crate) end: Option<CallEnd>,
+    /// Why a second DCS wasn't allowed, if there was one.
+    pub(crate) refused: Option<Refusal>,
+    /// What the answerer lacks, if it wasn't compatible.
+    pub(crate) missing: Option<Reason>,
     /// The pages that a caller counts as confirmed, or that an answerer has on disk.
     pub(crate) pages: u64,
+    /// Whether all pages are confirmed.
+    pub(crate) whole: bool,
     /// Why its lines went no further, if that is so.
     pub(crate) halted: Option<Halted>,
 }
 
-/// The word of why a call ended, or that it goes on.
-pub(crate) fn word_of(end: Option<CallEnd>) -> &'static str
-    ensures { result.now ≡ end_word end }
+/// The word of why a call ended, or that it goes on; a call that was stopped may be refused for a reason.
+pub(crate) fn word_of(end: Option<CallEnd>, refused: Option<Refusal>) -> &'static str
+    ensures { result.now ≡ end_word end refused }
 {
     match end {
         Some(CallEnd::By(end)) => end_word(Some(end)),
-        Some(CallEnd::Stopped) => "stopped",
+        Some(CallEnd::Stopped) => stopped_word(refused),
         Some(CallEnd::LineLost) => "line-lost",
         None => end_word(None),
+    }
+}
+
+/// The word of why a call was stopped.
+fn stopped_word(refused: Option<Refusal>) -> &'static str
+    ensures { result.now ≡ stopped_word refused }
+{
+    match refused {
+        Some(_why) => "refused",
+        None => "stopped",
     }
 }
 
@@ -108,27 +132,51 @@ fn durations(given: GivenWaits) -> Durations
 
 /// What a station says beside its bursts.
 fn says(given: GivenWaits) -> Says
-    ensures { result ≡ record { hears = given.hears; waits = given.hears } }
+    ensures { result ≡ record { hears = given.hears; waits = given.hears; frames = given.frames } }
 {
     Says {
         hears: given.hears,
         waits: given.hears,
+        frames: given.frames,
     }
 }
 
-/// A caller keeps no pages.
+/// A caller keeps no pages: it tells which are confirmed.
 #[derive(Drop)]
-struct NoPages;
+struct Confirmed<'a> {
+    rt: &'a HostRuntime,
+    records: bool,
+    told: u64,
+}
 
-impl Keeper<StoppableCaller> for NoPages {
+impl Keeper<StoppableCaller> for Confirmed<'_> {
     ghost use Rattle.std.specs.Prelude.{◌≡◌, true};
+    ghost use Rattle.stations.specs.CallerFields.{Represents};
+    ghost use Rattle.stations.specs.CallerStep.{Caller as CallerTuple, confirmed};
 
-    ghost keeps = { λ old c new after kept. (new ≡ old) × (after ≡ c) × (kept ≡ true) };
+    ghost keeps = { λ old c new after kept. (after ≡ c) × (kept ≡ true)
+        × ((t : CallerTuple) → Represents c.terminal.speaking.station.station t → new ≡ record old { told = confirmed t }) };
 
     type Refused = ToolFault;
 
-    fn keep(&mut self, _conversation: &mut Conversation<StoppableCaller>) -> Option<ToolFault> {
+    fn keep(&mut self, conversation: &mut Conversation<StoppableCaller>) -> Option<ToolFault> {
+        let confirmed = conversation.terminal().station().station().confirmed();
+        self.tell(conversation.clock().now, confirmed);
+        self.told = confirmed;
         None
+    }
+}
+
+impl Confirmed<'_> {
+    /// Tells of each page that is confirmed and wasn't told, at a time, in a record.
+    fn tell(&self, at: u64, confirmed: u64) {
+        if !self.records {
+            return;
+        }
+        for before in self.told..confirmed {
+            let mut told = self.rt.stderr();
+            let _told = write_confirmed(self.rt.alloc(), at, before.saturating_add(1), &mut told);
+        }
     }
 }
 
@@ -167,29 +215,22 @@ fn halted_by<R: BufRead + Drop>(
     }
 }
 
-/// Where the answers of a station go.
-#[derive(Drop)]
-struct Answers<'a> {
-    writer: BufWriter<Printed<'a>>,
-    trace: Trace<'a>,
-}
-
 /// Takes the lines of standard input until the call is over, and writes the answer to each. If the input ends before, the line is lost. A line
 /// for which memory is refused is lost too, and the call goes on.
 fn talk<S: Stoppable, K: Keeper<S, Refused = ToolFault>>(
     context: &mut Context<'_>,
     conversation: &mut Conversation<S>,
     keeper: &mut K,
-    answers: &mut Answers<'_>,
+    writer: &mut BufWriter<Printed<'_>>,
+    notes: &mut Notes<'_>,
 ) -> Result<(), Halted>
     ensures { IfErr result IsHalt }
 {
     let alloc = context.alloc();
     let input = BufReader::with_capacity(alloc, READ_AT_ONCE, context.rt().reader())?;
     let mut reader = LastLine::new(alloc, input);
-    let Answers { writer, trace } = answers;
     for _lost in 0..u64::MAX {
-        let fault = match converse(alloc, &mut reader, conversation, keeper, writer, trace) {
+        let fault = match converse(alloc, &mut reader, conversation, keeper, writer, notes) {
             Ok(Ending::Over | Ending::Lost) => return Ok(()),
             Ok(Ending::Unkept(fault)) => return Err(Halted::Fault(outside(fault))),
             Err(fault) => fault,
@@ -208,15 +249,14 @@ fn talk_out<S: Stoppable, K: Keeper<S, Refused = ToolFault>>(
     context: &mut Context<'_>,
     conversation: &mut Conversation<S>,
     keeper: &mut K,
-    trace: Trace<'_>,
+    notes: &mut Notes<'_>,
 ) -> Result<Option<Halted>, ToolFault>
     ensures halted { IfOk result (λ halted. IfSome halted IsHalt) }
     ensures fault { IfErr result IsOutside }
 {
-    let writer = printed::print(context)?;
-    let mut answers = Answers { writer, trace };
-    let talked = talk(context, conversation, keeper, &mut answers);
-    if let Some(kind) = answers.writer.get_ref().failed() {
+    let mut writer = printed::print(context)?;
+    let talked = talk(context, conversation, keeper, &mut writer, notes);
+    if let Some(kind) = writer.get_ref().failed() {
         context.blame(Part::Printed, kind);
     }
     Ok(talked.err())
@@ -231,6 +271,8 @@ pub struct AnswerCommand {
     pub limit: u32,
     /// What its call may have at most, if given.
     pub limits: GivenLimits,
+    /// Whether its call is stopped at the second DCS that isn't allowed.
+    pub refuses: bool,
     /// How long its waits run.
     pub waits: GivenWaits,
     /// The name of the folder that the stored pages go to.
@@ -278,10 +320,11 @@ impl Runs for AnswerCommand {
 }
 
 impl AnswerCommand {
-    /// Takes the lines. Errors: `Io` (8) if a file can't be opened, and that is noted; `NoMemory` (9).
-    fn talk(&self, context: &mut Context<'_>) -> Result<Talked, ToolFault>
-        ensures halted { IfOk result (λ talked. IfSome talked.halted IsHalt) }
-        ensures fault { IfErr result IsOutside }
+    /// Its conversation, which hasn't begun, and whether it is stopped at the second DCS that isn't allowed.
+    fn conversation(&self, alloc: Global) -> Conversation<LimitedAnswerer>
+        ensures begun { result.begun ≡ false }
+        ensures says { result.says ≡ record { hears = self.now.waits.hears; waits = self.now.waits.hears; frames = self.now.waits.frames } }
+        ensures refuses { is_some result.watch ≡ self.now.refuses }
     {
         let caps = Caps {
             receiver: true,
@@ -292,45 +335,88 @@ impl AnswerCommand {
             pages: u64::from(self.limit).max(1),
             octets: u64::MAX,
         };
-        let (station, first) = LimitedAnswerer::new(context.alloc(), caps, limits);
-        let terminal = Terminal::new(context.alloc(), station, first);
+        let (station, first) = LimitedAnswerer::new(alloc, caps, limits);
+        let terminal = Terminal::new(alloc, station, first);
         let conversation = Conversation::new_answerer(terminal, durations(self.waits));
-        let mut conversation = conversation.saying(says(self.waits));
+        let conversation = conversation.saying(says(self.waits));
+        if self.refuses {
+            return conversation.refusing(alloc, caps);
+        }
+        conversation
+    }
+
+    /// Takes the lines. Errors: `Io` (8) if a file can't be opened, and that is noted; `NoMemory` (9).
+    fn talk(&self, context: &mut Context<'_>) -> Result<Talked, ToolFault>
+        ensures halted { IfOk result (λ talked. IfSome talked.halted IsHalt) }
+        ensures fault { IfErr result IsOutside }
+    {
+        let mut conversation = self.conversation(context.alloc());
         let limits = CallLimits::of(self.limits);
         let (name, records) = (self.out.as_str(), context.is_json());
         let mut folder = Folder::new(context.rt(), name, self.rights, records, limits);
         let trace = Trace::open(context, self.trace.as_deref(), self.frames)?;
-        let halted = talk_out(context, &mut conversation, &mut folder, trace)?;
+        let mut notes = Notes::new(context.rt(), records, trace);
+        let halted = talk_out(context, &mut conversation, &mut folder, &mut notes)?;
         if let Some(kind) = folder.failed() {
             context.blame(Part::Output, kind);
         }
+        let progress = conversation.terminal().station().station().progress();
         Ok(Talked {
             end: conversation.end(),
+            refused: conversation.refusal(),
+            missing: None,
             pages: folder.stored(),
+            whole: notes.noted().is_whole(progress.accepted),
             halted,
         })
     }
 }
 
-/// The pages of a document after so many, with the same lines. Errors: `NoMemory` (9). That they are these pages only tests show.
+/// Reads images that were written. Errors: `Io` (8), `NoMemory` (9).
+fn read_written(alloc: Global, images: &[u8], fine: bool) -> Result<Document, ToolFault>
+    ensures read { IfOk result (λ document. (pages : List PagePixels) → AreImages fine images.now pages → document ≡ pages) }
+    ensures fault { IfErr result IsOutside }
+{
+    let mut images = images;
+    match read_pbm(alloc, &mut images, fine) {
+        Ok(document) => Ok(document),
+        Err(RasterFault::NoMemory) => Err(NO_MEMORY),
+        Err(_) => Err(FAILED),
+    }
+}
+
+/// Returns some pages as a document, by images that are written of them and read. Errors: `Io` (8), `NoMemory` (9).
+fn document_of(alloc: Global, pages: &[Page], fine: bool) -> Result<Document, ToolFault>
+    requires document { IsDocument pages.now }
+    requires lines { map (with_fine fine) pages.now ≡ pages.now }
+    ensures same { IfOk result (λ document. document ≡ pages.now) }
+    ensures fault { IfErr result IsOutside }
+{
+    pbm_round_trip();
+    let mut octets = Vec::new(alloc);
+    match write_pbm(pages, &mut octets) {
+        Ok(()) => read_written(alloc, octets.as_slice(), fine),
+        Err(_) => Err(FAILED),
+    }
+}
+
+/// The pages of a document after so many, with the same lines. Errors: `Io` (8), `NoMemory` (9).
 fn pages_after(
     alloc: Global,
     document: Document,
     before: usize,
     fine: bool,
 ) -> Result<Document, ToolFault>
-    ensures { IfErr result (IsNoDocument fine) }
+    requires some { before < length document }
+    requires lines { map (with_fine fine) document ≡ document }
+    ensures rest { IfOk result (λ rest. rest ≡ drop before document) }
+    ensures fault { IfErr result IsOutside }
 {
     if before == 0 {
         return Ok(document);
     }
-    let mut octets = Vec::new(alloc);
-    // as images: a document can't drop its first pages
-    let pages = document.pages().get(before..).unwrap_or(&[]);
-    write_pbm(pages, &mut octets)?;
-    drop(document);
-    let mut images = octets.as_slice();
-    Ok(read_pbm(alloc, &mut images, fine)?)
+    // a document can't drop its first pages
+    document_of(alloc, &document.pages()[before..], fine)
 }
 
 /// Runs a caller by lines of text.
@@ -388,7 +474,7 @@ impl DialCommand {
     /// Returns the pages that are sent: those of its file from a number on. Errors: the first fault of the file, `FewerPages` (28), `Io` (8)
     /// if the file can't be read, and that is noted; `NoMemory` (9).
     fn document(&self, context: &mut Context<'_>) -> Result<Document, ToolFault>
-        ensures { IfErr result (IsNoDocument self.now.options.fine) }
+        ensures { SendsFrom self.now.options.fine self.now.from result }
     {
         read_images(context, self.input.as_str(), Watch::Silent)?;
         let mut images = context.octets();
@@ -412,20 +498,27 @@ impl DialCommand {
 
     /// Returns the caller, with the pages that are sent. Errors: those of `document`, and `WidthNotCallable` (26).
     fn caller(&self, context: &mut Context<'_>) -> Result<Caller, ToolFault>
-        ensures { IfErr result (IsNoDocument self.now.options.fine) }
+        ensures { IfErr result (IsNoDocument self.now.options.fine self.now.from) }
     {
         let document = self.document(context)?;
         if let Some(cause) = first_not_callable(document.pages(), self.pages_before()) {
             context.note_cause(cause);
         }
-        let wish = Wish {
+        match Caller::new(context.alloc(), document, self.wish()) {
+            Ok(caller) => Ok(caller),
+            Err(CallerFault::WidthNotCallable) => Err(ToolFault::No(26)),
+        }
+    }
+
+    /// How it sends, if the answerer takes that.
+    fn wish(&self) -> Wish
+        ensures { let options = self.now.options in
+            result ≡ record { modems = options.modems; coding = options.coding; small = options.small } }
+    {
+        Wish {
             modems: self.options.modems,
             coding: self.options.coding,
             small: self.options.small,
-        };
-        match Caller::new(context.alloc(), document, wish) {
-            Ok(caller) => Ok(caller),
-            Err(CallerFault::WidthNotCallable) => Err(ToolFault::No(26)),
         }
     }
 
@@ -438,12 +531,22 @@ impl DialCommand {
         let terminal = Terminal::new(context.alloc(), station, Turn::Silent);
         let conversation = Conversation::new_caller(terminal, durations(self.waits));
         let mut conversation = conversation.saying(says(self.waits));
+        let (rt, records) = (context.rt(), context.is_json());
         let trace = Trace::open(context, self.trace.as_deref(), self.frames)?;
-        let halted = talk_out(context, &mut conversation, &mut NoPages, trace)?;
-        let caller = conversation.terminal().station().station();
+        let mut notes = Notes::new(rt, records, trace);
+        let mut confirmed = Confirmed {
+            rt,
+            records,
+            told: 0,
+        };
+        let halted = talk_out(context, &mut conversation, &mut confirmed, &mut notes)?;
+        let progress = conversation.terminal().station().station().progress();
         Ok(Talked {
             end: conversation.end(),
-            pages: caller.confirmed(),
+            refused: None,
+            missing: notes.noted().missing(self.wish(), self.options.fine),
+            pages: progress.confirmed,
+            whole: progress.confirmed == progress.pages,
             halted,
         })
     }

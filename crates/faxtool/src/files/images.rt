@@ -86,9 +86,9 @@ pub fn image_octets(alloc: Global, page: &Page) -> Result<u64, AllocError>
     Ok((header.len() + stride * rows) as u64)
 }
 
-/// Stores a page: writes it into a new file of these rights in a folder, `page-N.pbm` with the first free number from this one on, and returns the number.
-/// The file has that name only once it is whole and synced; then the folder is synced. If that fails, no file of it is left. Errors: `Io`
-/// (8), `NoMemory` (9).
+/// Stores a page: writes it into a new file of these rights in a folder, `page-N.pbm` with the first free number from this one on, and
+/// returns the number. The file has that name only once it is whole and synced; then the folder is synced. If that fails, no file of it is left.
+/// Errors: `Io` (8), `NoMemory` (9).
 pub fn store_page(
     rt: &HostRuntime,
     folder: &str,

@@ -1,15 +1,17 @@
 //! The folder that the pages of an answerer go to, and the limits of its call.
 
-ghost use Rattle.faxtool.specs.Folders.{limits_of, most_of};
-ghost use Rattle.std.specs.Prelude.{◌≡◌, ◌≤◌, ◌+◌, nat_lt, true};
+ghost use Rattle.faxtool.specs.Folders.{is_late, limits_of, most_of};
+ghost use Rattle.std.specs.Prelude.{◌≡◌, ◌+◌, nat_lt};
 
 use crate::args::station_words::GivenLimits;
+use crate::commands::station::records::{StoredPage, write_page};
 use crate::explain::notice_as;
 use crate::files::images::{image_octets, store_page};
 use crate::files::output::Rights;
 use conversations::{Conversation, Keeper, PageStore, keep_pages};
 use faults::{FAILED, NO_MEMORY, ToolFault};
 use raster::Page;
+use signals::Params;
 use stations::LimitedAnswerer;
 use std::io;
 
@@ -63,6 +65,9 @@ pub(crate) struct Folder<'a> {
     next: u64,
     is_full: bool,
     failed: Option<io::ErrorKind>,
+    // of the line after which pages are stored: its time, and how they were sent
+    at: u64,
+    params: Option<Params>,
 }
 
 impl PageStore for Folder<'_> {
@@ -70,13 +75,14 @@ impl PageStore for Folder<'_> {
     ghost use Rattle.std.specs.Prelude.{◌≡◌};
 
     ghost stores = { λ old page new. StoresNext old.stored old.next new.stored new.next
-        × StoresWithin old.limits page new.stored old.octets new.octets };
+        × StoresWithin old.limits page new.stored old.octets new.octets × (new.limits ≡ old.limits) };
 
-    ghost refuses = { λ old page new. (new.stored ≡ old.stored) × (new.next ≡ old.next) × (new.octets ≡ old.octets) };
+    ghost refuses = { λ old page new. (new.stored ≡ old.stored) × (new.next ≡ old.next) × (new.octets ≡ old.octets)
+        × (new.limits ≡ old.limits) };
 
     type Refused = ToolFault;
 
-    // The file is on disk then. Standard error says so if it has another number than the page.
+    // The file is on disk then. A record says so, and standard error if it has another number than the page.
     fn store(&mut self, page: Page) -> Result<(), ToolFault> {
         if page.rows().is_empty() {
             // no station stores such a page
@@ -94,9 +100,7 @@ impl PageStore for Folder<'_> {
                 self.stored += 1;
                 self.octets += more;
                 self.next = written.saturating_add(1);
-                if written != self.stored {
-                    self.tell_other(written);
-                }
+                self.tell_stored(written, &page);
                 Ok(())
             }
             Err(refused) => {
@@ -129,6 +133,8 @@ impl<'a> Folder<'a> {
             next: 1,
             is_full: false,
             failed: None,
+            at: 0,
+            params: None,
         }
     }
 
@@ -153,6 +159,23 @@ impl<'a> Folder<'a> {
         self.octets > self.limits.octets || more > self.limits.octets - self.octets
     }
 
+    /// Tells that a page is in the file of this number: in a record, and if the page has another number.
+    fn tell_stored(&self, file: u64, page: &Page) {
+        if self.records {
+            let stored = StoredPage {
+                at: self.at,
+                number: self.stored,
+                file,
+                params: self.params,
+                page,
+            };
+            let _told = write_page(self.rt.alloc(), &stored, &mut self.rt.stderr());
+        }
+        if file != self.stored {
+            self.tell_other(file);
+        }
+    }
+
     /// Tells on standard error that the last page's file has another number than the page.
     fn tell_other(&self, written: u64) {
         let number = self.stored;
@@ -170,26 +193,30 @@ impl<'a> Folder<'a> {
 
     /// Whether the time of a call that goes on is over, and the line is quiet, so that the other side can hear it hang up.
     fn is_late(&self, conversation: &Conversation<LimitedAnswerer>) -> bool
-        ensures { result ≡ true → self.now.limits.millis ≤ conversation.now.clock.now }
+        ensures { result ≡ is_late self.now.limits.millis conversation.now }
     {
         let clock = conversation.clock();
-        clock.now >= self.limits.millis && clock.calm.is_some() && !conversation.is_over()
+        let end = conversation.terminal().station().end();
+        clock.now >= self.limits.millis && clock.calm.is_some() && end.is_none()
     }
 }
 
 impl Keeper<LimitedAnswerer> for Folder<'_> {
-    ghost use Rattle.faxtool.specs.Folders.{KeepsWithin, StoresNext, StoresWithin};
+    ghost use Rattle.faxtool.specs.Folders.{KeepsWithin, StoresNext, StoresWithin, params_of};
     ghost use Rattle.std.specs.Prelude.{◌≡◌};
 
     ghost keeps = { λ old c new after kept. KeepsWithin
         (λ first page then. StoresNext first.stored first.next then.stored then.next
-        × StoresWithin first.limits page then.stored first.octets then.octets)
-        (λ first page then. (then.stored ≡ first.stored) × (then.next ≡ first.next) × (then.octets ≡ first.octets))
-        (λ folder. folder.is_full) new.limits.millis old c new after kept };
+        × StoresWithin first.limits page then.stored first.octets then.octets × (then.limits ≡ first.limits))
+        (λ first page then. (then.stored ≡ first.stored) × (then.next ≡ first.next) × (then.octets ≡ first.octets)
+        × (then.limits ≡ first.limits))
+        (λ folder. folder.is_full) new.limits.millis (record old { at = c.clock.now; params = params_of c }) c new after kept };
 
     type Refused = ToolFault;
 
     fn keep(&mut self, conversation: &mut Conversation<LimitedAnswerer>) -> Option<ToolFault> {
+        self.at = conversation.clock().now;
+        self.params = conversation.terminal().station().station().peer();
         let refused = keep_pages(conversation, self);
         if self.is_full {
             self.tell("a page is dropped, and the call stopped: --most-pages or --most-octets");

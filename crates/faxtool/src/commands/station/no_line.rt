@@ -1,7 +1,7 @@
 //! Why a station doesn't answer a line, and at which column of it.
 
-ghost use Rattle.std.specs.Prelude.{◌≡◌, ◌+◌, [], false, min, IfOk, if◌then◌else◌, ◌-◌, ◌^◌};
-ghost use Rattle.faxtool.specs.Told.{line_words};
+ghost use Rattle.std.specs.Prelude.{◌≡◌, ◌+◌, [], cond, false, min, nat_eq, IfOk, if◌then◌else◌, ◌-◌, ◌^◌};
+ghost use Rattle.faxtool.specs.Told.{KeepsOctet, begun_line, line_words};
 
 use conversations::{Channel, Kind, LineRefused, MOST_OCTETS, read_line};
 use std::alloc::Global;
@@ -62,14 +62,23 @@ impl<R: BufRead + Drop> LastLine<R> {
     }
 
     // Drops the line before, if it has ended.
-    fn begin(&mut self) {
+    fn begin(&mut self)
+        ensures line { self.new.line.items ≡ begun_line self.old.is_ended self.old.line.items }
+        ensures begun { self.new.is_ended ≡ false }
+        ensures rest { (self.new.ended ≡ self.old.ended) × (self.new.reader ≡ self.old.reader) }
+    {
         if self.is_ended {
             self.line.clear();
             self.is_ended = false;
         }
     }
 
-    fn keep(&mut self, octet: u8) {
+    fn keep(&mut self, octet: u8)
+        ensures line { KeepsOctet (begun_line self.old.is_ended self.old.line.items) octet self.new.line.items }
+        ensures ends { self.new.is_ended ≡ nat_eq octet 10 }
+        ensures number { self.new.ended ≡ cond (nat_eq octet 10) (min (self.old.ended + 1) (2 ^ 64 - 1)) self.old.ended }
+        ensures rest { self.new.reader ≡ self.old.reader }
+    {
         self.begin();
         if octet == b'\n' {
             self.is_ended = true;
@@ -135,6 +144,8 @@ enum Wrong {
     Bits,
     /// The digits aren't those of as many octets as the bits need.
     Hex,
+    /// What stands there is no content of a frame.
+    Content,
     /// Its time is before that of the line before it, or too long after it.
     OutOfTime,
 }
@@ -152,6 +163,7 @@ impl Wrong {
             Wrong::Kind => "hdlc or raw is expected here",
             Wrong::Bits => "the number of bits is expected here, 1 to 7 digits",
             Wrong::Hex => "two hexadecimal digits are expected for each octet of the bits",
+            Wrong::Content => "a frame's content of 3 to 300 octets is expected here",
             Wrong::OutOfTime => "the time is before that of the line before, or too long after it",
         }
     }
@@ -188,6 +200,17 @@ impl<'a> Words<'a> {
         rest
     }
 
+    /// Goes to the first word that is no content of a frame.
+    fn skip_contents(&mut self) {
+        for _place in 0..self.line.len() {
+            let word = self.next_word();
+            if !is_content(word) {
+                return;
+            }
+            self.skip(word);
+        }
+    }
+
     /// Goes on after a word and the space after it.
     fn skip(&mut self, word: &[u8]) {
         self.at = self.at.saturating_add(word.len()).saturating_add(1);
@@ -198,6 +221,12 @@ impl<'a> Words<'a> {
 fn are_digits(octets: &[u8], most: usize) -> bool {
     let is_number = octets.iter().all(|octet| octet.is_ascii_digit());
     is_number && !octets.is_empty() && octets.len() <= most
+}
+
+/// Returns whether octets are hexadecimal digits, two for each of 3 to 300 octets.
+fn is_content(octets: &[u8]) -> bool {
+    let are_digits = octets.iter().all(|octet| octet.is_ascii_hexdigit());
+    are_digits && octets.len() % 2 == 0 && octets.len() >= 6 && octets.len() <= 600
 }
 
 /// Returns why a line, without its LF, isn't answered: it is too long or isn't a line of a station, or else its time runs back.
@@ -246,6 +275,11 @@ fn wrong_word(words: &mut Words<'_>) -> Wrong {
     }
     words.skip(carrier);
     let kind = words.next_word();
+    if matches!(carrier, b"v21") && matches!(kind, b"frames") {
+        words.skip(kind);
+        words.skip_contents();
+        return Wrong::Content;
+    }
     if Kind::named(kind).is_none() {
         return Wrong::Kind;
     }

@@ -1,7 +1,10 @@
 //! What a station heard and said, as text with its time.
 
 ghost use Rattle.faults.specs.Faults.{IsOutside};
-ghost use Rattle.std.specs.Prelude.{◌≡◌, IfErr, None, OnOk, codes, if◌then◌else◌, nat_eq, ◌+◌};
+ghost use Rattle.faxtool.specs.CallNotes.{frame_read, run_line, said_word};
+ghost use Rattle.signals.specs.Reading.{read_content};
+ghost use Rattle.std.specs.Io.KnownBytes.{Appends};
+ghost use Rattle.std.specs.Prelude.{◌≡◌, ◌||◌, IfErr, None, OnOk, cond, nat_eq, ◌+◌};
 
 use crate::context::{Context, Part};
 use crate::explain::notice_as;
@@ -204,13 +207,15 @@ impl FrameRun {
 impl TraceLines {
     /// The word of what is said or heard.
     fn word(self) -> &'static str
-        ensures { result.now ≡ (if self.said then codes "said" else codes "heard") }
+        ensures { result.now ≡ said_word self.said }
     {
         if self.said { "said" } else { "heard" }
     }
 
     /// The frame of a block that a content is, where such a one has no line of its own.
-    fn frame_of(self, content: &[u8]) -> Option<FrameRun> {
+    fn frame_of(self, content: &[u8]) -> Option<FrameRun>
+        ensures { result ≡ cond (self.records || self.frames) None (frame_read (read_content content.now)) }
+    {
         if self.records || self.frames {
             return None;
         }
@@ -227,7 +232,8 @@ impl TraceLines {
     /// Writes the line of frames that follow each other: `FCD 0..255`; of one alone it is that of its content. Errors: `Io` (8) from the
     /// writer.
     fn write_run<W: Write>(self, run: Option<FrameRun>, writer: &mut W) -> Result<(), ToolFault>
-        ensures { IfErr result IsOutside }
+        ensures line { OnOk result (Appends (W.contents writer.old) (W.contents writer.new) (run_line self.at self.said run)) }
+        ensures fault { IfErr result IsOutside }
     {
         let Some(
             FrameRun {
