@@ -2,6 +2,7 @@
  * g3_core_.. A NULL handle is an empty one; if another address is NULL, the status is G3_BAD_LENGTH. Beside them there are only names of
  * numbers, and the version. */
 #include "g3fax.h"
+#include <string.h>
 
 /* a handle of any kind: the proved functions tell the kinds apart */
 typedef struct handle { void *at; } handle;
@@ -38,6 +39,7 @@ g3_status g3_core_terminal_wait_over(handle *, uint32_t);
 uint32_t g3_core_wait_millis(uint32_t);
 g3_status g3_core_terminal_tick(handle *, uint64_t, uint32_t);
 g3_status g3_core_terminal_due(handle *, uint64_t *);
+g3_status g3_core_terminal_most_seconds(handle *, uint32_t);
 g3_status g3_core_terminal_set_busy(handle *, uint32_t);
 g3_status g3_core_terminal_stop(handle *);
 g3_status g3_core_terminal_hang_up(handle *);
@@ -47,6 +49,7 @@ g3_status g3_core_terminal_state(handle *, void *);
 g3_status g3_core_terminal_progress(handle *, void *);
 g3_status g3_core_terminal_params(handle *, g3_dcs *);
 g3_status g3_core_terminal_take_page(handle *, handle *);
+g3_status g3_core_terminal_hold(handle *, handle *);
 /* of a signal these reach what is between its size and its octets, which are passed beside it */
 g3_status g3_core_terminal_peer(handle *, void *);
 g3_status g3_core_signal_read(const uint8_t *, size_t, void *, uint8_t *, size_t);
@@ -78,8 +81,10 @@ LIES(g3_size, width, 16);
 LIES(g3_counts, good, 48);
 LIES(g3_burst, bits, 24);
 LIES(g3_state, pages, 40);
-LIES(g3_progress, pages, 64);
+LIES(g3_progress, pages, 80);
 LIES(g3_signal, length, 80 + 296);
+/* the size of g3_progress in its first form, which ends before `refused` */
+#define PROGRESS_FIRST (__builtin_offsetof(g3_progress, refused))
 
 void g3_page_free(g3_page *page) { if (page != NULL) g3_core_free((handle *)page); }
 void g3_octets_free(g3_octets *octets) { if (octets != NULL) g3_core_free((handle *)octets); }
@@ -281,6 +286,11 @@ g3_status g3_terminal_due(const g3_terminal *terminal, uint64_t *at)
     HANDLE(terminal); PLACE(at);
     return g3_core_terminal_due(READ(terminal), at);
 }
+g3_status g3_terminal_most_seconds(g3_terminal *terminal, uint32_t seconds)
+{
+    HANDLE(terminal);
+    return g3_core_terminal_most_seconds((handle *)terminal, seconds);
+}
 g3_status g3_terminal_set_busy(g3_terminal *terminal, uint32_t is)
 {
     HANDLE(terminal);
@@ -313,8 +323,13 @@ g3_status g3_terminal_state(const g3_terminal *terminal, g3_state *state)
 }
 g3_status g3_terminal_progress(const g3_terminal *terminal, g3_progress *progress)
 {
-    HANDLE(terminal); SIZED(progress);
-    return g3_core_terminal_progress(READ(terminal), REST(progress));
+    g3_progress whole;
+    HANDLE(terminal); PLACE(progress);
+    const uint64_t size = progress->size;
+    if (size != PROGRESS_FIRST && size != sizeof *progress) return G3_BAD_SIZE;
+    g3_status status = g3_core_terminal_progress(READ(terminal), REST(&whole));
+    if (status == G3_OK) memcpy(REST(progress), REST(&whole), size - sizeof progress->size);
+    return status;
 }
 g3_status g3_terminal_params(const g3_terminal *terminal, g3_params *params)
 {
@@ -330,6 +345,11 @@ g3_status g3_terminal_take_page(g3_terminal *terminal, g3_page *out)
 {
     HANDLE(terminal); HANDLE(out);
     return g3_core_terminal_take_page((handle *)terminal, (handle *)out);
+}
+g3_status g3_terminal_hold(g3_terminal *terminal, g3_page *out)
+{
+    HANDLE(terminal); HANDLE(out);
+    return g3_core_terminal_hold((handle *)terminal, (handle *)out);
 }
 g3_status g3_signal_read(const uint8_t *content, size_t length, g3_signal *signal)
 {

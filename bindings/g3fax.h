@@ -241,8 +241,12 @@ enum { G3_QUIET = 1, G3_CARRIER = 2 };
  * it when the line changes, after each burst that was sent, and when g3_terminal_due says; g3_terminal_wait_over isn't called then. Frames and
  * checks that were heard since the last tick are heard now. G3_BAD_CHOICE: no such line, or a time before that of the last tick. */
 G3_CHECK g3_status g3_terminal_tick(g3_terminal *terminal, uint64_t now, uint32_t line);
-/* When the next wait is over, by the time of the ticks, if the line stays as it is and nothing comes. G3_NOTHING: no wait runs. */
+/* When the next wait is over, or the call has lasted as long as it may, by the time of the ticks, if the line stays as it is and nothing
+ * comes. G3_NOTHING: no wait runs, and no limit. */
 G3_CHECK g3_status g3_terminal_due(const g3_terminal *terminal, uint64_t *at);
+/* How many seconds the call may last, by the time of the ticks; 0 for no limit, as in the beginning. The first tick of a quiet line from then
+ * on does what g3_terminal_stop does. */
+G3_CHECK g3_status g3_terminal_most_seconds(g3_terminal *terminal, uint32_t seconds);
 /* Whether an answerer can't take pages for now. */
 G3_CHECK g3_status g3_terminal_set_busy(g3_terminal *terminal, uint32_t is);
 /* Ends the call in order: DCN is to be sent in place of what was. */
@@ -309,7 +313,10 @@ typedef struct g3_state {
 } g3_state;
 G3_CHECK g3_status g3_terminal_state(const g3_terminal *terminal, g3_state *state);
 
-/* how far a call is; what belongs to the other station is 0 */
+/* why an answerer doesn't allow a DCS: it is without error correction, or has a speed, a width, lines or a code that aren't offered */
+enum { G3_REFUSED_NO_ECM = 1, G3_REFUSED_NOT_OFFERED = 2 };
+
+/* how far a call is; what belongs to the other station is 0. The size may be 72 octets too, as before `refused` was added */
 typedef struct g3_progress {
     uint64_t size;           /* of this struct */
     uint64_t pages;          /* of a caller's document; or those that an answerer has stored and that weren't taken */
@@ -323,12 +330,19 @@ typedef struct g3_progress {
     uint32_t accepted;       /* 1: an answerer has accepted a block, the last one that of the next two */
     uint32_t accepted_page;  /* the number of its page modulo 256 */
     uint32_t accepted_block; /* its number in that page modulo 256 */
+    uint32_t refused;        /* how often an answerer had a DCS that it doesn't allow: 0 to 2, which is twice or more */
+    uint32_t refused_why;    /* of the second one G3_REFUSED_..; 0 where there was none. The program may stop the call then */
+    uint32_t gap;            /* 1: the page numbers that an answerer hears have jumped, so a page may be missing */
+    uint32_t gap_page;       /* the first number modulo 256, from 0, that was neither the last one nor the next */
 } g3_progress;
 G3_CHECK g3_status g3_terminal_progress(const g3_terminal *terminal, g3_progress *progress);
 
 /* The oldest page that an answerer has stored and that wasn't taken. G3_NOTHING: there is none. Where none waits in the handle, all stored
  * pages leave the station, which isn't busy for them then: there are never more than 2 * limit - 1 in memory. */
 G3_CHECK g3_status g3_terminal_take_page(g3_terminal *terminal, g3_page *out);
+/* The same, and the answerer is busy, so that the caller isn't told that its page has arrived: it hears RNR, and asks again, until
+ * g3_terminal_set_busy(terminal, 0) says that the page is stored. G3_BAD_CHOICE: its limit isn't 1, so that pages are confirmed before. */
+G3_CHECK g3_status g3_terminal_hold(g3_terminal *terminal, g3_page *out);
 
 /* Signals (T.30, 5.3.6 and A.4): what the contents of frames say. A program that has its own frames reads and writes them by these; a
  * terminal needs none of it. */

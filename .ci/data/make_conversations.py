@@ -5,6 +5,7 @@ check sequences are added here. Of those named reference_ the answers are the on
 station, with IN and DIR; the lines in; the lines out; and the last line on standard error. A caller has its document, an answerer the pages
 that it stores; of some the records of `--json` are worked too."""
 
+import json
 import os
 import sys
 from pathlib import Path
@@ -21,7 +22,21 @@ WHITE = (TOP / "docs" / "examples" / "row.pbm").read_bytes()
 TWO_WIDTHS = WHITE + b"P4\n2048 1\n" + bytes(256)
 
 
+def happened(record):
+    """The line of a record of what happens during a call, without `--json`."""
+    told = json.loads(record)
+    if "file" in told:
+        size = f"{told['width']} x {told['height']}, {told['lines']}, {told['code']}, {told['speed']}"
+        return f"{told['at']} page {told['page']} in {told['file']}: {size}"
+    if "gap" in told:
+        return f"{told['at']} gap before page {told['gap']}: one may be missing"
+    if "heard" in told:
+        return f"{told['at']} heard {told.get('words') or 'other ' + told['heard']['control_field']}"
+    return f"{told['at']} page {told['confirmed']} confirmed"
+
+
 def write(name, words, lines, answers, errors, document=b"", pages=(), records=()):
+    errors = [*(happened(record) for record in records if '"at"' in record), *errors]
     texts = {"words": words, "lines": "\n".join(lines), "expected": "\n".join(answers), "error": "\n".join(errors)}
     texts |= {"records": "\n".join(records)} if records else {}
     for kind, text in texts.items():
@@ -137,13 +152,49 @@ OTHERS = [
 ]
 worked("answerer_of_a_caller_with_a_name", "--answer --out DIR", NAMED, pages=[WHITE], records=[*OTHERS, STORED, *NORMAL])
 # A DIS without bit 27: no error correction.
-NO_CORRECTION = [(("rx 1000", "v21", ["FF1380006EFA40"]), [("v21", [DCN])]), "end not-compatible confirmed 0"]
+LACKED = "not compatible: the answerer has no error correction\nend not-compatible confirmed 0"
+NO_CORRECTION = [(("rx 1000", "v21", ["FF1380006EFA40"]), [("v21", [DCN])]), LACKED]
 LACKS = ['{"confirmed":0,"whole":false,"why":"the answerer has no error correction"}', '{"confirmed":0,"end":"not-compatible"}']
 worked("caller_that_is_not_compatible", "--call IN", NO_CORRECTION, document=WHITE, records=LACKS)
 worked_whole("no_error_correction", "--answer --out DIR", REFUSED_TWICE, records=[*UNKNOWN, WHY, '{"end":"refused","pages":0}'])
 worked_whole("no_error_correction_waited_for", "--answer --no-refuse --out DIR", NOT_REFUSED)
 worked_whole("answerer_says_what_it_hears", "--answer --hear --out DIR", HEARING, pages=[WHITE])
 worked_whole("clock_that_jumps", "--answer --out DIR", JUMPING)
+# A page that is handed over: RNR until it is kept, and DCN once it is lost. What is said of another page, or of none, is no line.
+HELD = [
+    ("quiet 1000", [("v21", [DIS]), "wait"]),
+    (("rx 2000", "v21", [DCS]), ["wait"]),
+    (("rx 4000", PAGE, CHECK), [("v21", [CFR]), "wait"]),
+    (("rx 6000", PAGE, WHITE_BURST), ["wait"]),
+    (("rx 7000", "v21", [LAST]), ["page page-1.pbm", ("v21", [RNR]), "wait"]),
+    ("quiet 7100", ["wait"]),
+    (("rx 8000", "v21", [RR]), [("v21", [RNR]), "wait"]),
+]
+KEPT = [*HELD, ("kept 9000 page-1.pbm", ["wait"]), (("rx 9500", "v21", [RR]), [("v21", [MCF]), "wait"]), (("rx 10000", "v21", [DCN]), ["done"])]
+KEPT_RECORD = STORED.replace("14000", "9000")
+worked_whole("held_page", "--answer --hold --out DIR", [*KEPT, "end normal pages 1"], pages=[WHITE], records=[KEPT_RECORD, *NORMAL])
+LOST = [*HELD, ("lost 9000 page-1.pbm", [("v21", ["FF13FA"]), "done"])]
+IS_LOST = "the call is stopped: a page that was handed over is lost"
+NOTICE, LOST_END = f'{{"notice":"{IS_LOST}"}}', ['{"pages":0,"whole":false,"why":"' + IS_LOST + '"}', '{"end":"stopped","pages":0}']
+worked_whole(
+    "held_page_lost", "--answer --hold --out DIR", [*LOST, f"{IS_LOST}\nend stopped pages 0"], pages=[WHITE], records=[NOTICE, *LOST_END]
+)
+worked_whole("held_page_of_another_name", "--answer --hold --out DIR", [*HELD, ("kept 9000 page-2.pbm", []), "fault 31 at line 8"], pages=[WHITE])
+worked_whole("page_kept_twice", "--answer --hold --out DIR", [*KEPT[:8], ("kept 9001 page-1.pbm", []), "fault 31 at line 9"], pages=[WHITE])
+worked_whole("page_kept_that_is_not_held", "--answer --out DIR", [HELD[0], ("kept 2000 page-1.pbm", []), "fault 31 at line 2"])
+# A PPS of page 7 after one of page 0: it is confirmed, and the jump is told once.
+SEVENTH = "FF13BF2F070000"
+JUMPED = [
+    *HELD[:4],
+    (("rx 7000", "v21", [FIRST_OF_TWO]), [("v21", [MCF]), "wait"]),
+    (("rx 9000", PAGE, WHITE_BURST), ["wait"]),
+    (("rx 10000", "v21", [SEVENTH]), [("v21", [MCF]), "wait"]),
+    (("rx 11000", "v21", [DCN]), ["done"]),
+    "end normal pages 2",
+]
+STORED_TWO = [STORED.replace("14000", "7000"), STORED.replace("14000", "10000").replace('page-1', 'page-2').replace('"page":1', '"page":2')]
+GAP = ['{"at":10000,"gap":8}', '{"pages":2,"whole":true}', '{"end":"normal","pages":2}']
+worked_whole("page_number_that_jumps", "--answer --out DIR", JUMPED, pages=[WHITE, WHITE], records=[STORED_TWO[0], GAP[0], STORED_TWO[1], *GAP[1:]])
 worked_whole("answerer_in_frames", "--answer --frames --out DIR", FRAMED, pages=[WHITE])
 worked_whole("content_of_two_octets", "--answer --frames --out DIR", TWO_OCTETS)
 worked("caller_before_a_busy_answerer", "--call IN", CALLED, document=WHITE)

@@ -1,7 +1,7 @@
 """Runs `frames --pages` on the frames of calls that carry the large page and a page of white rows: try_captured.py PROGRAM FOLDER
 
 FOLDER has large.pbm, 2,432 pixels wide. The frames are those of ITU-T T.30 Annex A, with the check sequence of T.30, 5.3.7. Each
-call is tried whole, with blocks sent again, twice on one line, with a frame, the DCS or the last PPS lost, and with a page's code
+call is tried whole, with blocks sent again, twice on one line, with a frame, a page, a DCS or a PPS lost, and with a page's code
 cut short; and with `--salvage` the rows before each gap are those that `decode --salvage` gives of the code before it. Ends with status 1
 at the first that differs."""
 
@@ -15,7 +15,7 @@ import sys
 
 program, folder = sys.argv[1:]
 WIDTHS = {1728: 0, 2048: 1, 2432: 2}
-NULL, MPS, EOP = 0x00, 0x4F, 0x2F
+NULL, MPS, EOM, EOP = 0x00, 0x4F, 0x8F, 0x2F
 
 
 def check(octets):
@@ -74,8 +74,9 @@ def coded(image, mmr):
     return open(out, "rb").read()
 
 
-def tried(name, contents, wanted, said, status):
-    """The pages that are written of contents, what is said of others, and the status."""
+def tried(name, contents, wanted, said, status, numbers=None):
+    """The pages that are written of contents, their numbers where these aren't those of their files, what is said of others, and the
+    status."""
     bits, pages = f"{folder}/captured.bits", f"{folder}/captured"
     with open(bits, "wb") as file:
         file.write(line(contents))
@@ -90,9 +91,11 @@ def tried(name, contents, wanted, said, status):
         sys.exit(f"{name}: another list")
     if len(said_of) != len(wanted):
         sys.exit(f"{name}: {len(said_of)} pages are said")
-    for text, octets in zip(said_of, wanted):
+    for place, (text, octets) in enumerate(zip(said_of, wanted)):
         width, height = octets.split(b"\n", 2)[1].split()
-        if not re.fullmatch(rb"page (\d): page-\1.pbm, %s x %s pixels, standard lines" % (width, height), text):
+        file = rb"\1" if numbers is None else b"%d" % (place + 1)
+        told = re.fullmatch(rb"page (\d): page-%s.pbm, %s x %s pixels, standard lines" % (file, width, height), text)
+        if not told or numbers and int(told[1]) != numbers[place]:
             sys.exit(f"{name}: it said {text}")
     if done.stderr.decode().splitlines() != said:
         sys.exit(f"{name}: it said {done.stderr.decode()[:200]}")
@@ -129,9 +132,9 @@ def front(code, mmr):
     return open(out, "rb").read() if os.path.exists(out) else b""
 
 
-def salvaged(name, contents, fronts, wanted, said, first=1):
-    """The pages that `--salvage` writes of contents, numbered from the first one, of which those of the numbers in `fronts` are rows
-    before a gap, and what is said."""
+def salvaged(name, contents, fronts, wanted, said, first=1, pages_of_calls=9):
+    """The pages that `--salvage` writes of contents, in files numbered from the first one, of which those of the numbers in `fronts` are
+    rows before a gap, and what is said. Each call has so many pages, after which their numbers begin again."""
     bits, pages = f"{folder}/captured.bits", f"{folder}/captured"
     with open(bits, "wb") as file:
         file.write(line(contents))
@@ -142,13 +145,15 @@ def salvaged(name, contents, fronts, wanted, said, first=1):
         told = [text for text in done.stdout.decode().splitlines() if text.startswith(("page ", '{"file"'))]
         sizes = [octets.split(b"\n", 2)[1].decode().split() for octets in wanted]
         lines = [
-            f"page {number}: page-{number}.pbm, {width} x {height} pixels, standard lines" + ", rows before a gap" * (number in fronts)
+            f"page {(number - 1) % pages_of_calls + 1}: page-{number}.pbm, {width} x {height} pixels, standard lines"
+            + ", rows before a gap" * (number in fronts)
             for number, (width, height) in enumerate(sizes, first)
         ]
         if words:
             told = [json.loads(text) for text in told]
             lines = [
-                {"file": f"page-{number}.pbm", "height": int(height), "lines": "standard", "page": number, "width": int(width)}
+                {"file": f"page-{number}.pbm", "height": int(height), "lines": "standard", "width": int(width)}
+                | {"page": (number - 1) % pages_of_calls + 1}
                 | ({"salvaged": True} if number in fronts else {})
                 for number, (width, height) in enumerate(sizes, first)
             ]
@@ -174,7 +179,7 @@ def try_salvage(name, codes, mmr, small):
     gap = both[: 1 + lost] + both[2 + lost :]
     missing = f"page 1 block 0: frame {lost} is missing"
     salvaged(f"{name}, a frame lost", gap, [1], [rows, few], [missing])
-    salvaged(f"{name}, a frame lost before a DCS", gap + both, [1], [rows, few, large, few], [missing])
+    salvaged(f"{name}, a frame lost before a DCS", gap + both, [1], [rows, few, large, few], [missing], 1, 2)
     alone = [dcs(2432, mmr, small)] + burst(blocks[0], [n for n in range(len(blocks[0])) if n != lost], NULL, 0, 0)
     salvaged(f"{name}, a frame lost at the end", alone, [1], [rows], [missing])
     # no PPS comes after the last frames, of which one is missing
@@ -204,12 +209,26 @@ for mmr in False, True:
         both = call(codes, mmr, small)
         tried(name, both, [large, few], [], 0)
         tried(f"{name}, sent again", call(codes, mmr, small, 7), [large, few], [], 0)
-        tried(f"{name}, two calls", both + both, [large, few, large, few], [], 0)
+        tried(f"{name}, two calls", both + both, [large, few, large, few], [], 0, [1, 2, 1, 2])
         first = both[:1] + both[2:]
         tried(f"{name}, frame 0 lost", first, [few], ["page 1 block 0: frame 0 is missing"], 1)
         if not os.path.exists(f"{folder}/captured/page-2.pbm"):
             sys.exit(f"{name}: the second page isn't page-2.pbm where the first one lacks")
         try_salvage(name, codes, mmr, small)
+        # the second of three pages, or its PPS alone: the frames of the third one count, which are as many
+        three = call([codes[1]] * 3, mmr, small)
+        size = (len(three) - 1) // 3
+        lost_page = three[: 1 + size] + three[1 + 2 * size :]
+        lost_pps = three[: 2 * size] + three[1 + 2 * size :]
+        for lost in lost_page, lost_pps:
+            tried(f"{name}, a page lost", lost, [few, few], ["page 2 is missing"], 1)
+            if sorted(os.listdir(f"{folder}/captured")) != ["page-1.pbm", "page-3.pbm"]:
+                sys.exit(f"{name}: the third page isn't page-3.pbm where the second one lacks")
+        # after EOM the next page isn't read by the old DCS
+        no_dcs = [content[:3] + bytes([EOM]) + content[4:] if content[3:6] == bytes([MPS, 0, 0]) else content for content in three]
+        said = [f"page {number} block 0: no DCS after EOM, so it isn't stored" for number in (2, 3)]
+        tried(f"{name}, no DCS after EOM", no_dcs, [few], said, 1)
+        salvaged(f"{name}, no DCS after EOM", no_dcs, [], [few], said)
         tried(f"{name}, no DCS", call([codes[1]], mmr, small)[1:], [], ["page 1 block 0: no DCS before it"], 1)
         tried(f"{name}, no end", call([codes[1]], mmr, small)[:-1], [], ["a page has no end"], 1)
         if mmr:

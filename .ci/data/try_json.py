@@ -41,6 +41,8 @@ def ranges(numbers):
 
 def missing_text(found):
     what = found["missing"]
+    if what == "page" and "fault" not in found:
+        return f"page {found['page']} is missing"
     if what == "page":
         return f"page {found['page']}: can't be read, fault {found['fault']} at bit {found['bit']}"
     if what == "end of page":
@@ -50,6 +52,8 @@ def missing_text(found):
         return f"{block}: frame {found['frame']} is missing"
     if what == "blocks before":
         return f"{block}: the blocks before it are missing"
+    if what == "DCS" and "after" in found:
+        return f"{block}: no DCS after {found['after']}, so it isn't stored"
     if what == "DCS":
         return f"{block}: no DCS before it"
     raise ValueError(what)

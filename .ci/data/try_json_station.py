@@ -4,8 +4,8 @@
     try_json_station.py PROGRAM FOLDER
 
 Each conversation of .ci/conversations is made with and without `--json`. The trace's records, put back together, are the lines of the trace
-without it; the record of how the call ended is its line; and a fault's record has its number and its line. What is told while a call runs
-is in records alone, whose fields are held against the kept .records by station.sh. FOLDER is empty, for the pages.
+without it; the records of what happens and of how the call ended are their lines; and a fault's record has its number and its line. FOLDER
+is empty, for the pages.
 Prints how many runs there were, and ends with status 1 where something differs. It needs Python's standard library alone."""
 
 import json
@@ -32,10 +32,26 @@ def made(words, lines, *more):
     return done.stdout, done.stderr, traced, done.returncode
 
 
+def happened_text(record):
+    """The line of what happens during a call."""
+    if "file" in record:
+        size = f"{record['width']} x {record['height']}, {record['lines']}, {record['code']}, {record['speed']}"
+        return f"{record['at']} page {record['page']} in {record['file']}: {size}"
+    if "confirmed" in record:
+        return f"{record['at']} page {record['confirmed']} confirmed"
+    if "gap" in record:
+        return f"{record['at']} gap before page {record['gap']}: one may be missing"
+    return f"{record['at']} heard {record.get('words') or texts.signal_text(record['heard'])}"
+
+
 def told_text(record, why):
     """The lines of a record on standard error. `why` is that of the record of how the call stands."""
+    if "at" in record:
+        return happened_text(record)
     if record.get("end") == "refused":
         return f"the call is refused: {why}\nend refused pages {record['pages']}"
+    if record.get("end") == "not-compatible":
+        return f"not compatible: {why}\nend not-compatible confirmed {record['confirmed']}"
     if "end" in record:
         counted = "confirmed" if "confirmed" in record else "pages"
         return f"end {record['end']} {counted} {record[counted]}"
@@ -68,8 +84,8 @@ for words in sorted(KEPT.glob("*.words")):
     compare(name, "the trace", [traced_text(record) for record in records(traced_records)], traced.decode().splitlines())
     found = records(told_records)
     why = next((record.get("why") for record in found if "whole" in record), None)
-    ends = [told_text(record, why) for record in found if not {"at", "whole"} & set(record)]
-    compare(name, "what is told", "\n".join(ends), told.decode().rstrip("\n"))
+    lines = [told_text(record, why) for record in found if "whole" not in record]
+    compare(name, "what is told", "\n".join(lines), told.decode().rstrip("\n"))
     compare(name, "how the call stands", [record["whole"] for record in found if "whole" in record], [not status])
     compare(name, "the status", other, status)
     runs += 2

@@ -82,6 +82,10 @@ try_large_frames() {
 # The pages in the frames of calls, whole ones and incomplete ones; and of a folder that is missing.
 try_captured() {
     python3 -B "$data/try_captured.py" "$program" "$work" || fails "frames --pages"
+    python3 -B "$top/bench/fuzz/fuzz_captures.py" --dry > "$work/output" || fails "fuzz_captures.py doesn't read its worked captures: $(cat "$work/output")"
+    FAXTOOL=$program timeout 600 python3 -B "$top/bench/fuzz/fuzz_captures.py" --times 100 > "$work/output" ||
+        fails "frames --pages of random captures: $(cat "$work/output")"
+    count=$((count + 220))
     refuses frames --salvage "$top/docs/examples/line.bits"
     grep -qF -e "--salvage needs --pages" "$work/error" || fails "frames --salvage with no folder doesn't say what is wrong"
     while IFS='|' read -r words why; do

@@ -74,7 +74,7 @@ try_identified_pages() {
 
 # Pages of T.4 of widths that no list has: they say their own. A row of 2,000 + 480 pixels is no page's. As mgetty writes a row that ends in
 # black, with a white run of 0 before its EOL, only `decode --repair` reads it. In two dimensions a 1 after the EOL says that the next row is
-# in one.
+# in one. Without EOLs each row begins with an octet.
 try_own_widths() {
     eol="000000000001" line="010011011 00110101" broad="000000010010 101010 000000110101 000001101010"
     for width in 1 7 9 1000 1734 2431; do
@@ -87,6 +87,21 @@ try_own_widths() {
     is_none "T.4, $msb, width 2480: wider than 2432\n" "$(bits "$eol $broad $eol $broad $eol")"
     identifies "T.4, $msb, width 1728, 2 rows, by decode --repair\n" "$(bits "$eol 011000 00110010 10 00110101 $eol $line $eol $eol")"
     is_none "T.4 in two dimensions (MR), $msb, width 1728: not read\n" "$(bits "$eol 1 $line $eol 0 1 $eol 1 $line")"
+    is_none "T.4 without EOLs (TIFF compression 2), $msb, width 1728, 2 rows: not read; try tiffcp -c g4 on its TIFF\n" \
+        "$(bits "$line 0000000 $line")"
+}
+
+# T.4 of more than 1 MiB without an EOL before its first row says no width, and is read to its end all the same. Each row has 432 runs of 4.
+try_much_without_eol() {
+    python3 -B - "$work/much.mh" <<'MUCH'
+import sys
+eol = "000000000001"
+bits = eol.join([("1011" + "011") * 216] * 6000) + eol * 6
+bits += "0" * (-len(bits) % 8)
+open(sys.argv[1], "wb").write(int(bits, 2).to_bytes(len(bits) // 8, "big"))
+MUCH
+    identifies "T.4, $msb, width 1728, 6000 rows\n" "$work/much.mh"
+    rm "$work/much.mh"
 }
 
 # Formats by their first octets, a page that begins as one, and files that are none.
@@ -102,8 +117,14 @@ try_identify() {
 50_34_0A PBM
 50_31_0A plain PBM
 00_00_01_00_00_00_06_C0 JBIG
-7E_7E_7E_7E bits of a line (HDLC flags)
-CF_CF_CF_FF bits of a line (HDLC flags)
+7E_7E_7E bits of a line (HDLC flags)
+3F_3F_3F bits of a line (HDLC flags)
+9F_9F_9F bits of a line (HDLC flags)
+CF_CF_CF bits of a line (HDLC flags)
+E7_E7_E7 bits of a line (HDLC flags)
+F3_F3_F3 bits of a line (HDLC flags)
+F9_F9_F9 bits of a line (HDLC flags)
+FC_FC_FC bits of a line (HDLC flags)
 FORMATS
     identifies "PBM, by its first octets\n" "$data/page.pbm"
     # rows that end in 2, 3 and 3 black pixels by VL2 V0, VL1 H(3, 0) and V0 V0, then EOFB: the first two octets are P1
@@ -111,6 +132,7 @@ FORMATS
     identifies "plain PBM, by its first octets\n$(in_widths "T.6, least significant bit first, width %s, 3 rows")" "$code"
     try_identified_pages
     try_own_widths
+    try_much_without_eol
     : > "$work/empty"
     explains "fault 7" "$work/empty: there is no image: it has no octet" identify "$work/empty"
     printf '\0\0\0\0' > "$work/zeros"

@@ -39,7 +39,7 @@ def main(program, library, kept):
             wrong = "a page is cut short"
         elif mcf in said.splitlines() and not pages:
             wrong = "MCF is written, and the page isn't there"
-        elif told.startswith("fault 9"):
+        elif "fault 9" in told.splitlines():
             faults += 1
         elif answers > lines or not told.splitlines()[-1:] or not told.splitlines()[-1].startswith("end "):
             wrong = f"{answers} answers to {lines} lines, and: {told}"

@@ -176,6 +176,18 @@ try_explained_widths() {
         done
     done
     eol=000000000001
+    # a run of 0 before an EOL, as mgetty writes it; and pages of T.6 one after another, without EOFB, that end with an octet or not
+    cp "$(bits "$eol 1011 011 00110101 $eol 10011 $eol $eol $eol $eol $eol $eol")" empty_run
+    explains "fault 10 at bit 19" \
+        "empty_run: row 2: an EOL is expected here, and no EOL begins here; runs of 0 pixels come before the row's EOL: decode --repair reads it" \
+        decode --code mh --width 8 empty_run made
+    cp "$(bits "11111111111111111111 0000 11111111111111111111")" pages
+    explains "fault 14 at bit 20" "pages: row 21: this mode or run goes past the row's width: is --width right?; without EOFB nothing marks a\
+ page's end: another page may begin at octet 3" decode --code mmr --width 8 pages made
+    cat "$data/wide.faxg4" "$data/wide.faxg4" > pages
+    gives 1 decode --explain --code mmr --width 1728 pages made
+    grep -q "; the file doesn't end with EOFB: nothing marks a page's end then, and another page may begin before this bit$" "$work/error" ||
+        fails "decode of two pages without EOFB doesn't say that nothing marks a page's end"
     gives 1 decode --explain --code mh --width 9 "$(bits "$eol 10011 $eol 10011 $eol $eol $eol $eol $eol $eol")" made
     grep -q "; each row ends after 8 pixels: try --width 8$" "$work/error" || fails "decode of two rows doesn't name the width"
     for rows in "10011 $eol 1000 $eol" "10011 $eol"; do

@@ -317,7 +317,10 @@ def run(program, spoken, folder):
     names = sorted(os.listdir(pages), key=lambda name: (len(name), name))
     need(names == [f"page-{number + 1}.pbm" for number in range(len(names))], f"it left {names}")
     stored = [Path(pages, name).read_bytes() for name in names]
-    return ran.stdout.decode("ascii", "replace"), ran.stderr.decode("utf-8", "replace"), ran.returncode, stored
+    # what happens during the call has a line with its time, and so has what an answerer lacks; the reference says how it ends
+    lines = ran.stderr.decode("utf-8", "replace").splitlines(True)
+    told = "".join(line for line in lines if not line[:1].isdigit() and not line.startswith("not compatible: "))
+    return ran.stdout.decode("ascii", "replace"), told, ran.returncode, stored
 
 
 def compare(ran, wanted):

@@ -547,8 +547,6 @@ class Folder:
         except OSError:
             Path(self.path()).unlink(missing_ok=True)
             raise
-        if self.file != self.page:
-            print(f"page {self.page} written as page-{self.file}.pbm", file=sys.stderr)
 
     def path(self):
         return os.path.join(self.name, f"page-{self.file}.pbm")

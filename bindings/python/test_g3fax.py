@@ -501,6 +501,49 @@ class Calls(unittest.TestCase):
             answerer.lost()
             self.assertIsNone(answerer.due)
 
+    def test_limit(self):
+        with g3fax.Answerer() as answerer:
+            answerer.most_seconds(5)
+            self.assertEqual(answerer.due, 35000)  # no line was calm yet
+            answerer.tick(1000)
+            self.assertEqual(answerer.due, 5000)
+            answerer.tick(6000, carrier=True)
+            self.assertIsNone(answerer.state.end)
+            answerer.tick(6500)
+            self.assertEqual((answerer.state.end, answerer.due), (g3fax.End.STOPPED, None))
+            with self.assertRaises(ValueError):
+                answerer.most_seconds(-1)
+
+    def test_watched(self):
+        """A DCS without error correction, and page numbers that jump."""
+        with g3fax.Answerer() as answerer:
+            dcs = bytes.fromhex("ff1383002278")
+            answerer.hear_frame(dcs)
+            self.assertEqual(answerer.progress[9:], (1, None, None))
+            answerer.hear_frame(dcs)
+            answerer.hear_frame(bytes.fromhex("ff13bf4f0700ff"))  # PPS-MPS of page 7
+            self.assertEqual(answerer.progress[9:], (2, g3fax.Refusal.NO_ECM, 7))
+
+    def test_hold(self):
+        page, rows = self.document()
+        with g3fax.Document([page]) as document, g3fax.Answerer() as answerer, g3fax.Caller(document) as caller:
+            stored = None
+            for _ in range(6):
+                for sender, hearer in ((answerer, caller), (caller, answerer)):
+                    for burst in sender.bursts():
+                        (hearer.hear_training if burst.check else hearer.hear)(burst.octets)
+                stored = stored or answerer.hold()
+                self.assertIn(caller.state.pages, [0] if stored else [0, 1])
+            self.assertEqual((stored.rows().tobytes(), caller.state.longer), (rows, Wait.T5))
+            self.assertIsNone(answerer.hold())
+            answerer.set_busy(False)
+            for sender, hearer in ((answerer, caller), (caller, answerer), (answerer, caller)):  # RNR, RR, MCF
+                for burst in sender.bursts():
+                    hearer.hear(burst.octets)
+            self.assertEqual(caller.state.pages, 1)
+            with g3fax.Answerer(limit=2) as many:
+                self.fault(104, many.hold)
+
     @staticmethod
     def document():
         rows = [bytes((row * column) % 251 for column in range(216)) for row in range(40)]

@@ -21,7 +21,8 @@ IS(g3_caps, 20, limit, 16);
 IS(g3_wish, 12, frame, 8);
 IS(g3_burst, 32, last, 24);
 IS(g3_state, 48, end, 40);
-IS(g3_progress, 72, accepted_block, 68);
+IS(g3_progress, 88, gap_page, 84);
+IS(g3_progress, 88, accepted_block, 68); /* the last one of 0.1.0 */
 IS(g3_dis, 24, ecm, 20);
 IS(g3_dcs, 20, frame, 16);
 IS(g3_params, 32, dcs, 8);
@@ -30,7 +31,7 @@ IS(g3_signal, 384, octets, 88);
 _Static_assert(G3_TOO_MANY_CODED_ROWS == 18 && G3_SHORT_FIELD == 22 && G3_NOTHING == 106 && G3_BAD_SIZE == 107 && G3_FRAME_LOST == 108, "a status has changed");
 _Static_assert(G3_MMR == 2 && G3_LSB_FIRST == 1 && G3_V17 == 3 && G3_T5 == 5 && G3_HEARS_PAGES == 3 && G3_HEARS_V21_THEN_PAGES == 4, "a choice has changed");
 _Static_assert(G3_V17_14400 == 9 && G3_END_LINE_LOST == 12 && G3_OTHER == 13 && G3_EOP == 4, "a choice has changed");
-_Static_assert(G3_NO_COMMON_SPEED == 5 && G3_V27TER_2400_ALONE == 5 && G3_ANSWERER == 2, "a choice has changed");
+_Static_assert(G3_NO_COMMON_SPEED == 5 && G3_V27TER_2400_ALONE == 5 && G3_ANSWERER == 2 && G3_REFUSED_NOT_OFFERED == 2, "a choice has changed");
 
 static int bad;
 

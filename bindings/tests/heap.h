@@ -8,9 +8,11 @@ void __real_free(void *block);
 static unsigned long grown; /* growths so far */
 static unsigned long refused; /* the number of the growth that is refused, from 1; 0 for none */
 static long blocks; /* the blocks that are there */
+static size_t asked; /* how many octets the last new block was asked for with */
 
 void *__wrap_malloc(size_t size)
 {
+    asked = size;
     if (++grown == refused) return NULL;
     void *block = __real_malloc(size);
     if (block != NULL) blocks++;

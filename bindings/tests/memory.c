@@ -122,6 +122,15 @@ static void signals(size_t length)
     if (grown != before) printf("signals take memory\n"), bad = 1;
 }
 
+/* The block of a handle with a page hasn't the room that a terminal needs. */
+static void sizes(void)
+{
+    g3_page page = G3_EMPTY;
+    DOES(g3_page_new(&page, 8, 0));
+    if (asked > 1000) printf("growth %lu refused: a page has a block of %zu octets\n", refused, asked), bad = 1;
+    g3_page_free(&page);
+}
+
 /* A station hears the frames of a burst by their contents. */
 static void hear_frames(g3_terminal *to, size_t size)
 {
@@ -194,12 +203,22 @@ static unsigned say(g3_terminal *from, g3_terminal *to, int by_frames)
     }
 }
 
+/* Holds the page that has come, if one has, and says that it is stored. */
+static void hold(g3_terminal *of, g3_page *page)
+{
+    g3_status status = g3_terminal_hold(of, page);
+    if (status == G3_NO_MEMORY) status = g3_terminal_hold(of, page);
+    if (status == G3_OK) DOES(g3_terminal_set_busy(of, 0));
+    else if (status != (page->at == NULL ? G3_NOTHING : G3_FULL_HANDLE)) printf("growth %lu refused: hold: %u\n", refused, status), bad = 1;
+}
+
+/* A call, by octets or by frames; by frames its page is held. */
 static void calls(int by_frames)
 {
     g3_page page = G3_EMPTY, stored = G3_EMPTY;
     g3_document document = G3_EMPTY;
     g3_terminal caller = G3_EMPTY, answerer = G3_EMPTY;
-    g3_caps caps = {G3_V17, 1, 1, 2432, 2};
+    g3_caps caps = {G3_V17, 1, 1, 2432, by_frames ? 1 : 2};
     g3_wish wish = {G3_V17, G3_MH, 64};
     g3_state here = G3_INIT(g3_state), there = here;
     uint64_t count = 0, now = 0;
@@ -209,9 +228,11 @@ static void calls(int by_frames)
     DOES(g3_document_push(&document, &page));
     DOES(g3_answerer_new(&answerer, &caps));
     DOES(g3_caller_new(&caller, &document, &wish));
+    DOES(g3_terminal_most_seconds(&caller, 600));
     for (unsigned turns = 0; turns < 60 && (here.end == 0 || there.end == 0); turns++) {
         unsigned said = say(&answerer, &caller, 0);
         said += say(&caller, &answerer, by_frames);
+        if (by_frames) hold(&answerer, &stored);
         tells(&caller);
         tells(&answerer);
         DOES(g3_terminal_state(&caller, &here));
@@ -220,9 +241,9 @@ static void calls(int by_frames)
         DOES(g3_terminal_tick(&answerer, now, said == 0 ? G3_QUIET : G3_CARRIER));
         now += said == 0 ? 3000 : 1000;
     }
-    if (here.end != G3_END_NORMAL || there.end != G3_END_NORMAL || here.pages != 1 || there.pages != 1)
+    if (here.end != G3_END_NORMAL || there.end != G3_END_NORMAL || here.pages != 1 || (int)there.pages != !by_frames)
         printf("growth %lu refused: ends %u %u\n", refused, here.end, there.end), bad = 1;
-    DOES(g3_terminal_take_page(&answerer, &stored));
+    if (!by_frames) DOES(g3_terminal_take_page(&answerer, &stored));
     for (unsigned row = 0; row < 6; row++) {
         DOES(g3_page_row(&stored, row, again, sizeof again, &count));
         if (memcmp(again, image + row, 216) != 0) printf("growth %lu refused: another row\n", refused), bad = 1;
@@ -244,6 +265,7 @@ int main(int argc, char **argv)
         rows_of(G3_MMR);
         frames(bits);
         signals(bits);
+        sizes();
         calls(0);
         calls(1);
         if (blocks != before) printf("growth %lu refused: %ld blocks are left\n", refused, blocks - before), bad = 1;

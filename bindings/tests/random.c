@@ -49,7 +49,7 @@ static g3_status call(uint32_t which, void *a, void *b)
     size.size = sizes ? sizeof size : below(500), counts.size = sizes ? sizeof counts : below(500);
     burst.size = sizes ? sizeof burst : below(500), shown.size = sizes ? sizeof shown : below(500);
     signal.size = sizes ? sizeof signal : below(500), params.size = sizes ? sizeof params : below(500);
-    far.size = sizes ? sizeof far : below(500);
+    far.size = sizes ? (sizes % 4 ? sizeof far : 72) : below(500);
     g3_dis dis = {below(9) != 0, 0, below(2), below(9) ? 2432 : below(3000), below(2), below(9) != 0};
     g3_caps caps = {below(5), below(2), below(2), below(8) ? 1728 : below(3000), below(4)};
     g3_wish wish = {below(5), below(4), below(3) ? 64 : below(300)};
@@ -127,6 +127,8 @@ static g3_status call(uint32_t which, void *a, void *b)
         return G3_OK;
     case 55: case 56: return g3_terminal_tick(a, now += below(4) ? below(9000) : 0, below(4));
     case 57: return g3_terminal_due(a, number);
+    case 58: return g3_terminal_hold(a, b);
+    case 59: return g3_terminal_most_seconds(a, below(4) ? below(2000) : 0);
     default: g3_page_free(a); return G3_OK;
     }
 }
@@ -138,7 +140,7 @@ int main(int argc, char **argv)
     for (int calls = argc == 2 ? atoi(argv[1]) : 0; calls > 0; calls--) {
         uint32_t first = below(8), second = (first + 1 + below(7)) % 8;
         if (below(20) == 0) refused = grown + 1 + below(4);
-        g3_status status = call(below(61), below(50) ? &handles[first] : NULL, below(50) ? &handles[second] : NULL);
+        g3_status status = call(below(63), below(50) ? &handles[first] : NULL, below(50) ? &handles[second] : NULL);
         int is_known = status <= G3_TOO_MANY_CODED_ROWS || (status >= G3_BAD_ADDRESS && status <= G3_SHORT_FIELD)
             || status == G3_NOT_CALLABLE || status == G3_NOT_COMPATIBLE || status == G3_FRAME_LOST
             || (status >= G3_EMPTY_HANDLE && status <= G3_BAD_SIZE);

@@ -5,11 +5,11 @@
 
 #define IS(want, call) is((want), (call), __LINE__)
 
-/* a struct that doesn't begin with its size, or with that of another one, is refused as it was */
-#define SIZES(it, call) \
+/* a struct that doesn't begin with its size, nor with the one that it had before it grew, is refused as it was */
+#define SIZES_BUT(it, known, call) \
     do { \
         for (uint64_t others = 0; others <= sizeof(it) + 8; others += 8) { \
-            if (others == sizeof(it)) continue; \
+            if (others == sizeof(it) || others == (known)) continue; \
             memset(&(it), 0x5A, sizeof(it)); \
             memcpy(&(it), &others, sizeof others); \
             IS(G3_BAD_SIZE, (call)); \
@@ -18,6 +18,7 @@
         memset(&(it), 0, sizeof(it)); \
         (it).size = sizeof(it); \
     } while (0)
+#define SIZES(it, call) SIZES_BUT(it, sizeof(it), call)
 
 static uint8_t octets[400];
 static int bad;

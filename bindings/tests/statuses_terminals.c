@@ -141,9 +141,15 @@ static void agreed(void)
     IS(G3_BAD_LENGTH, g3_terminal_hear_frame(&t, NULL, 3));
     IS(G3_EMPTY_HANDLE, g3_terminal_progress(&empty, &far));
     IS(G3_BAD_LENGTH, g3_terminal_progress(&t, NULL));
-    SIZES(far, g3_terminal_progress(&t, &far));
+    SIZES_BUT(far, 72, g3_terminal_progress(&t, &far));
+    memset(&far, 0x5A, sizeof far);
+    far.size = 72; /* of a program before `refused` */
     IS(G3_OK, g3_terminal_progress(&t, &far));
-    IS(0, far.pages + far.accepted + far.octets + far.frames);
+    IS(72, (g3_status)far.size);
+    for (size_t at = 72; at < sizeof far; at++) IS(0x5A, ((const uint8_t *)&far)[at]);
+    far.size = sizeof far;
+    IS(G3_OK, g3_terminal_progress(&t, &far));
+    IS(0, far.pages + far.accepted + far.octets + far.frames + far.refused + far.refused_why + far.gap + far.gap_page);
     IS(G3_EMPTY_HANDLE, g3_terminal_params(&empty, &params));
     IS(G3_BAD_LENGTH, g3_terminal_params(&t, NULL));
     SIZES(none, g3_terminal_params(&t, &none));
@@ -164,11 +170,158 @@ static void agreed(void)
     g3_terminal_free(&t);
 }
 
+/* most seconds of a call: it is stopped at the first quiet tick from then on, and `due` tells it on a calm line */
+static void limits(void)
+{
+    g3_terminal t = G3_EMPTY;
+    g3_octets o = G3_EMPTY;
+    g3_burst burst = G3_INIT(g3_burst);
+    g3_state state = G3_INIT(g3_state);
+    g3_caps caps = {G3_V17, 1, 1, 2432, 1};
+    uint64_t at = 77;
+    IS(G3_EMPTY_HANDLE, g3_terminal_most_seconds(&t, 5));
+    IS(G3_EMPTY_HANDLE, g3_terminal_most_seconds(NULL, 5));
+    IS(G3_OK, g3_answerer_new(&t, &caps));
+    IS(G3_OK, g3_terminal_most_seconds(&t, 5));
+    IS(G3_OK, g3_terminal_due(&t, &at));
+    IS(35000, (g3_status)at); /* T1: no line was calm yet */
+    IS(G3_OK, g3_terminal_tick(&t, 1000, G3_QUIET));
+    IS(G3_OK, g3_terminal_due(&t, &at));
+    IS(5000, (g3_status)at);
+    IS(G3_OK, g3_terminal_tick(&t, 4999, G3_QUIET));
+    IS(G3_OK, g3_terminal_tick(&t, 6000, G3_CARRIER));
+    IS(G3_OK, g3_terminal_due(&t, &at));
+    IS(35000, (g3_status)at);
+    IS(G3_OK, g3_terminal_state(&t, &state));
+    IS(0, state.end);
+    IS(G3_OK, g3_terminal_most_seconds(&t, 0)); /* no limit */
+    IS(G3_OK, g3_terminal_tick(&t, 6500, G3_QUIET));
+    IS(G3_OK, g3_terminal_state(&t, &state));
+    IS(0, state.end);
+    IS(G3_OK, g3_terminal_most_seconds(&t, 6));
+    IS(G3_OK, g3_terminal_due(&t, &at));
+    IS(6000, (g3_status)at); /* it has passed */
+    IS(G3_OK, g3_terminal_tick(&t, 6500, G3_QUIET));
+    IS(G3_OK, g3_terminal_state(&t, &state));
+    IS(G3_END_STOPPED, state.end);
+    IS(G3_NOTHING, g3_terminal_due(&t, &at));
+    IS(G3_OK, g3_terminal_next_burst(&t, &o, &burst)); /* DCN */
+    IS(1, burst.carrier == G3_V21 && burst.last == 1);
+    g3_octets_free(&o);
+    g3_terminal_free(&t);
+}
+
+/* Hears a signal. */
+static void say(g3_terminal *t, const g3_signal *signal)
+{
+    uint64_t n = 0;
+    IS(G3_OK, g3_signal_write(signal, G3_CALLER, 1, octets, sizeof octets, &n));
+    IS(G3_OK, g3_terminal_hear_frame(t, octets, n));
+}
+
+/* what an answerer says of its caller: DCSs that it doesn't allow, and page numbers that jump */
+static void watched(void)
+{
+    static const uint8_t by_g3[] = {0xFF, 0x13, 0x83, 0x00, 0x22, 0x78}; /* a DCS of three octets: no bit 27 */
+    g3_terminal t = G3_EMPTY;
+    g3_caps caps = {G3_V29, 1, 0, 1728, 1};
+    g3_progress far = G3_INIT(g3_progress);
+    g3_signal dcs = G3_INIT(g3_signal), pps = G3_INIT(g3_signal);
+    dcs.kind = G3_DCS, dcs.dcs.carrier = G3_V17_14400, dcs.dcs.width = 1728, dcs.dcs.coding = G3_MMR, dcs.dcs.frame = 64;
+    pps.kind = G3_PPS, pps.pps.ends = G3_MPS;
+    IS(G3_OK, g3_answerer_new(&t, &caps));
+    say(&t, &dcs);
+    IS(G3_OK, g3_terminal_progress(&t, &far));
+    IS(1, far.refused == 1 && far.refused_why == 0 && far.gap == 0);
+    say(&t, &dcs);
+    IS(G3_OK, g3_terminal_progress(&t, &far));
+    IS(1, far.refused == 2 && far.refused_why == G3_REFUSED_NOT_OFFERED);
+    IS(G3_OK, g3_terminal_hear_frame(&t, by_g3, sizeof by_g3));
+    IS(G3_OK, g3_terminal_progress(&t, &far));
+    IS(1, far.refused == 2 && far.refused_why == G3_REFUSED_NOT_OFFERED); /* the second one says why */
+    g3_terminal_free(&t);
+    IS(G3_OK, g3_answerer_new(&t, &caps));
+    IS(G3_OK, g3_terminal_hear_frame(&t, by_g3, sizeof by_g3));
+    IS(G3_OK, g3_terminal_hear_frame(&t, by_g3, sizeof by_g3));
+    IS(G3_OK, g3_terminal_progress(&t, &far));
+    IS(1, far.refused == 2 && far.refused_why == G3_REFUSED_NO_ECM);
+    for (uint32_t page = 0; page < 2; page++) pps.pps.page = page, say(&t, &pps);
+    IS(G3_OK, g3_terminal_progress(&t, &far));
+    IS(0, far.gap + far.gap_page);
+    pps.pps.page = 7, say(&t, &pps);
+    pps.pps.page = 9, say(&t, &pps);
+    IS(G3_OK, g3_terminal_progress(&t, &far));
+    IS(1, far.gap == 1 && far.gap_page == 7);
+    g3_terminal_free(&t);
+}
+
+/* Gives each burst of one station to the other one. */
+static void over(g3_terminal *from, g3_terminal *to)
+{
+    static uint8_t line[1 << 12];
+    g3_octets o = G3_EMPTY;
+    g3_burst burst = G3_INIT(g3_burst);
+    uint64_t n = 0;
+    while (g3_terminal_next_burst(from, &o, &burst) == G3_OK) {
+        IS(G3_OK, g3_octets_copy(&o, line, sizeof line, &n));
+        g3_octets_free(&o);
+        if (burst.check) IS(G3_OK, g3_terminal_hear_training(to, line, n));
+        else IS(G3_OK, g3_terminal_hear(to, line, n));
+    }
+}
+
+/* A page that is held is confirmed once it is stored: the caller hears RNR until then. */
+static void held(void)
+{
+    g3_terminal caller = G3_EMPTY, answerer = G3_EMPTY;
+    g3_document d = G3_EMPTY;
+    g3_page page = G3_EMPTY, full = G3_EMPTY, none = G3_EMPTY;
+    g3_caps one = {G3_V17, 1, 1, 2432, 1}, two = {G3_V17, 1, 1, 2432, 2};
+    g3_wish wish = {G3_V17, G3_MMR, 256};
+    g3_state state = G3_INIT(g3_state);
+    IS(G3_EMPTY_HANDLE, g3_terminal_hold(&answerer, &page));
+    IS(G3_OK, g3_answerer_new(&answerer, &two));
+    IS(G3_EMPTY_HANDLE, g3_terminal_hold(NULL, &page));
+    IS(G3_EMPTY_HANDLE, g3_terminal_hold(&answerer, NULL));
+    IS(G3_BAD_CHOICE, g3_terminal_hold(&answerer, &page)); /* the page was confirmed before */
+    g3_terminal_free(&answerer);
+    IS(G3_OK, g3_answerer_new(&answerer, &one));
+    IS(G3_NOTHING, g3_terminal_hold(&answerer, &page));
+    IS(G3_OK, g3_page_new(&full, 1728, 1));
+    IS(G3_FULL_HANDLE, g3_terminal_hold(&answerer, &full));
+    IS(G3_OK, g3_page_push_row(&full, octets, 216));
+    IS(G3_OK, g3_document_new(&d));
+    IS(G3_OK, g3_document_push(&d, &full));
+    IS(G3_OK, g3_caller_new(&caller, &d, &wish));
+    IS(G3_OTHER_HANDLE, g3_terminal_hold(&caller, &none));
+    for (int turns = 0; turns < 9 && page.at == NULL; turns++) {
+        over(&answerer, &caller);
+        over(&caller, &answerer);
+        g3_status status = g3_terminal_hold(&answerer, &page);
+        IS(page.at == NULL ? G3_NOTHING : G3_OK, status);
+    }
+    IS(G3_NOTHING, g3_terminal_hold(&answerer, &none));
+    for (int turns = 0; turns < 3; turns++) {
+        over(&answerer, &caller); /* RNR */
+        over(&caller, &answerer); /* RR */
+        IS(G3_OK, g3_terminal_state(&caller, &state));
+        IS(1, page.at != NULL && state.pages == 0 && state.end == 0 && state.longer == G3_T5);
+    }
+    IS(G3_OK, g3_terminal_set_busy(&answerer, 0));
+    for (int turns = 0; turns < 3; turns++) over(&answerer, &caller), over(&caller, &answerer);
+    IS(G3_OK, g3_terminal_state(&caller, &state));
+    IS(1, state.pages == 1 && state.end == G3_END_NORMAL);
+    g3_page_free(&page), g3_terminal_free(&caller), g3_terminal_free(&answerer);
+}
+
 int main(void)
 {
     documents();
     terminals();
     clocks();
     agreed();
+    limits();
+    watched();
+    held();
     return bad;
 }

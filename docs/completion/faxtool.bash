@@ -6,11 +6,11 @@ _faxtool_options() {
     case $1 in
         code) echo --code --order --explain --help ;;
         show) echo --code --width --order --explain --help ;;
-        decode) echo --code --width --order --fine --salvage --repair --whole --verbose --json --page --explain --help ;;
+        decode) echo --code --width --order --fine --salvage --repair --whole --verbose --json --page --each --explain --help ;;
         frames) echo --data --order --pages --salvage --json --diagram --caller --answerer --explain --help ;;
         call) echo --script --lose --spoil --busy --seed --calls --times --code --frame --modems --fine --out --expect --bits --diagram --json --explain --help ;;
-        identify) echo --explain --help ;;
-        station) echo --answer --call --out --code --modems --standard --widest --limit --mode --most-pages --most-octets --most-seconds --refuse --no-refuse --frame --fine --from --t1 --t2 --t4 --t5 --hear --frames --trace --trace-frames --json --explain --help ;;
+        identify) echo --json --explain --help ;;
+        station) echo --answer --call --out --code --modems --standard --widest --limit --mode --most-pages --most-octets --most-seconds --refuse --no-refuse --hold --frame --fine --from --t1 --t2 --t4 --t5 --hear --frames --late --trace --trace-frames --json --explain --help ;;
         version) echo --proof --help ;;
         *) echo --help ;;
     esac

@@ -5,8 +5,8 @@
 
 RATE is the share of bursts that are lost, as 0.1. One station sends at a time. The clock is simulated: a burst lasts as long as its
 bits take, 75 ms of silence come after it, and a quiet line says so every 20 ms. So a call of a minute takes a second. With --slow the
-answerer takes up to that many milliseconds to store a page. An answer is sent only if the other side hasn't begun to speak since the
-line that it answers.
+answerer takes up to that many milliseconds to store a page; a page that it hands over, with --hold, is kept after as many. An answer is
+sent only if the other side hasn't begun to speak since the line that it answers.
 
 The exit status is 0 if both stations end normally. If one can't be started, or ends with a fault, a line on standard error says which
 one and why."""
@@ -23,7 +23,7 @@ class Station:
     """A process that answers each line."""
 
     def __init__(self, name, command):
-        self.name, self.runs = name, True
+        self.name, self.runs, self.page = name, True, None
         # a fault is explained in words too
         how = {"env": {**os.environ, "FAXTOOL_EXPLAIN": "1"}, "text": True}
         try:
@@ -32,7 +32,7 @@ class Station:
             sys.exit(f"join.py: {command[0]} can't be run as the {name}: {error.strerror}; --{name}-command names another program")
 
     def tell(self, line):
-        """Writes a line, and returns the bursts that the station sends then. A station that has ended hears nothing."""
+        """Writes a line, and returns the bursts that the station sends then; `page` is one that it hands over. An ended station hears nothing."""
         bursts = []
         if self.runs:
             try:
@@ -41,8 +41,12 @@ class Station:
             except BrokenPipeError:
                 self.runs = False
                 return bursts
-            while (answer := self.process.stdout.readline().strip()).startswith("tx "):
-                bursts.append(answer[3:])
+            while (answer := self.process.stdout.readline().strip()).startswith(("tx ", "page ")):
+                word, _space, rest = answer.partition(" ")
+                if word == "page":
+                    self.page = rest
+                else:
+                    bursts.append(rest)
             self.runs = answer == "wait"
         return bursts
 
@@ -63,6 +67,8 @@ class Side:
         self.station, self.folder, self.slow, self.lines, self.bursts = station, folder, slow, [], []
         # when it takes the next line; the time of the line that it answers; when it last began to send
         self.free = self.asked = self.began = 0
+        # the page that was handed over, and when it is kept
+        self.held, self.kept = None, 0
 
     def stored(self):
         return len(os.listdir(self.folder)) if self.slow and os.path.isdir(self.folder) else 0
@@ -73,7 +79,13 @@ class Side:
             before = self.stored()
             self.asked, line = self.lines.pop(0)
             self.bursts += self.station.tell(line)
-            self.free = clock + (chance.randrange(self.slow + 1) if self.stored() > before else 0)
+            waits = chance.randrange(self.slow + 1) if self.station.page or self.stored() > before else 0
+            if self.station.page:
+                self.held, self.kept, self.station.page, waits = self.station.page, clock + waits, None, 0
+            self.free = clock + waits
+        if self.held and clock >= self.kept:
+            self.lines.append((clock, f"kept {clock} {self.held}"))
+            self.held = None
 
 
 class Line:

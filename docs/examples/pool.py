@@ -1,11 +1,11 @@
 #!/usr/bin/env python3
 """Plays many calls over lines that lose, with a disk that is slow and stations that are killed, and counts what is confirmed and not stored.
 
-    pool.py [--calls N] [--lines N] [--lose RATE] [--slow MS] [--kill SHARE] [--seed N] [--command COMMAND] IN.pbm DIR
+    pool.py [--calls N] [--lines N] [--lose RATE] [--slow MS] [--kill SHARE] [--hold] [--seed N] [--command COMMAND] IN.pbm DIR
 
 Each call has a folder of its own in DIR, `call-1` and on, and the lines run side by side. RATE, MS and the clock are those of join.py;
-SHARE of the calls, as 0.2, lose their caller or answerer by `kill -9` at a line that chance gives. COMMAND is `faxtool station` if it
-isn't said.
+SHARE of the calls, as 0.2, lose their caller or answerer by `kill -9` at a line that chance gives. With --hold the answerers hand their
+pages over. COMMAND is `faxtool station` if it isn't said.
 
 Prints how the calls ended and what they left. The exit status is 0 if each page that a caller counts as confirmed is stored whole, once,
 in its place, and no file of a page is anything else."""
@@ -59,7 +59,7 @@ class Call:
         os.mkdir(self.folder)
         dies = chance.choice(["caller", "answerer"]) if chance.random() < asked.kill else None
         command = shlex.split(asked.command)
-        words = {"caller": ["--call", asked.document], "answerer": ["--answer", "--out", self.folder]}
+        words = {"caller": ["--call", asked.document], "answerer": ["--answer", "--out", self.folder] + ["--hold"] * asked.hold}
         stations = [Killed(name, command + words[name], chance.randrange(1, 120) if dies == name else None) for name in words]
         Line([Side(stations[0]), Side(stations[1], self.folder, asked.slow)], asked.lose, chance.random(), 200).play()
         (self.said, _), _ = [station.end() for station in stations]
@@ -96,6 +96,7 @@ def main():
     parser.add_argument("--lose", type=float, default=0.05)
     parser.add_argument("--slow", type=int, default=12000)
     parser.add_argument("--kill", type=float, default=0.2)
+    parser.add_argument("--hold", action="store_true")
     parser.add_argument("--seed", type=int, default=1)
     parser.add_argument("--command", default="faxtool station")
     parser.add_argument("document", metavar="IN.pbm")

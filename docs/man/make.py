@@ -16,7 +16,7 @@ from pathlib import Path
 
 TOP = Path(__file__).resolve().parent.parent.parent
 OPTION = re.compile(r"^ +(?:-h, )?(--[a-z0-9-]+)(?: <([^>]*)>)?  +(\S.*)$")
-FILE = re.compile(r"^  ([<\[])([A-Z]+)[>\]]  +(\S.*)$")
+FILE = re.compile(r"^  ([<\[])([A-Z]+)[>\]](\.\.\.)?  +(\S.*)$")
 COMMAND = re.compile(r"^  ([a-z]+)  +(\S.*)$")
 FAULT = re.compile(r"^ +(\d+)  +(\S.*)$")
 EXAMPLE = re.compile(r"^\| `(faxtool ([a-z]+)[^`]*)` \| (.*) \|$", re.M)
@@ -47,8 +47,8 @@ SUGGESTED = {
 class Argument:
     """An option or the name of a file, as a line of the help shows it."""
 
-    def __init__(self, name, shown, text, needed):
-        self.name, self.shown, self.needed = name, shown, needed
+    def __init__(self, name, shown, text, needed, many=False):
+        self.name, self.shown, self.needed, self.many = name, shown, needed, many
         default = re.search(r" \[default: ([^\]]*)\]", text)
         values = re.search(r" \[possible values: ([^\]]*)\]", text)
         self.default = default and default[1]
@@ -80,7 +80,7 @@ class Help:
         parts = re.split(r"^(Commands|Arguments|Options):\n", ran.stderr, flags=re.M)
         self.parts = {name: text.split("\n\n")[0] for name, text in zip(parts[1::2], parts[2::2])}
         self.after = parts[-1].split("\n\n", 1)[1] if "\n\n" in parts[-1] else ""
-        self.files = [Argument(row[2], row[2], row[3], row[1] == "<") for row in self.rows("Arguments", FILE)]
+        self.files = [Argument(row[2], row[2], row[4], row[1] == "<", bool(row[3])) for row in self.rows("Arguments", FILE)]
         self.options = [Argument(row[1], row[2], row[3], f" {row[1]} " in f"{self.use} ") for row in self.rows("Options", OPTION)]
         self.commands = [(row[1], row[2]) for row in self.rows("Commands", COMMAND)]
 
@@ -340,7 +340,7 @@ def zsh(helps):
     arguments = ""
     for name, told in helps.items():
         rows = [zsh_row(option) for option in told.options]
-        rows += [f"'{place}:{file.name}:_files'" for place, file in enumerate(told.files, 1)]
+        rows += [f"'{'*' if file.many else place}:{file.name}:_files'" for place, file in enumerate(told.files, 1)]
         arguments += f"        {name})\n            _arguments \\\n" + " \\\n".join(f"                {row}" for row in rows)
         arguments += "\n            ;;\n"
     return ZSH.replace("@COMMANDS@", commands).replace("@ARGUMENTS@", arguments)

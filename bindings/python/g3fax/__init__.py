@@ -22,14 +22,14 @@ from ._frames import Deframer, agree, frames, read_signal, write_frame, write_si
 from ._native import __version__ as __version__
 from ._native import _library
 from ._names import (Carrier, Coding, Counts, Dis, End, Frame, Kind, Listens, Modems, Order, PageEnd, Params, Pps, Progress, Reason,
-                     Side, Signal, State, Wait)
+                     Refusal, Side, Signal, State, Wait)
 from ._owning import Closed, CodeFault, Fault, FrameLost, NoMemory, NotCompatible
 from ._pages import Page, RowCoder, RowReader, decode, encode, encode_pixels, repair, salvage, to_pixels
 
 __all__ = ["Coding", "Order", "Fault", "Closed", "CodeFault", "NoMemory", "Counts", "Frame", "Page", "RowCoder", "RowReader", "Deframer",
            "decode", "encode", "encode_pixels", "to_pixels", "salvage", "repair", "write_frame", "frames", "version"]
 __all__ += ["FrameLost", "NotCompatible", "Modems", "Carrier", "Wait", "Listens", "End", "State", "Progress", "Burst", "Document",
-            "Terminal", "Caller", "Answerer", "Kind", "Side", "PageEnd", "Reason", "Dis", "Params", "Pps", "Signal", "read_signal",
+            "Terminal", "Caller", "Answerer", "Kind", "Side", "PageEnd", "Reason", "Refusal", "Dis", "Params", "Pps", "Signal", "read_signal",
             "write_signal", "agree"]
 
 

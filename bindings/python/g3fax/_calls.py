@@ -8,7 +8,7 @@ from typing import Any, Iterable, Iterator, List, NamedTuple, Optional, Union
 
 from ._frames import _dis, _params, _wish, frames
 from ._native import _NOTHING, _Burst, _Caps, _Handle, _library, _Params, _Progress, _Signal, _State, _u64
-from ._names import Carrier, Coding, Dis, End, Kind, Listens, Modems, Params, Progress, State, Wait
+from ._names import Carrier, Coding, Dis, End, Kind, Listens, Modems, Params, Progress, Refusal, State, Wait
 from ._owning import _done, _flag, _number, _octets, _Owner, _taken
 from ._pages import Page
 
@@ -101,7 +101,8 @@ class Terminal(_Owner):
 
     @property
     def due(self) -> Optional[int]:
-        """When the next wait is over, by the time of the ticks, if the line stays as it is and nothing comes; None if no wait runs."""
+        """When the next wait is over, or the call has lasted as long as it may, by the time of the ticks, if the line stays as it is and
+        nothing comes; None if no wait runs, and there is no limit."""
         at = _u64()
         with self._lock:
             status = _library.g3_terminal_due(self._at, ctypes.byref(at))
@@ -109,6 +110,11 @@ class Terminal(_Owner):
             return None
         _done(status)
         return at.value
+
+    def most_seconds(self, seconds: int) -> None:
+        """How many seconds the call may last, by the time of the ticks; 0 for no limit. The first tick of a quiet line from then on stops it."""
+        with self._lock:
+            _done(_library.g3_terminal_most_seconds(self._at, _number(seconds, "seconds")))
 
     def set_busy(self, is_busy: bool) -> None:
         """Whether an answerer can't take pages for now."""
@@ -162,6 +168,8 @@ class Terminal(_Owner):
             _done(_library.g3_terminal_progress(self._at, ctypes.byref(told)))
         numbers = {name: getattr(told, name) for name in Progress._fields}
         numbers["accepted"] = (told.accepted_page, told.accepted_block) if told.accepted else None
+        numbers["refused_why"] = Refusal(told.refused_why) if told.refused_why else None
+        numbers["gap"] = told.gap_page if told.gap else None
         return Progress(**numbers)
 
     @property
@@ -191,6 +199,17 @@ class Terminal(_Owner):
         page = Page._empty()
         with self._lock:
             status = _library.g3_terminal_take_page(self._at, page._at)
+        if status == _NOTHING:
+            return None
+        _done(status)
+        return page
+
+    def hold(self) -> Optional[Page]:
+        """The same, and the answerer is busy, so that the caller isn't told that its page has arrived until set_busy(False) says that it is
+        stored. Fault 104 if the answerer's limit isn't 1."""
+        page = Page._empty()
+        with self._lock:
+            status = _library.g3_terminal_hold(self._at, page._at)
         if status == _NOTHING:
             return None
         _done(status)

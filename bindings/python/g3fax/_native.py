@@ -60,7 +60,8 @@ class _Dis(ctypes.Structure):
 
 class _Progress(_Sized):
     _fields_ = [(name, _u64) for name in ("size", "pages", "confirmed", "block", "blocks", "octets")] + [
-        (name, _u32) for name in ("resends", "tries", "frames", "accepted", "accepted_page", "accepted_block")]
+        (name, _u32) for name in ("resends", "tries", "frames", "accepted", "accepted_page", "accepted_block", "refused", "refused_why", "gap",
+                                  "gap_page")]
 
 
 class _Dcs(ctypes.Structure):
@@ -118,6 +119,7 @@ _FUNCTIONS = {
     "g3_terminal_wait_over": [_address, _u32],
     "g3_terminal_tick": [_address, _u64, _u32],
     "g3_terminal_due": [_address, _address],
+    "g3_terminal_most_seconds": [_address, _u32],
     "g3_wait_millis": [_u32],
     "g3_carrier_rate": [_u32],
     "g3_terminal_set_busy": [_address, _u32],
@@ -130,6 +132,7 @@ _FUNCTIONS = {
     "g3_terminal_params": [_address, _address],
     "g3_terminal_peer": [_address, _address],
     "g3_terminal_take_page": [_address, _address],
+    "g3_terminal_hold": [_address, _address],
     "g3_signal_read": [_address, _size, _address],
     "g3_signal_write": [_address, _u32, _u32, _address, _size, _address],
     "g3_agree": [_address, _address, _u32, _u32, _address, _address],

@@ -29,13 +29,13 @@ use Rattle.captures.specs.declared.captured.Captured.TheVariants.{Page, Unread, 
 pub page_found : (params : Params) (mark : Mark) (octets : List ℕ) (page : PagePixels) (width used : ℕ) → width ≡ pixels_of params.width
     → page.width ≡ width → page.fine ≡ params.fine
     → read_rows params.coding width (bits_of LsbFirst octets) ≡ Ok (page.rows, used)
-    → ◌≡◌ {A = Captured} (Page page) (page_in params mark octets)
+    → ◌≡◌ {A = Captured} (Page mark page) (page_in params mark octets)
 unfolding page_in
 page_found params mark octets page width used e wide fine is =
     let read : read_rows params.coding (pixels_of params.width) (bits_of LsbFirst octets) ≡ Ok (page.rows, used) =
     ap (λ (w : ℕ). read_rows params.coding w (bits_of LsbFirst octets)) (sym e) ∙ is in
-    ap (λ (w : ℕ). Page (record { width = w; fine = page.fine; rows = page.rows })) (wide ∙ e)
-    ∙ (ap (λ (f : Bool). Page (record { width = pixels_of params.width; fine = f; rows = page.rows })) fine
+    ap (λ (w : ℕ). Page mark (record { width = w; fine = page.fine; rows = page.rows })) (wide ∙ e)
+    ∙ (ap (λ (f : Bool). Page mark (record { width = pixels_of params.width; fine = f; rows = page.rows })) fine
     ∙ sym (ap (found_of params mark) read))
 
 pub page_not_found : (params : Params) (mark : Mark) (octets : List ℕ) (fault : CodeFault) (width : ℕ) → width ≡ pixels_of params.width

@@ -1,15 +1,16 @@
 -- What is found in whole sequences of signals.
-use Rattle.std.proofs.Common.{◌≡◌, ◌≢◌, ◌<◌, ◌≤◌, ◌+◌, ◌⊎◌, ℕ, Bool, true, false, cond, not, List, [], ◌∷◌, ◌++◌, ◌%◌, length}
+use Rattle.std.proofs.Common.{◌≡◌, ◌≢◌, ◌<◌, ◌≤◌, ◌+◌, ◌⊎◌, ℕ, Bool, true, false, cond, not, List, [], ◌∷◌, ◌++◌, ◌%◌, length, map}
 use Rattle.std.proofs.Common.{refl}
 use Rattle.std.proofs.Common.{ap, sym, ◌∙◌, subst, arith, inl, inr}
 use Rattle.std.proofs.lemmas.Bool.{le-leb}
 use Rattle.std.proofs.lemmas.Bool.Decides.{nat_tests}
 use Rattle.std.proofs.lemmas.List.{append-nil}
 use Rattle.std.specs.Prelude.{Option, None, Some, nat_eq, nat_le, slice_set}
+use Rattle.std.specs.List.{range_with_len}
 use Rattle.partial_page.proofs.StoreLemmas.{is_kept}
 use Rattle.partial_page.specs.Frames.{frame_size}
 use Rattle.partial_page.specs.Store.{joined_frames, no_frames}
-use Rattle.signals.specs.Signals.{PlainSignal, dcs, fcd, pps}
+use Rattle.signals.specs.Signals.{PlainSignal, dcn, dcs, fcd, pps}
 use Rattle.signals.specs.declared.params.Params.{Params}
 use Rattle.signals.specs.declared.signal.PageEnd.{PageEnd}
 use Rattle.signals.specs.declared.signal.PageEnd.TheVariants.{Null, Mps, Eom, Eop}
@@ -18,13 +19,14 @@ use Rattle.partial_page.specs.Assembling.{within_frame_size}
 use Rattle.partial_page.specs.Assembling.{IsTooLong}
 use Rattle.signals.specs.declared.mark.Mark.{Mark}
 use Rattle.signals.specs.declared.mark.Pps.{Pps}
-use Rattle.captures.specs.Captured.{Capture, Step, at_end, empty_capture, finds_none, gathers, gives_up, hears, hears_block, hears_fcd}
-use Rattle.captures.specs.Captured.{hears_pps}
-use Rattle.captures.specs.Captured.{is_waiting, judges, left_open, overlaid, page_in, takes_block, turns_from, turns_to, last_of, ◌>>>◌}
+use Rattle.captures.specs.Captured.{Capture, Step, at_end, due_for, empty_capture, finds_none, gathers, gives_up, hears, hears_block, hears_fcd}
+use Rattle.captures.specs.Captured.{hears_pps, is_waiting, judges, judges_by, last_of, left_open, overlaid, page_in, pages_before, refuses}
+use Rattle.captures.specs.Captured.{takes_block, turns_from, turns_page, turns_to, ◌>>>◌}
 use Rattle.captures.specs.CapturesMean.{BlocksEnd, CapturesMean, FramesAreKept, IsAfterBlock, IsAwaited, OthersChangeNothing}
 use Rattle.captures.specs.CapturesMean.{found_in, hears_signals, mark_of}
 use Rattle.captures.specs.declared.captured.Captured.{Captured}
-use Rattle.captures.specs.declared.captured.Captured.TheVariants.{MissingFrame, MissingBlocks, Unfinished, BlockBeforeDcs}
+use Rattle.captures.specs.declared.captured.Captured.TheVariants.{MissingPage, MissingFrame, MissingBlocks, Unfinished, BlockBeforeDcs}
+use Rattle.captures.specs.declared.captured.Captured.TheVariants.{BlockAfterEnd}
 
 -- ---- sequences
 
@@ -47,7 +49,7 @@ within params octets short = at params.small
 
 -- the data of an FCD are kept, however long they are
 abbrev keeps : Option Params → ℕ → List ℕ → Capture → Step
-keeps None number octets s = finds_none s
+keeps None number octets s = finds_none (record s { begun = true })
 keeps (Some params) number octets s = finds_none (record s { coming = slice_set s.coming number (Some octets); begun = true })
 
 abbrev keeps_all : PlainSignal → Capture → Step
@@ -88,6 +90,12 @@ found_is signals short = ap (λ (step : Step). step.found ++ at_end step.then) (
 joined : (a b : List ℕ) → a ++ (b ++ []) ≡ a ++ b
 joined a b = ap (λ (octets : List ℕ). a ++ octets) (append-nil b)
 
+after_all : (f : List ℕ → List Captured) (a : List ℕ) → f (a ++ []) ≡ f a
+after_all f a = ap f (append-nil a)
+
+after_both : (f : List ℕ → List ℕ → List Captured) (a b : List ℕ) → f (a ++ []) (b ++ []) ≡ f a b
+after_both f a b = ap (λ (octets : List ℕ). f octets (b ++ [])) (append-nil a) ∙ ap (f a) (append-nil b)
+
 two_parts : (a b : List ℕ) → (a ++ []) ++ (b ++ []) ≡ a ++ b
 two_parts a b = ap (λ (octets : List ℕ). octets ++ (b ++ [])) (append-nil a) ∙ joined a b
 
@@ -98,7 +106,7 @@ filled a some = ap (λ (octets : List ℕ). nat_eq (length octets) 0) (append-ni
     more n some = grind (arith, nat_tests)
 
 pub captures_mean : CapturesMean
-unfolding hears hears_block judges takes_block gives_up left_open at_end overlaid no_frames joined_frames all_there
+unfolding hears hears_block judges takes_block gives_up left_open at_end overlaid no_frames joined_frames all_there pages_before
 captures_mean params next a b la lb = record {
   one_block = one;
   two_blocks = two;
@@ -202,6 +210,37 @@ captures_mean params next a b la lb = record {
     ),
   );
   no_dcs = unread;
+  lost_dcs = found_is (dcs params ∷ fcd 0 a ∷ pps Eom 0 0 0 ∷ fcd 0 b ∷ pps Mps 1 0 0 ∷ fcd 0 a ∷ pps Eop 2 0 0 ∷ [])
+      (tt, (la, (tt, (lb, (tt, (la, (tt, tt)))))))
+      ∙ after_all (λ x. page_in params (mark_of 0 0) x ∷ BlockAfterEnd (mark_of 1 0) Eom ∷ BlockAfterEnd (mark_of 2 0) Eom ∷ []) a;
+  lost_dcs_of_call = found_is (dcs params ∷ fcd 0 a ∷ pps Eop 0 0 0 ∷ fcd 0 b ∷ pps Eop 0 1 0 ∷ []) (tt, (la, (tt, (lb, (tt, tt)))))
+      ∙ after_all (λ x. page_in params (mark_of 0 0) x ∷ MissingBlocks (mark_of 0 1) ∷ BlockAfterEnd (mark_of 0 1) Eop ∷ []) a;
+  lost_dcs_and_frame = found_is (dcs params ∷ fcd 1 b ∷ pps Eom 0 0 1 ∷ fcd 0 a ∷ pps Eop 1 0 0 ∷ []) (tt, (lb, (tt, (la, (tt, tt)))));
+  lost_dcs_and_pps = found_is (dcs params ∷ fcd 0 a ∷ pps Eom 0 0 0 ∷ fcd 0 b ∷ []) (tt, (la, (tt, (lb, tt))))
+      ∙ after_all (λ x. page_in params (mark_of 0 0) x ∷ Unfinished ∷ []) a;
+  lost_dcs_after_dcn = found_is (dcs params ∷ fcd 0 a ∷ pps Mps 0 0 0 ∷ dcn ∷ fcd 0 b ∷ pps Eop 0 0 0 ∷ [])
+      (tt, (la, (tt, (tt, (lb, (tt, tt))))))
+      ∙ after_all (λ x. page_in params (mark_of 0 0) x ∷ BlockBeforeDcs (mark_of 0 0) ∷ []) a;
+  no_page = found_is (dcs params ∷ fcd 0 a ∷ pps Mps 0 0 0 ∷ fcd 0 b ∷ pps Eop 2 0 0 ∷ []) (tt, (la, (tt, (lb, (tt, tt)))))
+      ∙ after_both (λ x y. page_in params (mark_of 0 0) x ∷ MissingPage 1 ∷ page_in params (mark_of 2 0) y ∷ []) a b;
+  no_page_end = found_is (dcs params ∷ fcd 0 a ∷ pps Null 0 0 0 ∷ fcd 0 b ∷ pps Eop 1 0 0 ∷ []) (tt, (la, (tt, (lb, (tt, tt)))))
+      ∙ after_all (λ x. MissingPage 0 ∷ page_in params (mark_of 1 0) x ∷ []) b;
+  no_first_page = found_is (dcs params ∷ fcd 0 a ∷ pps Eop 2 0 0 ∷ []) (tt, (la, (tt, tt)))
+      ∙ after_all (λ x. MissingPage 0 ∷ MissingPage 1 ∷ page_in params (mark_of 2 0) x ∷ []) a;
+  page_255 = found_is (dcs params ∷ fcd 0 a ∷ pps Mps 255 0 0 ∷ fcd 0 b ∷ pps Eop 0 0 0 ∷ []) (tt, (la, (tt, (lb, (tt, tt)))))
+      ∙ after_both (λ x y. map (λ number. MissingPage number) (range_with_len 0 255) ++ page_in params (mark_of 255 0) x
+      ∷ page_in params (mark_of 0 0) y ∷ []) a b;
+  no_page_255 = far;
+  next_call = found_is (dcs params ∷ fcd 0 a ∷ pps Mps 0 0 0 ∷ dcn ∷ dcs next ∷ fcd 0 b ∷ pps Eop 1 0 0 ∷ [])
+      (tt, (la, (tt, (tt, (tt, (lb, (tt, tt)))))))
+      ∙ after_both (λ x y. page_in params (mark_of 0 0) x ∷ MissingPage 0 ∷ page_in next (mark_of 1 0) y ∷ []) a b;
+  call_after_eop = found_is (dcs params ∷ fcd 0 a ∷ pps Eop 0 0 0 ∷ dcs next ∷ fcd 0 b ∷ pps Eop 1 0 0 ∷ [])
+      (tt, (la, (tt, (tt, (lb, (tt, tt))))))
+      ∙ after_both (λ x y. page_in params (mark_of 0 0) x ∷ MissingPage 0 ∷ page_in next (mark_of 1 0) y ∷ []) a b;
+  lost_dcn = found_is (dcs params ∷ fcd 0 a ∷ pps Mps 0 0 0 ∷ dcs next ∷ fcd 0 b ∷ pps Eop 0 0 0 ∷ [])
+      (tt, (la, (tt, (tt, (lb, (tt, tt))))))
+      ∙ after_both (λ x y. page_in params (mark_of 0 0) x ∷ page_in next (mark_of 0 0) y ∷ []) a b;
+  dcn_in_page = found_is (dcs params ∷ fcd 0 a ∷ dcn ∷ []) (tt, (la, (tt, tt)));
 }
   where
     pages : (then : Params) (a b : List ℕ) → page_in params (mark_of 0 0) (a ++ []) ∷ page_in then (mark_of 1 0) (b ++ []) ∷ []
@@ -209,6 +248,17 @@ captures_mean params next a b la lb = record {
     pages then a b = ap (λ (octets : List ℕ). page_in params (mark_of 0 0) octets ∷ page_in then (mark_of 1 0) (b ++ []) ∷ [])
         (append-nil a)
         ∙ ap (λ (octets : List ℕ). page_in params (mark_of 0 0) a ∷ page_in then (mark_of 1 0) octets ∷ []) (append-nil b)
+
+    -- the pages of `no_page_255`, whatever their octets are
+    far_pages : List ℕ → List ℕ → List ℕ → List Captured
+    far_pages x y z = map (λ number. MissingPage number) (range_with_len 0 127) ++ page_in params (mark_of 127 0) x
+        ∷ map (λ number. MissingPage number) (range_with_len 128 126) ++ page_in params (mark_of 254 0) y
+        ∷ MissingPage 255 ∷ MissingPage 0 ∷ page_in params (mark_of 1 0) z ∷ []
+
+    far : found_in (dcs params ∷ fcd 0 a ∷ pps Mps 127 0 0 ∷ fcd 0 b ∷ pps Mps 254 0 0 ∷ fcd 0 a ∷ pps Eop 1 0 0 ∷ []) ≡ far_pages a b a
+    far = found_is (dcs params ∷ fcd 0 a ∷ pps Mps 127 0 0 ∷ fcd 0 b ∷ pps Mps 254 0 0 ∷ fcd 0 a ∷ pps Eop 1 0 0 ∷ [])
+        (tt, (la, (tt, (lb, (tt, (la, (tt, tt)))))))
+        ∙ (after_both (λ x y. far_pages x y (a ++ [])) a b ∙ after_all (far_pages a b) a)
 
     one : (ends : PageEnd) → ends ≢ Null → found_in (dcs params ∷ fcd 0 a ∷ pps ends 0 0 0 ∷ []) ≡ page_in params (mark_of 0 0) a ∷ []
     one Null other = absurd (other refl)
@@ -258,6 +308,7 @@ unfolding hears
 others_change_nothing (dcs params) s none = absurd none
 others_change_nothing (fcd number octets) s none = absurd none
 others_change_nothing (pps ends page block last) s none = absurd none
+others_change_nothing dcn s none = absurd none
 others_change_nothing signal s other = refl
 
 too_long : (params : Params) (octets : List ℕ) → IsTooLong params octets → within_frame_size params octets ≡ false
@@ -336,27 +387,51 @@ counts_new : (before : Option Pps) (last : ℕ) → last ≤ last_of before last
 counts_new None last = omega arith
 counts_new (Some waiting) last = omega arith
 
+-- a block that no DCS went before isn't read
+refused : (ends : PageEnd) (mark : Mark) (last : ℕ) (before : Option Pps) (s : Capture) → Leaves ends mark last before (refuses ends mark s)
+refused Null mark last before s = (refl, refl, inr (refl, refl, ((λ less. next_is mark.block less), (λ e. ap (λ (n : ℕ). (n + 1) % 256) e))))
+refused Mps mark last before s = (refl, refl, inr (refl, refl, (refl, refl, refl)))
+refused Eom mark last before s = (refl, refl, inr (refl, refl, (refl, refl, refl)))
+refused Eop mark last before s = (refl, refl, inr (refl, refl, (refl, refl, refl)))
+
+judged_by : (params : Option Params) (ends : PageEnd) (mark : Mark) (last counts : ℕ) (before : Option Pps) (s : Capture)
+    → IsAwaited ends mark last before (Some (record { mark = mark; ends = ends; last = counts }))
+    → Leaves ends mark last before (judges_by params ends mark counts s)
+judged_by None ends mark last counts before s awaited = refused ends mark last before s
+judged_by (Some params) ends mark last counts before s awaited = judged params ends mark last counts before s awaited
+
 -- what waits for frames of a block goes on waiting as it comes again
-still_waits : (mark : Mark) (s : Capture) → is_waiting s.waiting mark ≡ true → (turns_from mark s >>> turns_to mark).then.waiting
-    ≡ s.waiting
+still_waits : (mark : Mark) (s : Capture) → is_waiting s.waiting mark ≡ true
+    → (turns_from mark s >>> turns_page mark >>> turns_to mark).then.waiting ≡ s.waiting
 still_waits mark s same =
-    ap (λ (b : Bool). (cond b (finds_none s) (gives_up s s.waiting) >>> turns_to mark).then.waiting) same ∙ stays (nat_eq mark.block s.next)
+    ap (λ (b : Bool). (cond b (finds_none s) (gives_up s s.waiting) >>> turns_page mark >>> turns_to mark).then.waiting) same
+    ∙ (turned_to (turns_page mark s).then ∙ turned_page (nat_eq mark.page s.page))
   where
-    stays : (b : Bool) → (cond b (finds_none s) (record {
-      then = record s { octets = []; next = mark.block; spoiled = true };
-      found = MissingBlocks mark ∷ [];
+    turned_to : (s : Capture) → (turns_to mark s).then.waiting ≡ s.waiting
+    turned_to s = stays (nat_eq mark.block s.next)
+      where
+        stays : (b : Bool) → (cond b (finds_none s) (record {
+          then = record s { octets = []; next = mark.block; spoiled = true };
+          found = MissingBlocks mark ∷ [];
+        })).then.waiting ≡ s.waiting
+        stays true = refl
+        stays false = refl
+
+    turned_page : (b : Bool) → (cond b (finds_none s) (record {
+      then = record s { page = mark.page; octets = []; next = 0; spoiled = false };
+      found = map (λ number. MissingPage number) (pages_before (due_for s.page mark.page) mark.page);
     })).then.waiting ≡ s.waiting
-    stays true = refl
-    stays false = refl
+    turned_page true = refl
+    turned_page false = refl
 
 pub blocks_end : BlocksEnd
 unfolding hears hears_block
-blocks_end params ends mark last s is new =
+blocks_end ends mark last s new =
     subst (Leaves ends mark last s.waiting) (sym heard)
-    (judged params ends mark last (last_of turned.waiting last) s.waiting turned awaited)
+    (judged_by turned.params ends mark last (last_of turned.waiting last) s.waiting turned awaited)
   where
     turned : Capture
-    turned = (turns_from mark s >>> turns_to mark).then
+    turned = (turns_from mark s >>> turns_page mark >>> turns_to mark).then
 
     awaited : IsAwaited ends mark last s.waiting (Some (record { mark = mark; ends = ends; last = last_of turned.waiting last }))
     awaited = record {
@@ -368,6 +443,5 @@ blocks_end params ends mark last s is new =
           subst (λ (w : Option Pps). waiting.last ≤ last_of w last) (sym waits) (omega arith);
     }
 
-    heard : hears_pps s.params ends mark last s ≡ hears_block params ends mark last s
-    heard = ap (λ (p : Option Params). hears_pps p ends mark last s) is
-        ∙ ap (λ (b : Bool). cond b (finds_none (record s { coming = no_frames; begun = false })) (hears_block params ends mark last s)) new
+    heard : hears_pps ends mark last s ≡ hears_block ends mark last s
+    heard = ap (λ (b : Bool). cond b (finds_none (record s { coming = no_frames; begun = false })) (hears_block ends mark last s)) new

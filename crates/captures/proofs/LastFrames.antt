@@ -1,17 +1,16 @@
 -- Of a block that comes again the greater of the two last frames counts: when its PPS comes, no other block waits for frames any more.
 use Rattle.std.proofs.Common.{◌≡◌, ℕ, Bool, true, false, cond, refl, ap, sym, subst}
-use Rattle.std.specs.Prelude.{Option, None, Some, Result, Ok, Err, OnOk, List, max, nat_eq, option_map, ◌∷◌, []}
-use Rattle.signals.specs.declared.params.Params.{Params}
+use Rattle.std.specs.Prelude.{Option, None, Some, Result, Ok, Err, OnOk, List, map, max, nat_eq, option_map, ◌∷◌, []}
 use Rattle.signals.specs.declared.signal.PageEnd.{PageEnd}
 use Rattle.signals.specs.declared.signal.PageEnd.TheVariants.{Null, Mps, Eom, Eop}
 use Rattle.partial_page.specs.Assembling.{last_counted}
 use Rattle.partial_page.specs.Assembling.{asked_by}
 use Rattle.signals.specs.declared.mark.Mark.{Mark}
 use Rattle.signals.specs.declared.mark.Pps.{Pps}
-use Rattle.captures.specs.Captured.{Capture, Takes, after_lack, finds_none, gathers, gives_up, hears_block, is_waiting, judges, last_of}
-use Rattle.captures.specs.Captured.{turns_from, turns_to, ◌>>>◌}
+use Rattle.captures.specs.Captured.{Capture, Takes, after_lack, due_for, finds_none, gives_up, hears_block, is_waiting, judges_by, last_of}
+use Rattle.captures.specs.Captured.{pages_before, turns_from, turns_page, turns_to, ◌>>>◌}
 use Rattle.captures.specs.declared.captured.Captured.{Captured}
-use Rattle.captures.specs.declared.captured.Captured.TheVariants.{MissingBlocks}
+use Rattle.captures.specs.declared.captured.Captured.TheVariants.{MissingBlocks, MissingPage}
 use Rattle.captures.proofs.Capturing.{takes_first}
 
 abbrev CountsGreater : Mark → ℕ → Option Pps → Type 0
@@ -42,11 +41,22 @@ turned_to mark s = stays (nat_eq mark.block s.next)
     stays true = refl
     stays false = refl
 
+turned_page : (mark : Mark) (s : Capture) → (turns_page mark s).then.waiting ≡ s.waiting
+turned_page mark s = stays (nat_eq mark.page s.page)
+  where
+    stays : (b : Bool) → (cond b (finds_none s) (record {
+      then = record s { page = mark.page; octets = []; next = 0; spoiled = false };
+      found = map (λ number. MissingPage number) (pages_before (due_for s.page mark.page) mark.page);
+    })).then.waiting ≡ s.waiting
+    stays true = refl
+    stays false = refl
+
 counts_greater : (mark : Mark) (last : ℕ) (s : Capture) →
-    last_counted (option_map asked_by (turns_from mark s >>> turns_to mark).then.waiting) mark last
-    ≡ last_of (turns_from mark s >>> turns_to mark).then.waiting last
-counts_greater mark last s = subst (CountsGreater mark last) (sym (turned_to mark (turns_from mark s).then))
-    (turned (is_waiting s.waiting mark) refl)
+    last_counted (option_map asked_by (turns_from mark s >>> turns_page mark >>> turns_to mark).then.waiting) mark last
+    ≡ last_of (turns_from mark s >>> turns_page mark >>> turns_to mark).then.waiting last
+counts_greater mark last s = subst (CountsGreater mark last) (sym (turned_to mark (turns_page mark (turns_from mark s).then).then))
+    (subst (CountsGreater mark last) (sym (turned_page mark (turns_from mark s).then))
+    (turned (is_waiting s.waiting mark) refl))
   where
     turned : (b : Bool) → is_waiting s.waiting mark ≡ b
         → CountsGreater mark last (cond b (finds_none s) (gives_up s s.waiting)).then.waiting
@@ -54,26 +64,23 @@ counts_greater mark last s = subst (CountsGreater mark last) (sym (turned_to mar
     turned false other = subst (CountsGreater mark last) (sym (given_up s s.waiting refl)) refl
 
 -- a PPS of a block that isn't whole yet: what waits is turned from, and its frames are judged by the last one that counts
-pub block_heard : {A E : Type 0} (result : Result A E) (params : Params) (pps counted : Pps) (s from to gathered new : Capture)
-    (out out_from out_to all : List Captured) → Takes (turns_from pps.mark s) from out out_from
-    → Takes (turns_to pps.mark from) to out_from out_to
-    → counted ≡ record pps { last = last_counted (option_map asked_by to.waiting) pps.mark pps.last } → gathered ≡ gathers to
-    → OnOk result (Takes (judges params counted.ends counted.mark counted.last gathered) new out_to all)
-    → OnOk result (Takes (hears_block params pps.ends pps.mark pps.last s) new out all)
+pub block_heard : {A E : Type 0} (result : Result A E) (pps counted : Pps) (s from page to new : Capture)
+    (out out_from out_page out_to all : List Captured) → Takes (turns_from pps.mark s) from out out_from
+    → Takes (turns_page pps.mark from) page out_from out_page → Takes (turns_to pps.mark page) to out_page out_to
+    → counted ≡ record pps { last = last_counted (option_map asked_by to.waiting) pps.mark pps.last }
+    → OnOk result (Takes (judges_by to.params counted.ends counted.mark counted.last to) new out_to all)
+    → OnOk result (Takes (hears_block pps.ends pps.mark pps.last s) new out all)
 unfolding hears_block
-block_heard (Ok done) params pps counted s from to gathered new out out_from out_to all a b is gathers_is judged =
-    takes_first (turns_from pps.mark s >>> turns_to pps.mark)
-    (λ s. judges params pps.ends pps.mark (last_of s.waiting pps.last) (gathers s)) to new out out_to all turned
-    (subst (λ (last : ℕ). Takes (judges params pps.ends pps.mark last (gathers to)) new out_to all) greater
-    (subst (λ (x : Capture). Takes (judges params pps.ends pps.mark counts x) new out_to all) gathers_is
-    (subst (λ (p : Pps). Takes (judges params p.ends p.mark p.last gathered) new out_to all) is judged)))
+block_heard (Ok done) pps counted s from page to new out out_from out_page out_to all a b c is judged =
+    takes_first (turns_from pps.mark s >>> turns_page pps.mark >>> turns_to pps.mark)
+    (λ s. judges_by s.params pps.ends pps.mark (last_of s.waiting pps.last) s) to new out out_to all turned
+    (subst (λ (last : ℕ). Takes (judges_by to.params pps.ends pps.mark last to) new out_to all) greater
+    (subst (λ (p : Pps). Takes (judges_by to.params p.ends p.mark p.last to) new out_to all) is judged))
   where
-    counts : ℕ
-    counts = last_counted (option_map asked_by to.waiting) pps.mark pps.last
+    turned : Takes (turns_from pps.mark s >>> turns_page pps.mark >>> turns_to pps.mark) to out out_to
+    turned = takes_first (turns_from pps.mark s >>> turns_page pps.mark) (turns_to pps.mark) page to out out_page out_to
+        (takes_first (turns_from pps.mark s) (turns_page pps.mark) from page out out_from out_page a b) c
 
-    turned : Takes (turns_from pps.mark s >>> turns_to pps.mark) to out out_to
-    turned = takes_first (turns_from pps.mark s) (turns_to pps.mark) from to out out_from out_to a b
-
-    greater : counts ≡ last_of to.waiting pps.last
+    greater : last_counted (option_map asked_by to.waiting) pps.mark pps.last ≡ last_of to.waiting pps.last
     greater = subst (λ (x : Capture). CountsGreater pps.mark pps.last x.waiting) (sym turned.is) (counts_greater pps.mark pps.last s)
-block_heard (Err refused) params pps counted s from to gathered new out out_from out_to all a b is gathers_is judged = tt
+block_heard (Err refused) pps counted s from page to new out out_from out_page out_to all a b c is judged = tt

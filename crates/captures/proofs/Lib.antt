@@ -9,6 +9,7 @@ mod HexText
 mod CapturedSteps
 mod LastFrames
 mod Capturing
+mod MissingPages
 mod Following
 mod Salvaging
 mod CapturesMean

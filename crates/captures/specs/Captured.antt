@@ -1,6 +1,7 @@
 -- The pages in what is sent on a line, by its signals alone (ITU-T T.30, Annex A): what anyone who hears the caller can read,
 -- with no station.
-use Rattle.std.specs.Prelude.{ℕ, ◌≡◌, ◌+◌, ◌++◌, ◌∷◌, [], ◌%◌, ◌||◌, Bool, true, false, cond, not, map, max, nat_eq, List, length}
+use Rattle.std.specs.Prelude.{ℕ, ◌≡◌, ◌+◌, ◌-◌, ◌++◌, ◌∷◌, [], ◌%◌, ◌||◌, Bool, true, false, cond, not, map, max, nat_eq, nat_lt}
+use Rattle.std.specs.Prelude.{List, length}
 use Rattle.std.specs.Prelude.{Option, Some, None, Result, Ok, Err, slice_set}
 use Rattle.std.specs.List.{filter, range_with_len}
 use Rattle.raster.specs.declared.packed.Order.TheVariants.{LsbFirst}
@@ -11,44 +12,50 @@ use Rattle.page_code.specs.Codings.{read_rows}
 use Rattle.partial_page.specs.Store.{no_frames, frame_of, is_missing, joined_frames}
 use Rattle.signals.specs.Agreement.{pixels_of}
 use Rattle.signals.specs.Reading.{read_content}
-use Rattle.signals.specs.Signals.{PlainSignal, dcs, fcd, pps}
+use Rattle.signals.specs.Signals.{PlainSignal, dcn, dcs, fcd, pps}
 use Rattle.signals.specs.declared.fault.SignalFault.{SignalFault}
 use Rattle.signals.specs.declared.params.Params.{Params}
 use Rattle.signals.specs.declared.signal.PageEnd.{PageEnd}
-use Rattle.signals.specs.declared.signal.PageEnd.TheVariants.{Null}
+use Rattle.signals.specs.declared.signal.PageEnd.TheVariants.{Null, Eom, Eop}
 use Rattle.partial_page.specs.Assembling.{Frames, all_there}
 use Rattle.signals.specs.Marks.{same_mark}
 use Rattle.partial_page.specs.Assembling.{within_frame_size}
 use Rattle.signals.specs.declared.mark.Mark.{Mark}
 use Rattle.signals.specs.declared.mark.Pps.{Pps}
 use Rattle.captures.specs.declared.captured.Captured.{Captured}
-use Rattle.captures.specs.declared.captured.Captured.TheVariants.{Page, Unread, MissingFrame, MissingBlocks, Unfinished, BlockBeforeDcs}
+use Rattle.captures.specs.declared.captured.Captured.TheVariants.{Page, MissingPage, Unread, MissingFrame, MissingBlocks, Unfinished}
+use Rattle.captures.specs.declared.captured.Captured.TheVariants.{BlockBeforeDcs, BlockAfterEnd}
 
 -- ---- what is known while signals come
 
--- how pages are sent, by the last DCS; the frames since the last PPS, and whether there were any; the last block, where frames of it
--- are missing, and those that are there; the last block that was whole; of the open page the octets of its blocks, the number that its next
--- block has modulo 256, and whether a block of it is missing
+-- how pages are sent, by the last DCS; None before one, and from the end of a page by EOM or EOP to the next one, and then that end; the
+-- frames since the last PPS, and whether there were any; the last block, where frames of it are missing, and those that are there; the last
+-- block that was whole, or that no DCS went before; of the open page its number modulo 256, the octets of its blocks, the number that its
+-- next block has modulo 256, and whether a block of it is missing
 pub record Capture : Type 0 where
   pub params : Option Params
+  pub ended : Option PageEnd
   pub coming : Frames
   pub begun : Bool
   pub waiting : Option Pps
   pub kept : Frames
   pub taken : Option Mark
+  pub page : ℕ
   pub octets : List ℕ
   pub next : ℕ
   pub spoiled : Bool
 
--- before any signal, or after a DCS
+-- before any signal, or after a DCS that begins a call
 abbrev pub empty_capture : Option Params → Capture
 empty_capture params = record {
   params = params;
+  ended = None;
   coming = no_frames;
   begun = false;
   waiting = None;
   kept = no_frames;
   taken = None;
+  page = 0;
   octets = [];
   next = 0;
   spoiled = false;
@@ -70,14 +77,34 @@ a >>> f = record { then = (f a.then).then; found = a.found ++ (f a.then).found }
 
 -- ---- a block
 
--- the number of the block after one
-abbrev pub next_block : ℕ → ℕ
-next_block block = (block + 1) % 256
+-- the number of the block after one of a page, or of the page after one of a call
+abbrev pub next_number : ℕ → ℕ
+next_number number = (number + 1) % 256
+
+-- a page is over, and the next one begins; after EOM and EOP a DCS must come before that
+abbrev pub after_page : PageEnd → Mark → Capture → Capture
+after_page Eom mark s = record s {
+  params = None;
+  ended = Some Eom;
+  page = next_number mark.page;
+  octets = [];
+  next = 0;
+  spoiled = false;
+}
+after_page Eop mark s = record s {
+  params = None;
+  ended = Some Eop;
+  page = next_number mark.page;
+  octets = [];
+  next = 0;
+  spoiled = false;
+}
+after_page _ mark s = record s { page = next_number mark.page; octets = []; next = 0; spoiled = false }
 
 -- after a block that is missing, its page can't be read; after the page's last one another begins
 abbrev pub after_lack : PageEnd → Mark → Capture → Capture
-after_lack Null mark s = record s { octets = []; next = next_block mark.block; spoiled = true }
-after_lack _ mark s = record s { octets = []; next = 0; spoiled = false }
+after_lack Null mark s = record s { octets = []; next = next_number mark.block; spoiled = true }
+after_lack ends mark s = after_page ends mark s
 
 -- the numbers of a block's frames that are missing
 abbrev pub lacking : Frames → ℕ → List ℕ
@@ -99,6 +126,26 @@ is_waiting (Some waiting) mark = same_mark waiting.mark mark
 -- another block than the one that waits gives that up
 abbrev pub turns_from : Mark → Capture → Step
 turns_from mark s = cond (is_waiting s.waiting mark) (finds_none s) (gives_up s s.waiting)
+
+-- how far a page is ahead of another one by their numbers modulo 256
+abbrev pub ahead : ℕ → ℕ → ℕ
+ahead page from = (page + 256 - from) % 256
+
+-- The number from which on pages are missing before a page: the one that is due. A page that is 128 or more ahead of that is taken as one
+-- of another call, whose pages begin with 0.
+abbrev pub due_for : ℕ → ℕ → ℕ
+due_for due page = cond (nat_lt (ahead page due) 128) due 0
+
+-- the numbers of the pages from one on to another one, without that
+unfoldable pub pages_before : ℕ → ℕ → List ℕ
+pages_before from page = map (λ n. (from + n) % 256) (range_with_len 0 (ahead page from))
+
+-- a block of another page than the open one: the pages before it are missing, also the open one if blocks of it came, as its end didn't
+abbrev pub turns_page : Mark → Capture → Step
+turns_page mark s = cond (nat_eq mark.page s.page) (finds_none s) (record {
+  then = record s { page = mark.page; octets = []; next = 0; spoiled = false };
+  found = map (λ number. MissingPage number) (pages_before (due_for s.page mark.page) mark.page);
+})
 
 -- a block whose number isn't the next one of its page: blocks before it are missing, and the page can't be read
 abbrev pub turns_to : Mark → Capture → Step
@@ -129,7 +176,7 @@ last_of (Some waiting) last = max waiting.last last
 
 -- what reading a page's octets finds
 abbrev pub found_of : Params → Mark → Result (List (List Color) × ℕ) (ℕ × CodeFaultKind) → Captured
-found_of params mark (Ok read) = Page (record { width = pixels_of params.width; fine = params.fine; rows = read.0 })
+found_of params mark (Ok read) = Page mark (record { width = pixels_of params.width; fine = params.fine; rows = read.0 })
 found_of params mark (Err fault) = Unread mark (record { place = fault.0; kind = fault.1 })
 
 -- the page that octets are, by the DCS
@@ -147,10 +194,10 @@ takes_block params Null mark block s = finds_none (record s {
   kept = no_frames;
   taken = Some mark;
   octets = with_block s block;
-  next = next_block mark.block;
+  next = next_number mark.block;
 })
-takes_block params _ mark block s = record {
-  then = record s { waiting = None; kept = no_frames; taken = Some mark; octets = []; next = 0; spoiled = false };
+takes_block params ends mark block s = record {
+  then = after_page ends mark (record s { waiting = None; kept = no_frames; taken = Some mark });
   found = cond s.spoiled [] (page_in params mark (with_block s block) ∷ []);
 }
 
@@ -160,6 +207,27 @@ judges params ends mark last s =
     cond (all_there s.kept last)
     (takes_block params ends mark (joined_frames s.kept (last + 1)) s)
     (finds_none (record s { waiting = Some (record { mark = mark; ends = ends; last = last }) }))
+
+-- why a block that comes can't be read: no DCS came at all, or none after the end of a page by EOM or EOP
+abbrev pub no_dcs : Option PageEnd → Mark → Captured
+no_dcs None mark = BlockBeforeDcs mark
+no_dcs (Some ends) mark = BlockAfterEnd mark ends
+
+-- a block that no DCS went before is named, and isn't kept
+abbrev pub refuses : PageEnd → Mark → Capture → Step
+refuses ends mark s = record {
+  then = record (after_lack ends mark (record s { waiting = None; kept = no_frames })) {
+    coming = no_frames;
+    begun = false;
+    taken = Some mark;
+  };
+  found = no_dcs s.ended mark ∷ [];
+}
+
+-- a block is judged by the last DCS, if one went before
+abbrev pub judges_by : Option Params → PageEnd → Mark → ℕ → Capture → Step
+judges_by None ends mark last s = refuses ends mark s
+judges_by (Some params) ends mark last s = judges params ends mark last (gathers s)
 
 -- ---- signals
 
@@ -171,37 +239,46 @@ left_open s = cond (s.begun || not (nat_eq (length s.octets) 0)) (Unfinished ∷
 unfoldable pub at_end : Capture → List Captured
 at_end s = (gives_up s s.waiting).found ++ left_open (gives_up s s.waiting).then
 
+-- the number of the first page after a DCS: after EOP it begins another call
+abbrev pub due_by : Option PageEnd → ℕ → ℕ
+due_by (Some Eop) page = 0
+due_by ended page = page
+
+-- after a DCS
+abbrev pub after_dcs : Params → Capture → Capture
+after_dcs params s = record (empty_capture (Some params)) { page = due_by s.ended s.page }
+
 -- a DCS: what is open is left, and pages are sent so from now on
 abbrev pub hears_dcs : Params → Capture → Step
-hears_dcs params s = record { then = empty_capture (Some params); found = at_end s }
+hears_dcs params s = record { then = after_dcs params (gives_up s s.waiting).then; found = at_end s }
 
--- an FCD: data that aren't longer than agreed are kept under their number; before a DCS nothing is kept
+-- an FCD: data that aren't longer than agreed are kept under their number; without a DCS nothing is kept, but a block has begun
 abbrev pub hears_fcd : Option Params → ℕ → List ℕ → Capture → Step
-hears_fcd None number octets s = finds_none s
+hears_fcd None number octets s = finds_none (record s { begun = true })
 hears_fcd (Some params) number octets s = finds_none (cond (within_frame_size params octets)
     (record s { coming = slice_set s.coming number (Some octets); begun = true }) s)
 
--- a block was whole already
+-- a block was whole already, or was named since no DCS went before
 abbrev pub is_taken : Option Mark → Mark → Bool
 is_taken None mark = false
 is_taken (Some taken) mark = same_mark taken mark
 
 -- a PPS of a block that isn't whole yet
-unfoldable pub hears_block : Params → PageEnd → Mark → ℕ → Capture → Step
-hears_block params ends mark last s = turns_from mark s >>> turns_to mark
-    >>> λ s. judges params ends mark (last_of s.waiting last) (gathers s)
+unfoldable pub hears_block : PageEnd → Mark → ℕ → Capture → Step
+hears_block ends mark last s = turns_from mark s >>> turns_page mark >>> turns_to mark
+    >>> λ s. judges_by s.params ends mark (last_of s.waiting last) s
 
 -- a PPS: its block is the frames since the PPS before. One that is sent again after it was whole changes nothing
-abbrev pub hears_pps : Option Params → PageEnd → Mark → ℕ → Capture → Step
-hears_pps None ends mark last s = record { then = s; found = BlockBeforeDcs mark ∷ [] }
-hears_pps (Some params) ends mark last s =
-    cond (is_taken s.taken mark) (finds_none (record s { coming = no_frames; begun = false })) (hears_block params ends mark last s)
+abbrev pub hears_pps : PageEnd → Mark → ℕ → Capture → Step
+hears_pps ends mark last s =
+    cond (is_taken s.taken mark) (finds_none (record s { coming = no_frames; begun = false })) (hears_block ends mark last s)
 
--- a signal; those of no page change nothing
+-- a signal. After a DCN, as before any signal, nothing is known. Those of no page change nothing
 unfoldable pub hears : PlainSignal → Capture → Step
 hears (dcs params) s = hears_dcs params s
 hears (fcd number octets) s = hears_fcd s.params number octets s
-hears (pps ends page block last) s = hears_pps s.params ends (record { page = page; block = block }) last s
+hears (pps ends page block last) s = hears_pps ends (record { page = page; block = block }) last s
+hears dcn s = record { then = empty_capture None; found = at_end s }
 hears _ s = finds_none s
 
 -- a content; one that says no signal changes nothing
@@ -216,13 +293,16 @@ unfoldable pub hears_all : List (List ℕ) → Capture → Step
 hears_all [] s = finds_none s
 hears_all (content ∷ contents) s = hears_read (read_content content) s >>> hears_all contents
 
--- The pages that contents carry, in their order, and between them what is missing of others (T.30, Annex A). A DCS says how pages are sent,
--- and what is open before it is left; a block before any DCS is only named. The data of FCDs, if they aren't longer than agreed, are kept
--- under their numbers until a PPS: they are its block, together with the frames that are kept of the same block from before. For one number
--- the later data count, and the greatest last frame counts. A whole block is joined to its page once: the same PPS again changes nothing. A
--- PPS with another end than NULL ends the page, which is read by its DCS, or named with its fault. If another block, a DCS or the end comes
--- before a block is whole, each missing frame is named; a block that isn't the next one of its page is named; a page with a missing block
--- isn't read. What no PPS ends is named at a DCS and at the end. Other signals, and contents that are none, change nothing.
+-- The pages that contents carry, in their order, and between them what is missing of others (T.30, Annex A). A DCS says how pages are
+-- sent, and what is open before it is left; a block before any DCS, or after a page's end by EOM or EOP and before the next DCS, is only
+-- named. The data of FCDs, if they aren't longer than agreed, are kept under their numbers until a PPS: they are its block, together with
+-- the frames that are kept of the same block from before. For one number the later data count, and the greatest last frame counts. A whole
+-- block is joined to its page once: the same PPS again changes nothing. A PPS with another end than NULL ends the page, which is read by its
+-- DCS, or named with its fault. If another block, a DCS, a DCN or the end comes before a block is whole, each missing frame is named; a
+-- block that isn't the next one of its page is named; a page with a missing block isn't read. A call's first page has the number 0: at the
+-- beginning, after a DCN, and with a DCS after EOP. Each other page has the next number, 0 after 255; where a PPS has a later one, each page
+-- between is named, and so are the first pages of a call whose beginning isn't there. What no PPS ends is named at a DCS, a DCN and the end.
+-- Other signals, and contents that are none, change nothing.
 unfoldable pub captured : List (List ℕ) → List Captured
 captured contents =
     let heard = hears_all contents (empty_capture None) in

@@ -1,7 +1,8 @@
 -- What is found in a capture (ITU-T T.30, Annex A), said by whole sequences of signals, by the ends of a PPS and by what changes nothing.
-use Rattle.std.specs.Prelude.{ℕ, ◌≡◌, ◌≢◌, ◌≤◌, ◌<◌, ◌+◌, ◌⊎◌, ◌++◌, ◌∷◌, [], List, length, false, true, Option, Some, None}
+use Rattle.std.specs.Prelude.{ℕ, ◌≡◌, ◌≢◌, ◌≤◌, ◌<◌, ◌+◌, ◌⊎◌, ◌++◌, ◌∷◌, [], List, length, map, false, true, Option, Some, None}
+use Rattle.std.specs.List.{range_with_len}
 use Rattle.partial_page.specs.Store.{IsKept, no_frames}
-use Rattle.signals.specs.Signals.{PlainSignal, dcs, fcd, pps}
+use Rattle.signals.specs.Signals.{PlainSignal, dcn, dcs, fcd, pps}
 use Rattle.signals.specs.declared.params.Params.{Params}
 use Rattle.signals.specs.declared.signal.PageEnd.{PageEnd}
 use Rattle.signals.specs.declared.signal.PageEnd.TheVariants.{Null, Mps, Eom, Eop}
@@ -10,7 +11,8 @@ use Rattle.signals.specs.declared.mark.Mark.{Mark}
 use Rattle.signals.specs.declared.mark.Pps.{Pps}
 use Rattle.captures.specs.Captured.{Capture, Step, at_end, empty_capture, finds_none, hears, is_taken, is_waiting, page_in, ◌>>>◌}
 use Rattle.captures.specs.declared.captured.Captured.{Captured}
-use Rattle.captures.specs.declared.captured.Captured.TheVariants.{MissingFrame, MissingBlocks, Unfinished, BlockBeforeDcs}
+use Rattle.captures.specs.declared.captured.Captured.TheVariants.{MissingPage, MissingFrame, MissingBlocks, Unfinished, BlockBeforeDcs}
+use Rattle.captures.specs.declared.captured.Captured.TheVariants.{BlockAfterEnd}
 
 -- signals, one after the other
 abbrev pub hears_signals : List PlainSignal → Capture → Step
@@ -74,19 +76,54 @@ pub record SequencesMean (params next : Params) (a b : List ℕ) : Type 0 where
       MissingFrame (mark_of 0 0) 1 ∷ MissingFrame (mark_of 0 0) 0 ∷ []
   -- before any DCS nothing can be read
   pub no_dcs : (ends : PageEnd) → found_in (fcd 0 a ∷ pps ends 0 0 0 ∷ []) ≡ BlockBeforeDcs (mark_of 0 0) ∷ []
+  -- after EOM and EOP a DCS must come: without it a page isn't read, even if its PPS doesn't come either; nor is one after a DCN
+  pub lost_dcs : found_in (dcs params ∷ fcd 0 a ∷ pps Eom 0 0 0 ∷ fcd 0 b ∷ pps Mps 1 0 0 ∷ fcd 0 a ∷ pps Eop 2 0 0 ∷ []) ≡
+      page_in params (mark_of 0 0) a ∷ BlockAfterEnd (mark_of 1 0) Eom ∷ BlockAfterEnd (mark_of 2 0) Eom ∷ []
+  pub lost_dcs_of_call : found_in (dcs params ∷ fcd 0 a ∷ pps Eop 0 0 0 ∷ fcd 0 b ∷ pps Eop 0 1 0 ∷ []) ≡
+      page_in params (mark_of 0 0) a ∷ MissingBlocks (mark_of 0 1) ∷ BlockAfterEnd (mark_of 0 1) Eop ∷ []
+  pub lost_dcs_and_frame : found_in (dcs params ∷ fcd 1 b ∷ pps Eom 0 0 1 ∷ fcd 0 a ∷ pps Eop 1 0 0 ∷ []) ≡
+      MissingFrame (mark_of 0 0) 0 ∷ BlockAfterEnd (mark_of 1 0) Eom ∷ []
+  pub lost_dcs_and_pps : found_in (dcs params ∷ fcd 0 a ∷ pps Eom 0 0 0 ∷ fcd 0 b ∷ []) ≡
+      page_in params (mark_of 0 0) a ∷ Unfinished ∷ []
+  pub lost_dcs_after_dcn : found_in (dcs params ∷ fcd 0 a ∷ pps Mps 0 0 0 ∷ dcn ∷ fcd 0 b ∷ pps Eop 0 0 0 ∷ []) ≡
+      page_in params (mark_of 0 0) a ∷ BlockBeforeDcs (mark_of 0 0) ∷ []
+  -- a page that is missing is named by the next one, also if a block of it came; those before the first one too
+  pub no_page : found_in (dcs params ∷ fcd 0 a ∷ pps Mps 0 0 0 ∷ fcd 0 b ∷ pps Eop 2 0 0 ∷ []) ≡
+      page_in params (mark_of 0 0) a ∷ MissingPage 1 ∷ page_in params (mark_of 2 0) b ∷ []
+  pub no_page_end : found_in (dcs params ∷ fcd 0 a ∷ pps Null 0 0 0 ∷ fcd 0 b ∷ pps Eop 1 0 0 ∷ []) ≡
+      MissingPage 0 ∷ page_in params (mark_of 1 0) b ∷ []
+  pub no_first_page : found_in (dcs params ∷ fcd 0 a ∷ pps Eop 2 0 0 ∷ []) ≡
+      MissingPage 0 ∷ MissingPage 1 ∷ page_in params (mark_of 2 0) a ∷ []
+  -- after page 255 comes page 0
+  pub page_255 : found_in (dcs params ∷ fcd 0 a ∷ pps Mps 255 0 0 ∷ fcd 0 b ∷ pps Eop 0 0 0 ∷ []) ≡
+      map (λ number. MissingPage number) (range_with_len 0 255) ++ page_in params (mark_of 255 0) a ∷ page_in params (mark_of 0 0) b ∷ []
+  pub no_page_255 : found_in (dcs params ∷ fcd 0 a ∷ pps Mps 127 0 0 ∷ fcd 0 b ∷ pps Mps 254 0 0 ∷ fcd 0 a ∷ pps Eop 1 0 0 ∷ []) ≡
+      map (λ number. MissingPage number) (range_with_len 0 127) ++ page_in params (mark_of 127 0) a
+      ∷ map (λ number. MissingPage number) (range_with_len 128 126) ++ page_in params (mark_of 254 0) b
+      ∷ MissingPage 255 ∷ MissingPage 0 ∷ page_in params (mark_of 1 0) a ∷ []
+  -- another call begins with page 0: after a DCN, with a DCS after EOP, and with a lower number
+  pub next_call : found_in (dcs params ∷ fcd 0 a ∷ pps Mps 0 0 0 ∷ dcn ∷ dcs next ∷ fcd 0 b ∷ pps Eop 1 0 0 ∷ []) ≡
+      page_in params (mark_of 0 0) a ∷ MissingPage 0 ∷ page_in next (mark_of 1 0) b ∷ []
+  pub call_after_eop : found_in (dcs params ∷ fcd 0 a ∷ pps Eop 0 0 0 ∷ dcs next ∷ fcd 0 b ∷ pps Eop 1 0 0 ∷ []) ≡
+      page_in params (mark_of 0 0) a ∷ MissingPage 0 ∷ page_in next (mark_of 1 0) b ∷ []
+  pub lost_dcn : found_in (dcs params ∷ fcd 0 a ∷ pps Mps 0 0 0 ∷ dcs next ∷ fcd 0 b ∷ pps Eop 0 0 0 ∷ []) ≡
+      page_in params (mark_of 0 0) a ∷ page_in next (mark_of 0 0) b ∷ []
+  -- a DCN leaves what is open
+  pub dcn_in_page : found_in (dcs params ∷ fcd 0 a ∷ dcn ∷ []) ≡ Unfinished ∷ []
 
--- law: what is found in the 19 sequences of `SequencesMean`, whatever the parameters and the data are
+-- law: what is found in the 33 sequences of `SequencesMean`, whatever the parameters and the data are
 abbrev pub CapturesMean : Type 0
 CapturesMean = (params next : Params) (a b : List ℕ) → length a ≤ 64 → length b ≤ 64 → SequencesMean params next a b
 
--- a signal has nothing to do with pages: it isn't DCS, FCD or PPS
+-- a signal has nothing to do with pages: it isn't DCS, FCD, PPS or DCN
 abbrev pub IsOfNoPage : PlainSignal → Type 0
 IsOfNoPage (dcs params) = ⊥
 IsOfNoPage (fcd number octets) = ⊥
 IsOfNoPage (pps ends page block last) = ⊥
+IsOfNoPage dcn = ⊥
 IsOfNoPage signal = Unit {0}
 
--- law: in every state, each signal but DCS, FCD and PPS changes nothing and ends nothing; so does a DCN
+-- law: in every state, each signal but DCS, FCD, PPS and DCN changes nothing and ends nothing
 abbrev pub OthersChangeNothing : Type 0
 OthersChangeNothing = (signal : PlainSignal) (s : Capture) → IsOfNoPage signal → hears signal s ≡ finds_none s
 
@@ -111,9 +148,10 @@ pub record IsAwaited (ends : PageEnd) (mark : Mark) (last : ℕ) (before after :
   pub old : (waiting : Pps) → before ≡ Some waiting → is_waiting before mark ≡ true → waiting.last ≤ counts
 
 -- law: in every state, a PPS of a block that wasn't whole before takes the frames since the PPS before it. The block waits for its missing
--- frames, and the greatest last frame counts; or it is whole, and then its page goes on with the next block (0 after 255) or is over.
+-- frames, and the greatest last frame counts; or it is whole, or isn't read, and then its page goes on with the next block (0 after 255) or
+-- is over.
 abbrev pub BlocksEnd : Type 0
-BlocksEnd = (params : Params) (ends : PageEnd) (mark : Mark) (last : ℕ) (s : Capture) → s.params ≡ Some params →
+BlocksEnd = (ends : PageEnd) (mark : Mark) (last : ℕ) (s : Capture) →
     is_taken s.taken mark ≡ false → let t = (hears (pps ends mark.page mark.block last) s).then in
     (t.coming ≡ no_frames) × (t.begun ≡ false)
     × (IsAwaited ends mark last s.waiting t.waiting ⊎ ((t.waiting ≡ None) × (t.taken ≡ Some mark) × IsAfterBlock ends mark t))

@@ -7,10 +7,12 @@ use Rattle.serde_json.specs.Data.{Data, boolean, member, no_members, null, objec
 use Rattle.signals.specs.declared.mark.Mark.{Mark}
 use Rattle.captures.specs.Missing.{lines_word}
 use Rattle.captures.specs.PageNumbers.{page_missing}
+use Rattle.captures.specs.Texts.{page_end_text}
 use Rattle.faults.specs.RecordLines.{count, words}
 use Rattle.captures.specs.declared.captured.Captured.{Captured}
 use Rattle.captures.specs.declared.numbers.PageNumbers.{PageNumbers}
-use Rattle.captures.specs.declared.captured.Captured.TheVariants.{Page, Unread, MissingFrame, MissingBlocks, Unfinished, BlockBeforeDcs}
+use Rattle.captures.specs.declared.captured.Captured.TheVariants.{Page, MissingPage, Unread, MissingFrame, MissingBlocks, Unfinished}
+use Rattle.captures.specs.declared.captured.Captured.TheVariants.{BlockBeforeDcs, BlockAfterEnd}
 
 -- The record of a page that is in a file: `file` its name, `height` in rows, `lines`, `page` its number from 1, `width` in pixels.
 abbrev pub stored_record : PageNumbers → PagePixels → Data
@@ -35,10 +37,12 @@ block_record what page mark = object (member (codes "block") (count mark.block)
     (member (codes "missing") (words what)
     (member (codes "page") (count page) no_members)))
 
--- The record of what is missing: a frame, the blocks before one, a page that can't be read (with its bit, 2^64 - 1 at most, and its fault),
--- the end of a page, or a DCS. A page that is there has the empty record.
+-- The record of what is missing: a page, also one that can't be read (with its bit, 2^64 - 1 at most, and its fault), a frame, the blocks
+-- before one, the end of a page, or a DCS (with the end, EOM or EOP, after which it must come). A page that is there has the empty record.
 abbrev pub missing_record : Captured → Data
-missing_record (Page page) = null
+missing_record (Page mark page) = null
+missing_record (MissingPage number) = object (member (codes "missing") (words (codes "page"))
+    (member (codes "page") (count (page_missing (MissingPage number))) no_members))
 missing_record (Unread mark fault) = object (member (codes "bit") (count (min (2 ^ 64 - 1) fault.place))
     (member (codes "fault") (count (number_of fault.kind))
     (member (codes "missing") (words (codes "page"))
@@ -50,3 +54,7 @@ missing_record (MissingFrame mark frame) = object (member (codes "block") (count
 missing_record (MissingBlocks mark) = block_record (codes "blocks before") (page_missing (MissingBlocks mark)) mark
 missing_record Unfinished = object (member (codes "missing") (words (codes "end of page")) no_members)
 missing_record (BlockBeforeDcs mark) = block_record (codes "DCS") (page_missing (BlockBeforeDcs mark)) mark
+missing_record (BlockAfterEnd mark ends) = object (member (codes "after") (words (page_end_text ends))
+    (member (codes "block") (count mark.block)
+    (member (codes "missing") (words (codes "DCS"))
+    (member (codes "page") (count (page_missing (BlockAfterEnd mark ends))) no_members))))

@@ -1,5 +1,5 @@
 -- The rows of a page in a capture that are there before its first gap: where frames of it are missing, or its end is.
-use Rattle.std.specs.Prelude.{ℕ, ◌≡◌, ◌≤◌, ◌<◌, ◌++◌, ◌∷◌, [], ◌||◌, Bool, true, false, cond, nat_eq, List, length}
+use Rattle.std.specs.Prelude.{ℕ, ◌≡◌, ◌≤◌, ◌<◌, ◌++◌, ◌∷◌, [], ◌||◌, ◌&&◌, Bool, true, false, cond, nat_eq, List, length}
 use Rattle.std.specs.Prelude.{Option, Some, None, Result, Ok, Err}
 use Rattle.raster.specs.Packed.{bits_of}
 use Rattle.raster.specs.Pages.{PagePixels}
@@ -8,7 +8,7 @@ use Rattle.page_code.specs.RowsSoFar.{AreWholeRows}
 use Rattle.partial_page.specs.Store.{is_missing, joined_frames}
 use Rattle.signals.specs.Agreement.{pixels_of}
 use Rattle.signals.specs.Reading.{read_content}
-use Rattle.signals.specs.Signals.{PlainSignal, dcs, pps}
+use Rattle.signals.specs.Signals.{PlainSignal, dcn, dcs, pps}
 use Rattle.signals.specs.declared.fault.SignalFault.{SignalFault}
 use Rattle.signals.specs.declared.params.Params.{Params}
 use Rattle.partial_page.specs.Assembling.{Frames}
@@ -47,13 +47,13 @@ abbrev pub IsOpenFront : Capture → List ℕ → Type 0
 IsOpenFront s octets = IsFrontBy s.spoiled s octets
 
 -- a block is the one that waits for frames, or if none waits the next one of the page
-abbrev pub is_its_turn : Option Pps → Mark → ℕ → Bool
-is_its_turn (Some waiting) mark next = same_mark waiting.mark mark
-is_its_turn None mark next = nat_eq mark.block next
+abbrev pub is_its_turn : Option Pps → Mark → Capture → Bool
+is_its_turn (Some waiting) mark s = same_mark waiting.mark mark
+is_its_turn None mark s = nat_eq mark.page s.page && nat_eq mark.block s.next
 
 -- a PPS doesn't give up the open page: its block was whole already, or goes on with the page
 abbrev pub goes_on : Mark → Capture → Bool
-goes_on mark s = is_taken s.taken mark || is_its_turn s.waiting mark s.next
+goes_on mark s = is_taken s.taken mark || is_its_turn s.waiting mark s
 
 -- The octets before the gap of a page that a PPS gives up: if another block waits for frames, those before its first missing one; if none
 -- waits, those of the whole blocks.
@@ -66,9 +66,10 @@ abbrev pub IsFrontAt : Bool → Capture → List ℕ → Type 0
 IsFrontAt true s octets = octets ≡ []
 IsFrontAt false s octets = IsLostFront s.waiting s octets
 
--- the octets that a signal leaves before a gap of the open page: a DCS, after which nothing of it comes, or a PPS
+-- the octets that a signal leaves before a gap of the open page: a DCS or a DCN, after which nothing of it comes, or a PPS
 abbrev pub IsFrontOfSignal : PlainSignal → Capture → List ℕ → Type 0
 IsFrontOfSignal (dcs params) s octets = IsOpenFront s octets
+IsFrontOfSignal dcn s octets = IsOpenFront s octets
 IsFrontOfSignal (pps ends page block last) s octets = IsFrontAt (goes_on (record { page = page; block = block }) s) s octets
 IsFrontOfSignal signal s octets = octets ≡ []
 
@@ -85,15 +86,15 @@ pub record IsFrontPage (params : Params) (octets : List ℕ) (page : PagePixels)
   pub fine_is : page.fine ≡ params.fine
   pub rows_are : AreWholeRows params.coding (pixels_of params.width) (bits_of LsbFirst octets) page.rows
 
--- what a store says of the rows before a gap: the store before, their page, and the store after
+-- what a store says of the rows before a gap: the store before, the number of their page modulo 256, their page, and the store after
 abbrev pub FrontStep : Type 0 → Type 1
-FrontStep S = S → PagePixels → S → Type 0
+FrontStep S = S → ℕ → PagePixels → S → Type 0
 
 -- the store takes the page of the rows before a gap, if that has a row
-abbrev pub GivesFront : {S : Type 0} → FrontStep S → Option Params → List ℕ → S → S → Type 0
-GivesFront fronts None octets old new = new ≡ old
-GivesFront fronts (Some params) octets old new = (page : PagePixels) × IsFrontPage params octets page
-    × (0 < length page.rows → fronts old page new) × (length page.rows ≡ 0 → new ≡ old)
+abbrev pub GivesFront : {S : Type 0} → FrontStep S → Option Params → ℕ → List ℕ → S → S → Type 0
+GivesFront fronts None number octets old new = new ≡ old
+GivesFront fronts (Some params) number octets old new = (page : PagePixels) × IsFrontPage params octets page
+    × (0 < length page.rows → fronts old number page new) × (length page.rows ≡ 0 → new ≡ old)
 
 -- ---- a line
 
@@ -103,7 +104,7 @@ pub record Salvages {S : Type 0} (takes : FoundStep S) (fronts : FrontStep S) (h
   pub octets : List ℕ
   pub front : IsFrontBefore heard s octets
   pub mid : S
-  pub given : GivesFront fronts s.params octets old mid
+  pub given : GivesFront fronts s.params s.page octets old mid
   pub found : TakesEach takes mid (hears_read heard s).found new
 
 -- contents, one after the other, each by `Salvages`
@@ -117,12 +118,12 @@ pub record SalvagesEnd {S : Type 0} (takes : FoundStep S) (fronts : FrontStep S)
   pub octets : List ℕ
   pub front : IsOpenFront s octets
   pub mid : S
-  pub given : GivesFront fronts s.params octets old mid
+  pub given : GivesFront fronts s.params s.page octets old mid
   pub found : TakesEach takes mid (at_end s) new
 
 -- All contents of a line were heard. For each, the store took first the page of the rows before the gap that it leaves, if that has a row,
--- and then what was found. A gap is left by a DCS, by a PPS that gives up the open page, and by the end of the line. The rows are all whole
--- rows in the octets of the page's whole blocks, followed by the open block's frames before its first missing one.
+-- and then what was found. A gap is left by a DCS, a DCN, a PPS that gives up the open page, and the end of the line. The rows are all
+-- whole rows in the octets of the page's whole blocks, followed by the open block's frames before its first missing one.
 pub record SalvagesAll {S : Type 0} (takes : FoundStep S) (fronts : FrontStep S) (contents : List (List ℕ)) (old new : S) : Type 0 where
   pub mid : S
   pub each : SalvagesEach takes fronts contents (empty_capture None) old mid

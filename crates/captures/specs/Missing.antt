@@ -3,10 +3,13 @@ use Rattle.std.specs.Prelude.{ℕ, Bool, true, false, List, [], ◌++◌, codes,
 use Rattle.std.specs.Fmt.{decimal}
 use Rattle.raster.specs.Pages.{PagePixels}
 use Rattle.run_tables.specs.Faults.{number_of}
+use Rattle.signals.specs.declared.signal.PageEnd.{PageEnd}
 use Rattle.captures.specs.PageNumbers.{page_missing}
+use Rattle.captures.specs.Texts.{page_end_text}
 use Rattle.captures.specs.declared.captured.Captured.{Captured}
 use Rattle.captures.specs.declared.numbers.PageNumbers.{PageNumbers}
-use Rattle.captures.specs.declared.captured.Captured.TheVariants.{Page, Unread, MissingFrame, MissingBlocks, Unfinished, BlockBeforeDcs}
+use Rattle.captures.specs.declared.captured.Captured.TheVariants.{Page, MissingPage, Unread, MissingFrame, MissingBlocks, Unfinished}
+use Rattle.captures.specs.declared.captured.Captured.TheVariants.{BlockBeforeDcs, BlockAfterEnd}
 
 -- a page by its number from 1
 abbrev pub page_words : ℕ → List ℕ
@@ -16,10 +19,15 @@ page_words page = codes "page " ++ decimal page
 abbrev pub block_words : ℕ → ℕ → List ℕ
 block_words page block = page_words page ++ (codes " block " ++ decimal block)
 
+-- a block that no DCS went before, after the end of a page
+abbrev pub after_words : ℕ → ℕ → PageEnd → List ℕ
+after_words page block ends = block_words page block ++ (codes ": no DCS after " ++ (page_end_text ends ++ codes ", so it isn't stored"))
+
 -- What is missing of a page in a capture, in words: `page 1 block 0: frame 3 is missing`. The page's number is counted from 1, those of
 -- block and frame from 0, as in PPS and FCD.
 abbrev pub missing_text : Captured → List ℕ
-missing_text (Page page) = []
+missing_text (Page mark page) = []
+missing_text (MissingPage number) = page_words (page_missing (MissingPage number)) ++ codes " is missing"
 missing_text (Unread mark fault) = page_words (page_missing (Unread mark fault))
     ++ (codes ": can't be read, fault " ++ (decimal (number_of fault.kind) ++ (codes " at bit " ++ decimal fault.place)))
 missing_text (MissingFrame mark frame) = block_words (page_missing (MissingFrame mark frame)) mark.block
@@ -27,6 +35,7 @@ missing_text (MissingFrame mark frame) = block_words (page_missing (MissingFrame
 missing_text (MissingBlocks mark) = block_words (page_missing (MissingBlocks mark)) mark.block ++ codes ": the blocks before it are missing"
 missing_text Unfinished = codes "a page has no end"
 missing_text (BlockBeforeDcs mark) = block_words (page_missing (BlockBeforeDcs mark)) mark.block ++ codes ": no DCS before it"
+missing_text (BlockAfterEnd mark ends) = after_words (page_missing (BlockAfterEnd mark ends)) mark.block ends
 
 -- the word for 7.7 or 3.85 lines a millimeter
 abbrev pub lines_word : Bool → List ℕ

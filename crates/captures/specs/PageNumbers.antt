@@ -1,7 +1,8 @@
 -- The numbers of captured pages and of the files that they go to.
 use Rattle.std.specs.Prelude.{ℕ, ◌+◌, ◌-◌, ◌^◌, max, min}
 use Rattle.captures.specs.declared.captured.Captured.{Captured}
-use Rattle.captures.specs.declared.captured.Captured.TheVariants.{Page, Unread, MissingFrame, MissingBlocks, Unfinished, BlockBeforeDcs}
+use Rattle.captures.specs.declared.captured.Captured.TheVariants.{Page, MissingPage, Unread, MissingFrame, MissingBlocks, Unfinished}
+use Rattle.captures.specs.declared.captured.Captured.TheVariants.{BlockBeforeDcs, BlockAfterEnd}
 use Rattle.captures.specs.declared.numbers.PageNumbers.{PageNumbers}
 
 -- the next number, 2^64 - 1 at most
@@ -14,9 +15,11 @@ file_from numbers = max numbers.page (after numbers.file)
 
 -- the number of a page of which something is missing: one more than the number in its PPS; 0 if it isn't known
 abbrev pub page_missing : Captured → ℕ
-page_missing (Page page) = 0
+page_missing (Page mark page) = 0
+page_missing (MissingPage number) = number + 1
 page_missing (Unread mark fault) = mark.page + 1
 page_missing (MissingFrame mark frame) = mark.page + 1
 page_missing (MissingBlocks mark) = mark.page + 1
 page_missing Unfinished = 0
 page_missing (BlockBeforeDcs mark) = mark.page + 1
+page_missing (BlockAfterEnd mark ends) = mark.page + 1

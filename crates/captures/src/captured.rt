@@ -1,8 +1,9 @@
 //! The pages in what is sent on a line, by its signals alone, over any reader.
 
-ghost use Rattle.captures.specs.Captured.{Takes, after_lack, at_end, captured, empty_capture, gathers, gives_up, hears};
-ghost use Rattle.captures.specs.Captured.{hears_block, hears_fcd, hears_pps, hears_read, is_taken, is_waiting, judges, lacking};
-ghost use Rattle.captures.specs.Captured.{later_one, left_open, overlaid, page_in, takes_block, turns_from, turns_to, with_block};
+ghost use Rattle.captures.specs.Captured.{Takes, after_dcs, after_lack, after_page, at_end, captured, due_by, due_for, empty_capture};
+ghost use Rattle.captures.specs.Captured.{gathers, gives_up, hears, hears_block, hears_fcd, hears_pps, hears_read, is_taken, is_waiting};
+ghost use Rattle.captures.specs.Captured.{judges, judges_by, lacking, later_one, left_open, no_dcs, overlaid, page_in, pages_before};
+ghost use Rattle.captures.specs.Captured.{refuses, takes_block, turns_from, turns_page, turns_to, with_block};
 ghost use Rattle.faults.specs.Faults.{IsOutside};
 ghost use Rattle.captures.specs.Fronts.{AppendsFront, IsFrontAt, IsFrontBefore, IsFrontOfSignal, IsLostFront, IsOpenFront, goes_on};
 ghost use Rattle.captures.specs.Fronts.{open_frames};
@@ -32,7 +33,14 @@ use std::marker::Model;
 #[derive(Debug, Drop)]
 pub enum Captured {
     /// A page.
-    Page(Page),
+    Page {
+        /// The mark of its last block.
+        mark: Mark,
+        /// The page.
+        page: Page,
+    },
+    /// A page that is missing: its number, from 0, modulo 256, as a PPS would have it.
+    MissingPage(u8),
     /// A page that can't be read.
     Unread {
         /// The mark of its last block.
@@ -51,8 +59,15 @@ pub enum Captured {
     MissingBlocks(Mark),
     /// A page, or a block of it, has no end.
     Unfinished,
-    /// A block before any DCS.
+    /// A block before any DCS of its call.
     BlockBeforeDcs(Mark),
+    /// A block after the end of a page by EOM or EOP, and before the DCS that must come then.
+    BlockAfterEnd {
+        /// Its mark.
+        mark: Mark,
+        /// What the page before it ended with: EOM or EOP.
+        ends: PageEnd,
+    },
 }
 
 /// What is known while the signals of a line come.
@@ -60,10 +75,12 @@ pub enum Captured {
 pub(crate) struct Capture {
     pub(crate) alloc: Global,
     params: Option<Params>,
+    ended: Option<PageEnd>,
     coming: BlockStore,
     begun: bool,
     block: BlockAssembler,
     taken: Option<Mark>,
+    page: u8,
     octets: Vec<u8>,
     next: u8,
     spoiled: bool,
@@ -77,11 +94,13 @@ impl Model for Capture {
 
     ghost view = { λ c. record {
       params = c.params;
+      ended = c.ended;
       coming = c.coming.frames;
       begun = c.begun;
       waiting = c.block.asked;
       kept = c.block.frames.frames;
       taken = c.taken;
+      page = c.page;
       octets = c.octets.items;
       next = c.next;
       spoiled = c.spoiled;
@@ -116,7 +135,7 @@ fn read_page(
         .coding
         .page(alloc, octets, Order::LsbFirst, width, params.fine)
     {
-        Ok(PageRead::Page(page, _used)) => Ok(Captured::Page(page)),
+        Ok(PageRead::Page(page, _used)) => Ok(Captured::Page { mark, page }),
         Ok(PageRead::Refused(refused, _rows)) => Ok(Captured::Unread {
             mark,
             fault: refused.fault,
@@ -185,6 +204,26 @@ fn name_lacking(frames: &BlockStore, waiting: Pps, out: &mut Vec<Captured>) -> R
     Ok(())
 }
 
+/// The number from which on pages are missing before a page, if another one is due.
+fn due_for(due: u8, page: u8) -> u8
+    ensures { result ≡ due_for due page }
+{
+    // a page far ahead is one of another call, the beginning of which isn't there
+    if page.wrapping_sub(due) < 128 { due } else { 0 }
+}
+
+/// Names the pages from one on to another one, without that.
+fn name_pages(from: u8, page: u8, out: &mut Vec<Captured>) -> Result<(), ToolFault>
+    ensures named { OnOk result (out.new.items ≡ out.old.items
+        ++ map (λ number. Captured.MissingPage number) (pages_before from page)) }
+    ensures fault { IfErr result IsOutside }
+{
+    for further in 0..page.wrapping_sub(from) {
+        tell(out, Captured::MissingPage(from.wrapping_add(further)))?;
+    }
+    Ok(())
+}
+
 /// Appends the frames of a block before the first one that is missing.
 fn append_front(frames: &BlockStore, octets: &mut Vec<u8>) -> Result<(), ToolFault>
     ensures front { OnOk result (AppendsFront frames.now.frames octets.old.items octets.new.items) }
@@ -207,28 +246,40 @@ impl Capture {
         Capture {
             alloc,
             params: None,
+            ended: None,
             coming: BlockStore::new(alloc, false),
             begun: false,
             block: BlockAssembler::new(alloc, false),
             taken: None,
+            page: 0,
             octets: Vec::new(alloc),
             next: 0,
             spoiled: false,
         }
     }
 
+    /// The number of the first page after a DCS: after EOP it begins another call.
+    fn due(&self) -> u8
+        ensures { result ≡ due_by self.now.ended self.now.page }
+    {
+        match self.ended {
+            Some(PageEnd::Eop) => 0,
+            Some(PageEnd::Null | PageEnd::Mps | PageEnd::Eom) | None => self.page,
+        }
+    }
+
     /// After a DCS. Takes no memory.
     fn begin(&mut self, params: Params)
-        ensures { self.new ≡ empty_capture (Some params) }
+        ensures { self.new ≡ after_dcs params self.old }
     {
-        self.params = Some(params);
-        self.coming = BlockStore::new(self.alloc, params.small);
-        self.begun = false;
-        self.block = BlockAssembler::new(self.alloc, params.small);
-        self.taken = None;
-        self.octets.clear();
-        self.next = 0;
-        self.spoiled = false;
+        let page = self.due();
+        *self = Capture {
+            params: Some(params),
+            coming: BlockStore::new(self.alloc, params.small),
+            block: BlockAssembler::new(self.alloc, params.small),
+            page,
+            ..Capture::new(self.alloc)
+        };
     }
 
     /// Returns whether the block with this mark is the one that waits for frames.
@@ -267,21 +318,37 @@ impl Capture {
         self.begun = false;
     }
 
+    /// A page is over.
+    fn turn_over(&mut self, ends: PageEnd, mark: Mark)
+        ensures { self.new ≡ after_page ends mark self.old }
+    {
+        self.page = mark.page.wrapping_add(1);
+        self.octets.clear();
+        self.next = 0;
+        self.spoiled = false;
+        match ends {
+            PageEnd::Null | PageEnd::Mps => {}
+            PageEnd::Eom | PageEnd::Eop => {
+                self.params = None;
+                self.ended = Some(ends);
+            }
+        }
+    }
+
     /// A block of which frames are missing is given up.
     fn spoil(&mut self, waiting: Pps)
         ensures { self.new ≡ after_lack waiting.ends waiting.mark (record self.old { waiting = None; kept = no_frames }) }
     {
         self.block.clear();
-        self.octets.clear();
         match waiting.ends {
             PageEnd::Null => {
                 // the page's code can't go on after the gap, so it isn't read
+                self.octets.clear();
                 self.next = waiting.mark.block.wrapping_add(1);
                 self.spoiled = true;
             }
-            _ => {
-                self.next = 0;
-                self.spoiled = false;
+            PageEnd::Mps | PageEnd::Eom | PageEnd::Eop => {
+                self.turn_over(waiting.ends, waiting.mark);
             }
         }
     }
@@ -311,6 +378,22 @@ impl Capture {
         self.give_up(out)
     }
 
+    /// A block of another page than the open one comes: the pages before it are missing.
+    fn turn_page(&mut self, mark: Mark, out: &mut Vec<Captured>) -> Result<(), ToolFault>
+        ensures taken { OnOk result (Takes (turns_page mark self.old) self.new out.old.items out.new.items) }
+        ensures fault { IfErr result IsOutside }
+    {
+        if mark.page == self.page {
+            return Ok(());
+        }
+        name_pages(due_for(self.page, mark.page), mark.page, out)?;
+        self.page = mark.page;
+        self.octets.clear();
+        self.next = 0;
+        self.spoiled = false;
+        Ok(())
+    }
+
     /// A block comes: if blocks before it are missing, its page can't be read.
     fn turn_to(&mut self, mark: Mark, out: &mut Vec<Captured>) -> Result<(), ToolFault>
         ensures taken { OnOk result (Takes (turns_to mark self.old) self.new out.old.items out.new.items) }
@@ -332,7 +415,7 @@ impl Capture {
         ensures gathered { OnOk result (self.new ≡ gathers self.old) }
         ensures fault { IfErr result IsOutside }
     {
-        // A lost PPS mixes the frames of two blocks. The blocks' numbers then show that one is missing, except in a page of one block.
+        // A lost PPS mixes the frames of two blocks. The numbers of pages and blocks then show that one is missing.
         overlay(&mut self.block.frames, &self.coming)?;
         self.drop_coming();
         Ok(())
@@ -357,22 +440,20 @@ impl Capture {
     fn end_page(
         &mut self,
         params: Params,
-        mark: Mark,
+        pps: Pps,
         out: &mut Vec<Captured>,
     ) -> Result<(), ToolFault>
         ensures taken { OnOk result (Takes (record {
-          then = record self.old { octets = []; next = 0; spoiled = false };
-          found = cond self.old.spoiled [] (page_in params mark self.old.octets ∷ []);
+          then = after_page pps.ends pps.mark self.old;
+          found = cond self.old.spoiled [] (page_in params pps.mark self.old.octets ∷ []);
         }) self.new out.old.items out.new.items) }
         ensures fault { IfErr result IsOutside }
     {
         if !self.spoiled {
-            let found = read_page(self.alloc, params, mark, &self.octets)?;
+            let found = read_page(self.alloc, params, pps.mark, &self.octets)?;
             tell(out, found)?;
         }
-        self.octets.clear();
-        self.next = 0;
-        self.spoiled = false;
+        self.turn_over(pps.ends, pps.mark);
         Ok(())
     }
 
@@ -397,7 +478,7 @@ impl Capture {
                 self.next = pps.mark.block.wrapping_add(1);
                 Ok(())
             }
-            _ => self.end_page(params, pps.mark, out),
+            PageEnd::Mps | PageEnd::Eom | PageEnd::Eop => self.end_page(params, pps, out),
         }
     }
 
@@ -415,39 +496,66 @@ impl Capture {
         Ok(())
     }
 
-    /// A PPS of a block that isn't whole yet.
-    #[tactic(auto, unfolding(crate::specs::Captured::hears_block))]
-    fn hear_block(
-        &mut self,
-        params: Params,
-        pps: Pps,
-        out: &mut Vec<Captured>,
-    ) -> Result<(), ToolFault>
-        ensures taken { OnOk result (Takes (hears_block params pps.ends pps.mark pps.last self.old)
-            self.new out.old.items out.new.items) }
-        ensures fault { IfErr result IsOutside }
+    /// Why a block can't be read where no DCS went before it.
+    fn no_dcs(&self, mark: Mark) -> Captured
+        ensures { result ≡ no_dcs self.now.ended mark }
     {
-        self.turn_from(pps.mark, out)?;
-        self.turn_to(pps.mark, out)?;
-        let counted = self.counted(pps);
-        self.gather()?;
-        self.judge(params, counted, out)
+        match self.ended {
+            Some(ends) => Captured::BlockAfterEnd { mark, ends },
+            None => Captured::BlockBeforeDcs(mark),
+        }
     }
 
-    /// A PPS.
-    fn hear_pps(&mut self, pps: Pps, out: &mut Vec<Captured>) -> Result<(), ToolFault>
-        ensures taken { OnOk result (Takes (hears_pps self.old.params pps.ends pps.mark pps.last self.old)
+    /// A block that no DCS went before.
+    fn refuse(&mut self, pps: Pps, out: &mut Vec<Captured>) -> Result<(), ToolFault>
+        ensures taken { OnOk result (Takes (refuses pps.ends pps.mark self.old) self.new out.old.items out.new.items) }
+        ensures fault { IfErr result IsOutside }
+    {
+        tell(out, self.no_dcs(pps.mark))?;
+        self.spoil(pps);
+        self.drop_coming();
+        self.taken = Some(pps.mark);
+        Ok(())
+    }
+
+    /// A block whose turn it is.
+    fn judge_by_dcs(&mut self, pps: Pps, out: &mut Vec<Captured>) -> Result<(), ToolFault>
+        ensures taken { OnOk result (Takes (judges_by self.old.params pps.ends pps.mark pps.last self.old)
             self.new out.old.items out.new.items) }
         ensures fault { IfErr result IsOutside }
     {
         let Some(params) = self.params else {
-            return tell(out, Captured::BlockBeforeDcs(pps.mark));
+            return self.refuse(pps, out);
         };
+        self.gather()?;
+        self.judge(params, pps, out)
+    }
+
+    /// A PPS of a block that isn't whole yet.
+    #[tactic(auto, unfolding(crate::specs::Captured::hears_block))]
+    fn hear_block(&mut self, pps: Pps, out: &mut Vec<Captured>) -> Result<(), ToolFault>
+        ensures taken { OnOk result (Takes (hears_block pps.ends pps.mark pps.last self.old)
+            self.new out.old.items out.new.items) }
+        ensures fault { IfErr result IsOutside }
+    {
+        self.turn_from(pps.mark, out)?;
+        self.turn_page(pps.mark, out)?;
+        self.turn_to(pps.mark, out)?;
+        let counted = self.counted(pps);
+        self.judge_by_dcs(counted, out)
+    }
+
+    /// A PPS.
+    fn hear_pps(&mut self, pps: Pps, out: &mut Vec<Captured>) -> Result<(), ToolFault>
+        ensures taken { OnOk result (Takes (hears_pps pps.ends pps.mark pps.last self.old)
+            self.new out.old.items out.new.items) }
+        ensures fault { IfErr result IsOutside }
+    {
         if self.is_taken(pps.mark) {
             self.drop_coming();
             return Ok(());
         }
-        self.hear_block(params, pps, out)
+        self.hear_block(pps, out)
     }
 
     /// An FCD.
@@ -457,6 +565,7 @@ impl Capture {
         ensures fault { IfErr result IsOutside }
     {
         let Some(_params) = self.params else {
+            self.begun = true;
             return Ok(());
         };
         match self.coming.put(number, octets) {
@@ -485,6 +594,7 @@ impl Capture {
     #[tactic(auto, unfolding(crate::specs::Captured::at_end))]
     pub(crate) fn end(&mut self, out: &mut Vec<Captured>) -> Result<(), ToolFault>
         ensures named { OnOk result (out.new.items ≡ out.old.items ++ at_end self.old) }
+        ensures left { OnOk result (self.new ≡ (gives_up self.old self.old.waiting).then) }
         ensures fault { IfErr result IsOutside }
     {
         self.give_up(out)?;
@@ -496,6 +606,13 @@ impl Capture {
         ensures { result ≡ self.now.params }
     {
         self.params
+    }
+
+    /// The number of the open page, modulo 256.
+    pub(crate) fn page(&self) -> u8
+        ensures { result ≡ self.now.page }
+    {
+        self.page
     }
 
     /// Appends the frames of the open block before the first one that is missing.
@@ -557,7 +674,7 @@ impl Capture {
         }
         match self.block.asked {
             Some(waiting) => waiting.mark.is_same(mark),
-            None => mark.block == self.next,
+            None => mark.page == self.page && mark.block == self.next,
         }
     }
 
@@ -572,13 +689,13 @@ impl Capture {
         self.lost_front()
     }
 
-    /// The octets before the gap of the open page that a signal leaves: a DCS, or a PPS that gives the page up.
+    /// The octets before the gap of the open page that a signal leaves: a DCS or a DCN, or a PPS that gives the page up.
     fn front_of(&self, signal: &Signal<'_>) -> Result<Vec<u8>, ToolFault>
         ensures front { IfOk result (λ octets. IsFrontOfSignal (plain signal.now) self.now octets.items) }
         ensures fault { IfErr result IsOutside }
     {
         match signal {
-            Signal::Dcs(_) => self.open_front(),
+            Signal::Dcs(_) | Signal::Dcn => self.open_front(),
             Signal::Pps { page, block, .. } => self.front_at(Mark {
                 page: *page,
                 block: *block,
@@ -608,6 +725,11 @@ impl Capture {
             Signal::Dcs(params) => {
                 self.end(out)?;
                 self.begin(params);
+                Ok(())
+            }
+            Signal::Dcn => {
+                self.end(out)?;
+                *self = Capture::new(self.alloc);
                 Ok(())
             }
             Signal::Fcd { number, octets } => self.hear_fcd(number, octets),

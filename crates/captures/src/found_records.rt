@@ -11,6 +11,7 @@ ghost use Rattle.std.specs.Prelude.{◌≡◌, IfErr, IfOk, OnOk};
 use crate::captured::Captured;
 use crate::missing::Stored;
 use crate::numbers::missing_page;
+use crate::texts::page_end;
 use faults::{ToolFault, short_place, write_record};
 use serde_json::{Value, json};
 use signals::Mark;
@@ -67,7 +68,8 @@ fn missing_record(alloc: Global, found: &Captured) -> Result<Value, AllocError>
 {
     let page = missing_page(found);
     match found {
-        Captured::Page(_) => Ok(Value::Null),
+        Captured::Page { .. } => Ok(Value::Null),
+        Captured::MissingPage(_) => json!(in alloc; {"missing": "page", "page": page}),
         Captured::Unread { mark: _, fault } => json!(in alloc; {
             "missing": "page",
             "page": page,
@@ -83,6 +85,12 @@ fn missing_record(alloc: Global, found: &Captured) -> Result<Value, AllocError>
         Captured::MissingBlocks(mark) => block_record(alloc, "blocks before", page, *mark),
         Captured::Unfinished => json!(in alloc; {"missing": "end of page"}),
         Captured::BlockBeforeDcs(mark) => block_record(alloc, "DCS", page, *mark),
+        Captured::BlockAfterEnd { mark, ends } => json!(in alloc; {
+            "missing": "DCS",
+            "page": page,
+            "block": mark.block,
+            "after": page_end(*ends),
+        }),
     }
 }
 

@@ -9,7 +9,7 @@ ghost use Rattle.raster.specs.Packed.{bits_of};
 ghost use Rattle.raster.specs.Pages.{PagePixels};
 ghost use Rattle.signals.specs.Reading.{read_content};
 ghost use Rattle.std.specs.Io.KnownBytes.{Appends};
-ghost use Rattle.std.specs.Prelude.{◌≡◌, ◌↔◌, IfErr, IfOk, IfSome, IsTrue, OnOk};
+ghost use Rattle.std.specs.Prelude.{ℕ, ◌≡◌, ◌↔◌, IfErr, IfOk, IfSome, IsTrue, OnOk};
 
 use crate::captured::Capture;
 use crate::content_reader::ContentReader;
@@ -25,12 +25,13 @@ use std::io::{Read, Write};
 
 /// Takes the rows of pages before their gaps.
 pub trait FrontStore {
-    // What it is that rows before a gap are taken: the store before, the page of the rows, and the store after.
-    ghost fronts: { Self → PagePixels → Self → Type 0 };
+    // What it is that rows before a gap are taken: the store before, the page's number, the page of the rows, and the store after.
+    ghost fronts: { Self → ℕ → PagePixels → Self → Type 0 };
 
-    /// Takes the page of the rows before a gap, at least one. Errors: `Io` (8) if it can't be stored, `NoMemory` (9).
-    fn take_front(&mut self, page: Page) -> Result<(), ToolFault>
-        ensures taken { OnOk result (fronts self.old page self.new) }
+    /// Takes the page of the rows before a gap, at least one, with the page's number from 0, modulo 256. Errors: `Io` (8) if it can't be
+    /// stored, `NoMemory` (9).
+    fn take_front(&mut self, number: u8, page: Page) -> Result<(), ToolFault>
+        ensures taken { OnOk result (fronts self.old number page self.new) }
         ensures fault { IfErr result IsOutside };
 }
 
@@ -48,10 +49,11 @@ fn front_page(alloc: Global, params: Params, octets: &[u8]) -> Result<Page, Allo
 fn give_front<S: FrontStore>(
     alloc: Global,
     params: Option<Params>,
+    number: u8,
     octets: &[u8],
     store: &mut S,
 ) -> Result<(), ToolFault>
-    ensures given { OnOk result (GivesFront S.fronts params octets.now store.old store.new) }
+    ensures given { OnOk result (GivesFront S.fronts params number octets.now store.old store.new) }
     ensures fault { IfErr result IsOutside }
 {
     let Some(params) = params else {
@@ -61,7 +63,7 @@ fn give_front<S: FrontStore>(
     if page.rows().is_empty() {
         return Ok(());
     }
-    store.take_front(page)
+    store.take_front(number, page)
 }
 
 /// Writes the line of a good frame and flushes the writer, then gives the store the rows before the gap that it leaves, and what its signal
@@ -81,13 +83,14 @@ fn salvage_frame<W: Write, S: FoundStore + FrontStore>(
 {
     write_frame(capture.alloc, number, content, how, writer)?;
     let params = capture.params();
+    let page = capture.page();
     let front = capture.front_before(content)?;
     let mut found = Vec::new(capture.alloc);
     capture.hear_content(content, &mut found)?;
     if !found.is_empty() {
         writer.flush()?;
     }
-    give_front(capture.alloc, params, &front, store)?;
+    give_front(capture.alloc, params, page, &front, store)?;
     give_all(found, store)
 }
 
@@ -100,15 +103,16 @@ fn salvage_end<S: FoundStore + FrontStore>(
     ensures fault { IfErr result IsOutside }
 {
     let params = capture.params();
+    let page = capture.page();
     let front = capture.open_front()?;
     let mut found = Vec::new(capture.alloc);
     capture.end(&mut found)?;
-    give_front(capture.alloc, params, &front, store)?;
+    give_front(capture.alloc, params, page, &front, store)?;
     give_all(found, store)
 }
 
 /// Does what `pages_engine` does, and gives the store also the whole rows before the first gap of a page that isn't whole, before what is
-/// missing of it. A gap shows at a DCS, at a PPS that gives up the open page, or at the end. Errors are those of `pages_engine`.
+/// missing of it. A gap shows at a DCS, a DCN, a PPS that gives up the open page, or the end. Errors are those of `pages_engine`.
 pub fn salvage_pages_engine<R: Read, W: Write, S: FoundStore + FrontStore>(
     alloc: Global,
     reader: &mut R,

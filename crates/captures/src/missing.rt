@@ -4,8 +4,9 @@ ghost use Rattle.std.specs.Prelude.{◌≡◌};
 
 use crate::captured::Captured;
 use crate::numbers::{PageNumbers, missing_page};
+use crate::texts::page_end;
 use raster::Page;
-use signals::Mark;
+use signals::{Mark, PageEnd};
 use std::fmt;
 
 /// A block by the number of its page, from 1, and its own.
@@ -38,6 +39,41 @@ impl fmt::Display for BlockText {
     }
 }
 
+/// A block that no DCS went before, after the end of a page by EOM or EOP.
+#[derive(Clone, Copy, Drop)]
+struct AfterText {
+    block: BlockText,
+    ends: PageEnd,
+}
+
+impl AfterText {
+    /// The block of a mark.
+    fn of(page: u64, mark: &Mark, ends: PageEnd) -> AfterText
+        ensures { result ≡ record { block = record { page = page; block = mark.now.block }; ends = ends } }
+    {
+        AfterText {
+            block: BlockText::of(page, mark),
+            ends,
+        }
+    }
+}
+
+impl fmt::Display for AfterText {
+    ghost use Rattle.std.specs.Prelude.{Some};
+    ghost use Rattle.captures.specs.Missing.{after_words};
+
+    ghost output = { λ text. Some (after_words text.block.page text.block.block text.ends) };
+
+    fn fmt<W: fmt::Write>(&self, f: &mut fmt::Formatter<W>) -> fmt::Result {
+        write!(
+            f,
+            "{}: no DCS after {}, so it isn't stored",
+            self.block,
+            page_end(self.ends),
+        )
+    }
+}
+
 /// What is missing of a page in a capture, on a line without its LF. The page's number is counted from 1, those of block and frame from 0,
 /// as in PPS and FCD. Empty for a whole page.
 #[derive(Clone, Copy, Drop)]
@@ -52,7 +88,8 @@ impl fmt::Display for Missing<'_> {
     fn fmt<W: fmt::Write>(&self, f: &mut fmt::Formatter<W>) -> fmt::Result {
         let page = missing_page(self.0);
         match self.0 {
-            Captured::Page(_) => Ok(()),
+            Captured::Page { .. } => Ok(()),
+            Captured::MissingPage(_) => write!(f, "page {page} is missing"),
             Captured::Unread { mark: _, fault } => write!(
                 f,
                 "page {page}: can't be read, fault {} at bit {}",
@@ -70,6 +107,9 @@ impl fmt::Display for Missing<'_> {
             Captured::Unfinished => write!(f, "a page has no end"),
             Captured::BlockBeforeDcs(mark) => {
                 write!(f, "{}: no DCS before it", BlockText::of(page, mark))
+            }
+            Captured::BlockAfterEnd { mark, ends } => {
+                write!(f, "{}", AfterText::of(page, mark, *ends))
             }
         }
     }

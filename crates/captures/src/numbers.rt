@@ -1,10 +1,10 @@
 //! The numbers of captured pages and of the files that they go to.
-ghost use Rattle.captures.specs.PageNumbers.{after, file_from, page_missing};
-ghost use Rattle.std.specs.Prelude.{◌≡◌, max, nat_eq, not};
+ghost use Rattle.captures.specs.PageNumbers.{file_from, page_missing};
+ghost use Rattle.std.specs.Prelude.{◌≡◌, ◌+◌, nat_eq, not};
 
 use crate::captured::Captured;
 
-/// The numbers of the last page found and of the last file written, from 1; 0 before the first.
+/// The numbers of the last page found, one more than in its PPS, and of the last file written, from 1; 0 before the first.
 #[derive(Clone, Copy, Debug, PartialEq, Eq)]
 pub struct PageNumbers {
     /// The last page's number.
@@ -21,12 +21,13 @@ impl PageNumbers {
         PageNumbers { page: 0, file: 0 }
     }
 
-    /// Counts a page, and returns the first number that its file may have: its own, or the one after the last file.
-    pub fn found(&mut self) -> u64
-        ensures new { self.new ≡ record self.old { page = after self.old.page } }
+    /// Notes a page by its number in its PPS, and returns the first number that its file may have: the page's own, from 1, or the one after
+    /// the last file.
+    pub fn found(&mut self, number: u8) -> u64
+        ensures new { self.new ≡ record self.old { page = number + 1 } }
         ensures from { result ≡ file_from self.new }
     {
-        self.page = self.page.saturating_add(1);
+        self.page = u64::from(number) + 1;
         self.page.max(self.file.saturating_add(1))
     }
 
@@ -38,17 +39,6 @@ impl PageNumbers {
         self.file = file;
         file != self.page
     }
-
-    /// Notes that something is missing of a page, and returns the page's number: one more than in its PPS, 0 if that isn't known. Later
-    /// pages have greater numbers.
-    pub fn missing(&mut self, found: &Captured) -> u64
-        ensures number { result ≡ page_missing found.now }
-        ensures new { self.new ≡ record self.old { page = max self.old.page result } }
-    {
-        let page = missing_page(found);
-        self.page = self.page.max(page);
-        page
-    }
 }
 
 /// Returns the number of a page of which something is missing, from 1; 0 if it isn't known.
@@ -59,7 +49,9 @@ pub(crate) fn missing_page(found: &Captured) -> u64
         Captured::Unread { mark, .. }
         | Captured::MissingFrame { mark, .. }
         | Captured::MissingBlocks(mark)
-        | Captured::BlockBeforeDcs(mark) => u64::from(mark.page) + 1,
-        Captured::Page(_) | Captured::Unfinished => 0,
+        | Captured::BlockBeforeDcs(mark)
+        | Captured::BlockAfterEnd { mark, .. } => u64::from(mark.page) + 1,
+        Captured::MissingPage(number) => u64::from(*number) + 1,
+        Captured::Page { .. } | Captured::Unfinished => 0,
     }
 }

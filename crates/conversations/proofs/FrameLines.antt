@@ -34,7 +34,7 @@ use Rattle.conversations.specs.Writing.{frames_words}
 use Rattle.conversations.specs.declared.carrier.Channel.TheVariants.{V21}
 use Rattle.conversations.specs.declared.carrier.Kind.TheVariants.{Frames}
 use Rattle.conversations.specs.declared.line.Said.{Said}
-use Rattle.conversations.specs.declared.line.Said.TheVariants.{Quiet, Busy, Received, NotReady, Ready, Missed, Stop, End}
+use Rattle.conversations.specs.declared.line.Said.TheVariants.{Quiet, Busy, Received, NotReady, Ready, Missed, Told, Stop, End}
 
 -- ---- frames one after the other
 
@@ -199,6 +199,7 @@ said_so burst count octets come Busy e = cc
 said_so burst count octets come NotReady e = cc
 said_so burst count octets come Ready e = cc
 said_so burst count octets come Missed e = cc
+said_so burst count octets come (Told fate file) e = cc
 said_so burst count octets come Stop e = cc
 said_so burst count octets come End e = cc
 
@@ -221,11 +222,11 @@ reads_frames_sent burst time at number most =
       same = alone_heard (contents_text list) (packed frames.0) (length frames.0) coded;
       says = λ said e. record {
         most = most;
-        words = inr (
+        words = inr (inl (
           spaced (time ∷ frames_words burst ∷ []),
           refl,
           (time, frames_words burst, refl, number, said_so (frames_words burst) (length frames.0) (packed frames.0) come said e),
-        );
+        ));
       };
     }
 

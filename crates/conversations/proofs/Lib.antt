@@ -4,6 +4,7 @@ pub mod FrameLines
 pub mod FramesWritten
 pub mod TalkedLines
 mod HexPieces
+pub mod FullAnswerer
 pub mod Led
 mod LineOctets
 mod ServedLines

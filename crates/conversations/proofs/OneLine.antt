@@ -21,18 +21,21 @@ use Rattle.conversations.specs.LineLaws.{AnswerersFitLines, CallersFitLines, Sen
 use Rattle.conversations.specs.LineLaws.{quiet, busy, not_ready, ready, missed, stop, ended, received, plain_said, rx_line}
 use Rattle.conversations.proofs.FrameWords.{not_in_bits, one_coded, same_after}
 use Rattle.conversations.specs.FrameLines.{AreCoded, IsInFrames}
-use Rattle.conversations.specs.Lines.{AreBits, HasCome, IsBurst, IsNumber, IsReceived, IsWordOf, ReceivedAfter}
+use Rattle.conversations.specs.Lines.{AreBits, HasCome, IsBurst, IsNumber, IsReceived, IsReceivedLine, IsTimed, IsTold, IsToldLine, IsWordOf}
+use Rattle.conversations.specs.Lines.{ReceivedAfter, ToldAfter, fate_word}
 use Rattle.conversations.specs.Lines.{channel_name, kind_name, octets_for, spaced}
 use Rattle.conversations.specs.Writing.{burst_words, channel_of, kind_of}
 use Rattle.conversations.specs.declared.carrier.Channel.{Channel}
 use Rattle.conversations.specs.declared.carrier.Channel.TheVariants.{V21, Message}
 use Rattle.conversations.specs.declared.carrier.Kind.{Kind}
 use Rattle.conversations.specs.declared.carrier.Kind.TheVariants.{Frames, Check}
+use Rattle.conversations.specs.declared.line.Fate.{Fate}
+use Rattle.conversations.specs.declared.line.Fate.TheVariants.{Kept, Lost}
 use Rattle.conversations.specs.declared.line.Said.{Said}
-use Rattle.conversations.specs.declared.line.Said.TheVariants.{Quiet, Busy, Received, NotReady, Ready, Missed, Stop, End}
+use Rattle.conversations.specs.declared.line.Said.TheVariants.{Quiet, Busy, Received, NotReady, Ready, Missed, Told, Stop, End}
 use Rattle.conversations.specs.declared.line.TimedLine.{TimedLine}
 use Rattle.conversations.proofs.Words.{bits_are, channel_solid, kind_solid, number_solid, one_number, same_cut, word_is_not_rx, word_solid}
-use Rattle.conversations.proofs.Words.{ok_is, rx_solid}
+use Rattle.conversations.proofs.Words.{fate_is_not_rx, fate_solid, ok_is, rx_solid, word_is_no_fate}
 
 -- ---- names
 
@@ -94,6 +97,7 @@ is_said_back word (Received channel kind bits octets) h = absurd h
 is_said_back word NotReady h = rw h refl
 is_said_back word Ready h = rw h refl
 is_said_back word Missed h = rw h refl
+is_said_back word (Told fate file) h = absurd h
 is_said_back word Stop h = rw h refl
 is_said_back word End h = rw h refl
 
@@ -134,6 +138,7 @@ one_received text (Received c k n xs) Busy h g = absurd g
 one_received text (Received c k n xs) NotReady h g = absurd g
 one_received text (Received c k n xs) Ready h g = absurd g
 one_received text (Received c k n xs) Missed h g = absurd g
+one_received text (Received c k n xs) (Told fate file) h g = absurd g
 one_received text (Received c k n xs) Stop h g = absurd g
 one_received text (Received c k n xs) End h g = absurd g
 one_received text Quiet other h g = absurd h
@@ -141,6 +146,7 @@ one_received text Busy other h g = absurd h
 one_received text NotReady other h g = absurd h
 one_received text Ready other h g = absurd h
 one_received text Missed other h g = absurd h
+one_received text (Told fate file) other h g = absurd h
 one_received text Stop other h g = absurd h
 one_received text End other h g = absurd h
 
@@ -156,25 +162,93 @@ one_after text one other (time, burst, is, number, came) (time', burst', is', nu
       one_received burst' one.said other.said (subst (λ b. IsReceived b one.said) cut.1 came) came',
     )
 
+-- the fate of a word
+abbrev fate_back : List ℕ → Fate
+fate_back word = cond (nat_eq (at word 0) 107) Kept Lost
+
+is_fate_back : (fate : Fate) → fate ≡ fate_back (fate_word fate)
+is_fate_back Kept = refl
+is_fate_back Lost = refl
+
+one_told : (fate : Fate) (name : List ℕ) (said other : Said) → IsTold fate name said → IsTold fate name other →
+    plain_said said ≡ plain_said other
+one_told fate name (Told f file) (Told g last) (is_f, is) (is_g, was) = rw (is_f, is_g, is, was) refl
+one_told fate name (Told f file) Quiet h g = absurd g
+one_told fate name (Told f file) Busy h g = absurd g
+one_told fate name (Told f file) (Received c k n xs) h g = absurd g
+one_told fate name (Told f file) NotReady h g = absurd g
+one_told fate name (Told f file) Ready h g = absurd g
+one_told fate name (Told f file) Missed h g = absurd g
+one_told fate name (Told f file) Stop h g = absurd g
+one_told fate name (Told f file) End h g = absurd g
+one_told fate name Quiet other h g = absurd h
+one_told fate name Busy other h g = absurd h
+one_told fate name (Received c k n xs) other h g = absurd h
+one_told fate name NotReady other h g = absurd h
+one_told fate name Ready other h g = absurd h
+one_told fate name Missed other h g = absurd h
+one_told fate name Stop other h g = absurd h
+one_told fate name End other h g = absurd h
+
+told_after : (fate : Fate) (text : List ℕ) (one other : TimedLine) → ToldAfter fate text one → ToldAfter fate text other → Alike one other
+told_after fate text one other (time, name, is, number, tells) (time', name', is', number', tells') =
+    let cut =
+    same_cut text time' name' time name (number_solid 15 time' other.at number') is' (number_solid 15 time one.at number) is in (
+      one_number 15 15 time' one.at other.at (subst (λ d. IsNumber 15 d one.at) cut.0 number) number',
+      one_told fate name' one.said other.said (subst (λ n. IsTold fate n one.said) cut.1 tells) tells',
+    )
+
+-- a word and the time say one thing
+timed_alike : (line : List ℕ) (one other : TimedLine) → IsTimed line one → IsTimed line other → Alike one other
+timed_alike line one other t u =
+    let cut = same_cut line u.0 u.1 t.0 t.1 (word_solid u.0 other.said u.3) u.2 (word_solid t.0 one.said t.3) t.2 in (
+      one_number 15 15 u.1 one.at other.at (subst (λ d. IsNumber 15 d one.at) cut.1 t.4) u.4,
+      is_said_back t.0 one.said t.3 ∙ (ap word_back cut.0 ∙ sym (is_said_back u.0 other.said u.3)),
+    )
+
+received_alike : (line : List ℕ) (one other : TimedLine) → IsReceivedLine line one → IsReceivedLine line other → Alike one other
+received_alike line one other r s =
+    let cut = same_cut line (codes "rx") s.0 (codes "rx") r.0 rx_solid s.1 rx_solid r.1 in
+    one_after s.0 one other (subst (λ text. ReceivedAfter text one) cut.1 r.2) s.2
+
+told_alike : (line : List ℕ) (one other : TimedLine) → IsToldLine line one → IsToldLine line other → Alike one other
+told_alike line one other (fate, after, is, tells) (fate', after', is', tells') =
+    let cut = same_cut line (fate_word fate') after' (fate_word fate) after (fate_solid fate') is' (fate_solid fate) is in
+    let same : fate ≡ fate' = is_fate_back fate ∙ (ap fate_back cut.0 ∙ sym (is_fate_back fate')) in
+    told_after fate' after' one other
+    (subst (λ f. ToldAfter f after' one) same (subst (λ text. ToldAfter fate text one) cut.1 tells)) tells'
+
+timed_not_received : (line : List ℕ) (one other : TimedLine) → IsTimed line one → IsReceivedLine line other → ⊥
+timed_not_received line one other t r =
+    let cut = same_cut line (codes "rx") r.0 t.0 t.1 rx_solid r.1 (word_solid t.0 one.said t.3) t.2 in
+    word_is_not_rx t.0 one.said t.3 cut.0
+
+timed_not_told : (line : List ℕ) (one other : TimedLine) → IsTimed line one → IsToldLine line other → ⊥
+timed_not_told line one other t (fate, after, is, tells) =
+    let cut = same_cut line (fate_word fate) after t.0 t.1 (fate_solid fate) is (word_solid t.0 one.said t.3) t.2 in
+    word_is_no_fate t.0 one.said fate t.3 (sym cut.0)
+
+received_not_told : (line : List ℕ) (one other : TimedLine) → IsReceivedLine line one → IsToldLine line other → ⊥
+received_not_told line one other r (fate, after, is, tells) =
+    let cut = same_cut line (codes "rx") r.0 (fate_word fate) after rx_solid r.1 (fate_solid fate) is in
+    fate_is_not_rx fate cut.0
+
 pub says_one_thing : SaysOneThing
 says_one_thing line one other h k = elim h.words [
   | inl t ↦ elim k.words [
-    | inl u ↦
-        let cut = same_cut line u.0 u.1 t.0 t.1 (word_solid u.0 other.said u.3) u.2 (word_solid t.0 one.said t.3) t.2 in (
-          one_number 15 15 u.1 one.at other.at (subst (λ d. IsNumber 15 d one.at) cut.1 t.4) u.4,
-          is_said_back t.0 one.said t.3 ∙ (ap word_back cut.0 ∙ sym (is_said_back u.0 other.said u.3)),
-        )
-    | inr r ↦
-        let cut = same_cut line (codes "rx") r.0 t.0 t.1 rx_solid r.1 (word_solid t.0 one.said t.3) t.2 in
-        absurd (word_is_not_rx t.0 one.said t.3 cut.0)
+    | inl u ↦ timed_alike line one other t u
+    | inr (inl r) ↦ absurd (timed_not_received line one other t r)
+    | inr (inr f) ↦ absurd (timed_not_told line one other t f)
   ]
-  | inr r ↦ elim k.words [
-    | inl u ↦
-        let cut = same_cut line (codes "rx") r.0 u.0 u.1 rx_solid r.1 (word_solid u.0 other.said u.3) u.2 in
-        absurd (word_is_not_rx u.0 other.said u.3 cut.0)
-    | inr s ↦
-        let cut = same_cut line (codes "rx") s.0 (codes "rx") r.0 rx_solid s.1 rx_solid r.1 in
-        one_after s.0 one other (subst (λ text. ReceivedAfter text one) cut.1 r.2) s.2
+  | inr (inl r) ↦ elim k.words [
+    | inl u ↦ absurd (timed_not_received line other one u r)
+    | inr (inl s) ↦ received_alike line one other r s
+    | inr (inr f) ↦ absurd (received_not_told line one other r f)
+  ]
+  | inr (inr f) ↦ elim k.words [
+    | inl u ↦ absurd (timed_not_told line other one u f)
+    | inr (inl s) ↦ absurd (received_not_told line other one s f)
+    | inr (inr g) ↦ told_alike line one other f g
   ]
 ]
 
@@ -244,7 +318,7 @@ fits_so burst time n fits number =
 pub reads_what_is_sent : ReadsWhatIsSent
 reads_what_is_sent burst time n fits number = record {
   most = fits_so burst time n fits number;
-  words = inr (
+  words = inr (inl (
     spaced (time ∷ burst_words burst ∷ []),
     refl,
     (
@@ -254,7 +328,7 @@ reads_what_is_sent burst time n fits number = record {
       number,
       inl (spaced (decimal burst.bits ∷ encode_upper burst.octets.items ∷ []), refl, sent_bits burst fits),
     ),
-  );
+  ));
 }
 
 filled_size : (bits : List Bool) (octets : List ℕ) → FillsOctets LsbFirst bits octets → length octets ≡ octets_for (length bits)

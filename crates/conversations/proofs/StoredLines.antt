@@ -9,18 +9,18 @@ use Rattle.conversations.specs.Answering.{StoreStep, StoresEach, limited_behavio
 use Rattle.conversations.specs.Conversations.{ConversationFields, Gives, PlainGiven, SendsIfBegun, TakesLine, gives, heard_given, line_gives}
 use Rattle.conversations.specs.Conversations.{missed_given, refused_so, state_of, stopped_for}
 use Rattle.conversations.specs.Refusing.{refusal_in}
-use Rattle.conversations.specs.declared.refusing.Refusal.{Refusal}
+use Rattle.terminals.specs.declared.watching.Refusal.{Refusal}
 use Rattle.conversations.specs.Conversations.{over_given, nothing, stopping, losing, frames, input}
 use Rattle.conversations.specs.Conversing.{AnswersAll, AnswersNext, TalkState}
 use Rattle.conversations.specs.Lines.{Says}
 use Rattle.conversations.specs.StoredLines.{AreOfLine, AreOfLines, IsNewAnswerer, LastIsSaid, RefusedIsLast, StoredIsSaid}
 use Rattle.conversations.specs.StoredLines.{received_octets, signals_in, storing}
-use Rattle.conversations.specs.Talking.{GivesAll}
+use Rattle.conversations.specs.Talking.{GivesAll, Withholds}
 use Rattle.conversations.specs.Hearing.{heard_as}
 use Rattle.conversations.specs.declared.hearing.Heard.{Heard}
 use Rattle.conversations.specs.declared.hearing.Heard.TheVariants.{Frames, Check, Nothing}
 use Rattle.conversations.specs.declared.line.Said.{Said}
-use Rattle.conversations.specs.declared.line.Said.TheVariants.{Quiet, Busy, Received, NotReady, Ready, Missed, Stop, End}
+use Rattle.conversations.specs.declared.line.Said.TheVariants.{Quiet, Busy, Received, NotReady, Ready, Missed, Told, Stop, End}
 use Rattle.conversations.specs.declared.line.TimedLine.{TimedLine}
 use Rattle.hdlc.specs.Flags as Flags
 use Rattle.raster.specs.Packed as Packed
@@ -179,6 +179,7 @@ gives_of begun side shown c d (Received channel kind bits octets) =
 gives_of begun side shown c d NotReady = record { octets = inl refl; none = λ signal is. cc }
 gives_of begun side shown c d Ready = record { octets = inl refl; none = λ signal is. cc }
 gives_of begun side shown c d Missed = gives_if begun _ Missed (gives_missed shown.listens Missed)
+gives_of begun side shown c d (Told fate file) = gives_nothing (Told fate file)
 gives_of begun side shown c d Stop = record { octets = inl refl; none = tt }
 gives_of begun side shown c d End = record { octets = inl refl; none = tt }
 
@@ -216,6 +217,18 @@ gives_all side lends old new (burst ∷ bursts) is =
     let one = gives_next side lends old.begun old is.0 (Some burst) is.1 in
     let rest = gives_all side lends is.0 new bursts is.2 in
     record { framing = rest.framing ∙ one.framing; station = rest.station ∙ one.station }
+
+stays_through : (old mid new : ConversationFields LimitedFields) → StaysSo old mid → StaysSo mid new → StaysSo old new
+stays_through old mid new one rest =
+    record { framing = rest.framing ∙ one.framing; station = rest.station ∙ one.station }
+
+withheld_stays : (side : Side) (lends : BurstsOf LimitedFields) (old new : ConversationFields LimitedFields) (late : Bool) →
+    Withholds side lends old late new → StaysSo old new
+withheld_stays side lends old new false is = record {
+  framing = ap (λ (c : ConversationFields LimitedFields). c.terminal.framing) is;
+  station = ap (λ (c : ConversationFields LimitedFields). c.terminal.speaking.station) is;
+}
+withheld_stays side lends old new true (bursts, gives) = gives_all side lends old new bursts gives
 
 stays_so : (caps : Caps) (params : Params) (old new : ConversationFields LimitedFields) (octets : List ℕ) → StaysSo old new →
     Stands caps params old.terminal octets → Stands caps params new.terminal octets
@@ -270,11 +283,11 @@ record StoredLine (P : Type 0) (stores : StoreStep P) (caps : Caps) (params : Pa
   read : Each (IsReadOf caps (signals_in (octets ++ here))) pages
   stands : Stands caps params new.conversation.terminal (octets ++ here)
 
-stored_line : CutsChangeNothing → StoredIsRead → TakenAndThere → LimitedServes → {P : Type 0} (stores refuses : StoreStep P) (caps : Caps)
+stored_line : CutsChangeNothing → StoredIsRead → TakenAndThere → LimitedServes → {P : Type 0} (stores refuses : StoreStep P) (takes : P → Said → Bool) (tells : P → List ℕ) (caps : Caps)
     (params : Params) (line octets : List ℕ) (over : Bool) (old new : TalkState LimitedFields P) →
     Stands caps params old.conversation.terminal octets →
-    AnswersNext LimitedFields P (storing stores refuses) old new line true over → StoredLine P stores caps params line octets old new
-stored_line cuts stored there limited {P} stores refuses caps params line octets over old new h is =
+    AnswersNext LimitedFields P (storing stores refuses takes tells) old new line true over → StoredLine P stores caps params line octets old new
+stored_line cuts stored there limited {P} stores refuses takes tells caps params line octets over old new h is =
     let a = is.answered in
     let l = heard_line cuts caps params line octets a.timed old.conversation a.heard h a.says a.takes in
     record {
@@ -287,7 +300,8 @@ stored_line cuts stored there limited {P} stores refuses caps params line octets
           l.stands.serves;
       stands =
           stays_so caps params a.ready new.conversation (octets ++ l.here)
-          (gives_all limited_behaviour.side _ a.ready new.conversation a.writes.bursts a.writes.gives)
+          (stays_through a.ready a.left new.conversation (withheld_stays limited_behaviour.side _ a.ready a.left a.late a.withholds)
+          (gives_all limited_behaviour.side _ a.left new.conversation a.writes.bursts a.writes.gives))
           (record {
             heard = subst (λ (c : ConversationFields LimitedFields). HasHeard c.terminal.framing (octets ++ l.here)) (sym a.keeps_so.1)
                 l.stands.heard;
@@ -349,15 +363,15 @@ after_one cuts stores caps params line lines octets old mid new one rest = recor
       subst (λ l. Stands caps params new.conversation.terminal l) (append_assoc octets one.here rest.here) rest.stands;
 }
 
-after_all : CutsChangeNothing → StoredIsRead → TakenAndThere → LimitedServes → {P : Type 0} (stores refuses : StoreStep P) (caps : Caps)
+after_all : CutsChangeNothing → StoredIsRead → TakenAndThere → LimitedServes → {P : Type 0} (stores refuses : StoreStep P) (takes : P → Said → Bool) (tells : P → List ℕ) (caps : Caps)
     (params : Params) (lines : List (List ℕ)) (octets : List ℕ) (old new : TalkState LimitedFields P) →
-    Stands caps params old.conversation.terminal octets → AnswersAll (storing stores refuses) lines old new →
+    Stands caps params old.conversation.terminal octets → AnswersAll (storing stores refuses takes tells) lines old new →
     After P stores caps params lines octets old new
-after_all cuts stored there limited stores refuses caps params [] octets old new h is = after_none stores caps params octets old new h is
-after_all cuts stored there limited stores refuses caps params (line ∷ lines) octets old new h is =
-    let one = stored_line cuts stored there limited stores refuses caps params line octets false old is.0 h is.1 in
+after_all cuts stored there limited stores refuses takes tells caps params [] octets old new h is = after_none stores caps params octets old new h is
+after_all cuts stored there limited stores refuses takes tells caps params (line ∷ lines) octets old new h is =
+    let one = stored_line cuts stored there limited stores refuses takes tells caps params line octets false old is.0 h is.1 in
     after_one cuts stores caps params line lines octets old is.0 new one
-    (after_all cuts stored there limited stores refuses caps params lines (octets ++ one.here) is.0 new one.stands is.2)
+    (after_all cuts stored there limited stores refuses takes tells caps params lines (octets ++ one.here) is.0 new one.stands is.2)
 
 -- a line after lines
 of_more : (lines : List (List ℕ)) (line octets here : List ℕ) → AreOfLines lines octets → AreOfLine line here →
@@ -384,15 +398,15 @@ starts_so caps c new = record {
 
 pub stored_is_said : CutsChangeNothing → StoredIsRead → TakenAndThere → LimitedServes → {P : Type 0} (stores refuses : StoreStep P) →
     StoredIsSaid P stores refuses
-stored_is_said cuts stored there limited stores refuses caps lines old new is all =
-    let a = after_all cuts stored there limited stores refuses caps is.params lines [] old new (starts_so caps old.conversation is) all in
+stored_is_said cuts stored there limited stores refuses takes tells caps lines old new is all =
+    let a = after_all cuts stored there limited stores refuses takes tells caps is.params lines [] old new (starts_so caps old.conversation is) all in
     record { octets = a.here; of_lines = a.of_lines; pages = a.pages; stored = a.stored; read = a.read }
 
 pub last_is_said : CutsChangeNothing → StoredIsRead → TakenAndThere → LimitedServes → {P : Type 0} (stores refuses : StoreStep P) →
     LastIsSaid P stores refuses
-last_is_said cuts stored there limited stores refuses caps lines old mid new line over is all last =
-    let a = after_all cuts stored there limited stores refuses caps is.params lines [] old mid (starts_so caps old.conversation is) all in
-    let one = stored_line cuts stored there limited stores refuses caps is.params line a.here over mid new a.stands last in
+last_is_said cuts stored there limited stores refuses takes tells caps lines old mid new line over is all last =
+    let a = after_all cuts stored there limited stores refuses takes tells caps is.params lines [] old mid (starts_so caps old.conversation is) all in
+    let one = stored_line cuts stored there limited stores refuses takes tells caps is.params line a.here over mid new a.stands last in
     record {
       octets = a.here ++ one.here;
       of_lines = of_more lines line a.here one.here a.of_lines one.of_it;
@@ -410,8 +424,8 @@ each_front P (x ∷ xs) ys h = (h.0, each_front P xs ys h.1)
 
 pub refused_is_last : CutsChangeNothing → StoredIsRead → TakenAndThere → LimitedServes → {P : Type 0} (stores refuses : StoreStep P) →
     RefusedIsLast P stores refuses
-refused_is_last cuts stored there limited stores refuses caps lines old mid new line over is all last =
-    let a = after_all cuts stored there limited stores refuses caps is.params lines [] old mid (starts_so caps old.conversation is) all in
+refused_is_last cuts stored there limited stores refuses takes tells caps lines old mid new line over is all last =
+    let a = after_all cuts stored there limited stores refuses takes tells caps is.params lines [] old mid (starts_so caps old.conversation is) all in
     let w = last.answered in
     let l = heard_line cuts caps is.params line a.here w.timed mid.conversation w.heard a.stands w.says w.takes in
     let some = w.keeps_so.0 in (

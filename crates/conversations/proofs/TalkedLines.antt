@@ -2,12 +2,12 @@
 use Rattle.std.proofs.Common.{◌≡◌, ◌∙◌, ◌+◌, ◌++◌, ◌∷◌, ℕ, Bool, true, false, List, [], length, ap, arith, inl, inr, refl, subst}
 use Rattle.std.proofs.lemmas.List.{length-append}
 use Rattle.std.specs.Prelude.{Option}
-use Rattle.conversations.specs.Conversations.{ConversationFields}
+use Rattle.conversations.specs.Conversations.{Behaviour, ConversationFields}
 use Rattle.conversations.specs.Conversing.{AnswersAll, AnswersNext, StopsSo, TalkState, Talker, talk_state, unanswered}
 use Rattle.conversations.specs.Reading.{TakesLine as ReadsLine}
-use Rattle.conversations.specs.Talking.{IfRefused, IsNoAnswer}
+use Rattle.conversations.specs.Talking.{IfRefused, IsLate, IsNoAnswer, KeepsLine, Keeping}
 use Rattle.conversations.specs.declared.talking.AnswerFault.{AnswerFault}
-use Rattle.conversations.specs.declared.talking.AnswerFault.TheVariants.{NoLine, OutOfTime, NoMemory, Writer, Follower}
+use Rattle.conversations.specs.declared.talking.AnswerFault.TheVariants.{NoLine, NotHeld, OutOfTime, NoMemory, Writer, Follower}
 
 -- lines were answered, and the one of a number comes
 pub record IsTalking {S K : Type 0} (t : Talker S K) (first now : TalkState S K) (number : ℕ) : Type 0 where
@@ -43,10 +43,22 @@ same_state : {S K : Type 0} (input : Option (List ℕ)) (c d : ConversationField
 same_state input c d k l o p e f h =
     ap (λ x. talk_state input x k o) e ∙ (ap (λ x. talk_state input d x o) f ∙ ap (λ x. talk_state input d l x) h)
 
+-- an answer failed after what the line brought was kept
+pub broken_late : {S K F : Type 0} (b : Behaviour S) (k : Keeping S K) (line : List ℕ) (old new : ConversationFields S) (keeper kept_in : K)
+    (before after : Option (List ℕ)) (fault : AnswerFault F) → IsLate fault → KeepsLine S K b k line old keeper kept_in →
+    IsNoAnswer b k line old new keeper kept_in before after fault
+broken_late b k line old new keeper kept_in before after NoLine late h = absurd late
+broken_late b k line old new keeper kept_in before after NotHeld late h = absurd late
+broken_late b k line old new keeper kept_in before after OutOfTime late h = absurd late
+broken_late b k line old new keeper kept_in before after NoMemory late h = inr h
+broken_late b k line old new keeper kept_in before after (Writer kind) late h = inr h
+broken_late b k line old new keeper kept_in before after (Follower why) late h = inr h
+
 -- a line isn't answered
 pub stopped : {S K W F : Type 0} (t : Talker S K) (first : TalkState S K) (input later : Option (List ℕ)) (c d : ConversationFields S)
     (k l : K) (v w : W) (contents : W → Option (List ℕ)) (number : ℕ) (line : List ℕ) (fault : AnswerFault F) →
-    IsTalking t first (talk_state input c k (contents v)) number → ReadsLine input later line → IsNoAnswer c line fault →
+    IsTalking t first (talk_state input c k (contents v)) number → ReadsLine input later line →
+    IsNoAnswer t.station t.keeping line c d k l (contents v) (contents w) fault →
     IfRefused fault ((d ≡ c) × (l ≡ k) × (w ≡ v)) → StopsSo t first (talk_state later d l (contents w)) (unanswered fault number)
 stopped t first input later c d k l v w contents number line NoLine h read none same = record {
   lines = h.lines;
@@ -59,6 +71,17 @@ stopped t first input later c d k l v w contents number line NoLine h read none 
     rest = same_state later d c l k (contents w) (contents v) same.0 same.1 (ap contents same.2);
   };
 }
+stopped t first input later c d k l v w contents number line NotHeld h read none same = record {
+  lines = h.lines;
+  last = talk_state input c k (contents v);
+  answered = h.answered;
+  count = h.count;
+  refused = record {
+    line = line;
+    refused = inr (read, inr (none.0, none.1, inl none.2));
+    rest = same_state later d c l k (contents w) (contents v) same.0 same.1 (ap contents same.2);
+  };
+}
 stopped t first input later c d k l v w contents number line OutOfTime h read none same = record {
   lines = h.lines;
   last = talk_state input c k (contents v);
@@ -66,10 +89,25 @@ stopped t first input later c d k l v w contents number line OutOfTime h read no
   count = h.count;
   refused = record {
     line = line;
-    refused = inr (read, inr none);
+    refused = inr (read, inr (none.0, none.1, inr none.2));
     rest = same_state later d c l k (contents w) (contents v) same.0 same.1 (ap contents same.2);
   };
 }
-stopped t first input later c d k l v w contents number line NoMemory h read none same = tt
-stopped t first input later c d k l v w contents number line (Writer kind) h read none same = tt
-stopped t first input later c d k l v w contents number line (Follower why) h read none same = tt
+stopped t first input later c d k l v w contents number line NoMemory h read none same = inr (inr (record {
+  lines = h.lines;
+  last = talk_state input c k (contents v);
+  answered = h.answered;
+  breaks = (line, read, none);
+}))
+stopped t first input later c d k l v w contents number line (Writer kind) h read none same = record {
+  lines = h.lines;
+  last = talk_state input c k (contents v);
+  answered = h.answered;
+  breaks = (line, read, none);
+}
+stopped t first input later c d k l v w contents number line (Follower why) h read none same = record {
+  lines = h.lines;
+  last = talk_state input c k (contents v);
+  answered = h.answered;
+  breaks = (line, read, none);
+}

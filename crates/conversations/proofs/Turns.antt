@@ -3,9 +3,9 @@ use Rattle.std.proofs.Common.{◌≡◌, ◌∙◌, ◌++◌, ◌∷◌, List, [
 use Rattle.std.proofs.lemmas.List.{append-nil}
 use Rattle.std.proofs.KnownBytes.{Appends-trans}
 use Rattle.std.specs.Io.KnownBytes.{Appends}
-use Rattle.std.specs.Prelude.{◌↔◌, ℕ, IsSome, IsTrue, Bool, true, false, Option, Some, None, Ok, flat_map}
+use Rattle.std.specs.Prelude.{◌↔◌, ℕ, IsSome, IsTrue, Bool, true, false, Option, Some, None, Ok, flat_map, is_none}
 use Rattle.conversations.specs.Conversations.{ConversationFields, SendsIfBegun, next_quiet}
-use Rattle.conversations.specs.Talking.{GivesAll, GivesNext, WritesTurn, rest_text}
+use Rattle.conversations.specs.Talking.{GivesAll, GivesNext, Withholds, WritesTurn, rest_text}
 use Rattle.conversations.specs.Writing.{burst_line, on_lines, rest_lines}
 use Rattle.conversations.specs.declared.writing.Says.{Says}
 use Rattle.signals.specs.declared.signal.Side.{Side}
@@ -74,3 +74,42 @@ pub rest_is : {S : Type 0} (side : Side) (c : ConversationFields S) (shown : Sho
     says ≡ c.says → begun ≡ c.begun → at ≡ next_quiet c.begun side shown c.clock c.durations →
     rest_lines shown.end (on_lines says begun shown.listens at) ≡ rest_text side c shown
 rest_is side c shown says begun at says_is begun_is at_is = rw (says_is, begun_is, at_is) refl
+
+-- ---- bursts that are given and not written
+
+-- some bursts were given: where the bursts that are left are given, all are
+pub record HasGiven {S : Type 0} (side : Side) (lends : BurstsOf S) (first now : ConversationFields S) : Type 0 where
+  pub done : List SentBurst
+  pub all : (rest : List SentBurst) (new : ConversationFields S) → GivesAll side lends now rest new →
+      GivesAll side lends first (done ++ rest) new
+
+-- before the first burst
+pub begins_to_give : {S : Type 0} (side : Side) (lends : BurstsOf S) (first : ConversationFields S) → HasGiven side lends first first
+begins_to_give side lends first = record { done = []; all = λ rest new is. is }
+
+-- one burst more is given
+pub gave_one : {S : Type 0} (side : Side) (lends : BurstsOf S) (first now next : ConversationFields S) (burst : SentBurst) →
+    HasGiven side lends first now → GivesNext side lends now (Some burst) next → HasGiven side lends first next
+gave_one side lends first now next burst way gives = record {
+  done = way.done ++ burst ∷ [];
+  all = λ rest new is.
+      subst (λ (l : List SentBurst). GivesAll side lends first l new) (sym (append_assoc way.done (burst ∷ []) rest))
+      (way.all (burst ∷ rest) new (next, gives, is));
+}
+
+-- none is left
+pub gave_all : {S : Type 0} (side : Side) (lends : BurstsOf S) (first now new : ConversationFields S) → HasGiven side lends first now →
+    GivesNext side lends now None new → Withholds side lends first true new
+gave_all side lends first now new way none =
+    (way.done, subst (λ (l : List SentBurst). GivesAll side lends first l new) (append-nil way.done) (way.all [] new none))
+
+-- the next of the bursts, whichever it is
+pub gave_more : {S : Type 0} (side : Side) (lends : BurstsOf S) (first now next : ConversationFields S) (sent : Option SentBurst) →
+    HasGiven side lends first now → GivesNext side lends now sent next → is_none sent ≡ false → HasGiven side lends first next
+gave_more side lends first now next None way gives is = cc is
+gave_more side lends first now next (Some burst) way gives is = gave_one side lends first now next burst way gives
+
+pub gave_last : {S : Type 0} (side : Side) (lends : BurstsOf S) (first now new : ConversationFields S) (sent : Option SentBurst) →
+    HasGiven side lends first now → GivesNext side lends now sent new → is_none sent ≡ true → Withholds side lends first true new
+gave_last side lends first now new None way gives is = gave_all side lends first now new way gives
+gave_last side lends first now new (Some burst) way gives is = cc is

@@ -16,9 +16,11 @@ use Rattle.hex.specs.Hex.{decode_of}
 use Rattle.hex.proofs.HexLemmas.{decode_of-ok}
 use Rattle.hex.specs.declared.error.FromHexError.{FromHexError}
 use Rattle.conversations.specs.Lines.{AreBits, HasCome, HasNoSpace, IsBurst, IsNumber, IsReceived, IsWordOf, ReceivedAfter, Says, SaysNothing}
-use Rattle.conversations.specs.Lines.{channel_name, kind_name, octets_for, spaced}
+use Rattle.conversations.specs.Lines.{ToldAfter, channel_name, fate_word, kind_name, octets_for, spaced}
+use Rattle.conversations.specs.declared.line.Fate.{Fate}
+use Rattle.conversations.specs.declared.line.Fate.TheVariants.{Kept, Lost}
 use Rattle.conversations.specs.declared.line.Said.{Said}
-use Rattle.conversations.specs.declared.line.Said.TheVariants.{Quiet, Busy, Received, NotReady, Ready, Missed, Stop, End}
+use Rattle.conversations.specs.declared.line.Said.TheVariants.{Quiet, Busy, Received, NotReady, Ready, Missed, Told, Stop, End}
 use Rattle.conversations.specs.declared.line.TimedLine.{TimedLine}
 use Rattle.std.proofs.Common.{inl, inr}
 use Rattle.std.proofs.Common.{MatchResult}
@@ -221,6 +223,7 @@ module _ (text digits after : List ℕ) (solid : HasNoSpace digits) (cut : text 
       not_received NotReady h = h
       not_received Ready h = h
       not_received Missed h = h
+      not_received (Told fate file) h = h
       not_received Stop h = h
       not_received End h = h
 
@@ -234,7 +237,8 @@ too_long line long timed h = omega (arith, long, h.most)
 pub one_word : (line : List ℕ) → HasNoSpace line → SaysNothing line
 one_word line none timed h = elim h.words [
   | inl timed_word ↦ no_cut line timed_word.0 timed_word.1 none timed_word.2
-  | inr received ↦ no_cut line (codes "rx") received.0 none received.1
+  | inr (inl received) ↦ no_cut line (codes "rx") received.0 none received.1
+  | inr (inr told) ↦ no_cut line (fate_word told.0) told.1 none told.2
 ]
 
 -- the words that say something have no space
@@ -245,6 +249,7 @@ word_solid word (Received channel kind bits octets) h = absurd h
 word_solid word NotReady h = rw h (solid_at (codes "not-ready") refl)
 word_solid word Ready h = rw h (solid_at (codes "ready") refl)
 word_solid word Missed h = rw h (solid_at (codes "missed") refl)
+word_solid word (Told fate file) h = absurd h
 word_solid word Stop h = rw h (solid_at (codes "stop") refl)
 word_solid word End h = rw h (solid_at (codes "end") refl)
 
@@ -259,8 +264,59 @@ word_is_not_rx word (Received channel kind bits octets) h is = h
 word_is_not_rx word NotReady h is = cc (sym h ∙ is)
 word_is_not_rx word Ready h is = cc (sym h ∙ is)
 word_is_not_rx word Missed h is = cc (sym h ∙ is)
+word_is_not_rx word (Told fate file) h is = h
 word_is_not_rx word Stop h is = cc (sym h ∙ is)
 word_is_not_rx word End h is = cc (sym h ∙ is)
+
+pub fate_solid : (fate : Fate) → HasNoSpace (fate_word fate)
+fate_solid Kept = solid_at (codes "kept") refl
+fate_solid Lost = solid_at (codes "lost") refl
+
+-- the first octet of a word
+abbrev first : List ℕ → ℕ
+first word = get_or word 0 0
+
+-- no word that has nothing but the time after it, nor `rx`, begins as `kept` or `lost` does
+differs : (one other : List ℕ) → (first one ≡ first other → ⊥) → one ≡ other → ⊥
+differs one other apart is = apart (ap first is)
+
+pub fate_is_not_rx : (fate : Fate) → fate_word fate ≡ codes "rx" → ⊥
+fate_is_not_rx Kept is = differs (codes "kept") (codes "rx") (λ e. omega (arith, e)) is
+fate_is_not_rx Lost is = differs (codes "lost") (codes "rx") (λ e. omega (arith, e)) is
+
+-- two fates have two words
+pub one_fate : (one other : Fate) → fate_word one ≡ fate_word other → one ≡ other
+one_fate Kept Kept is = refl
+one_fate Kept Lost is = absurd (differs (codes "kept") (codes "lost") (λ e. omega (arith, e)) is)
+one_fate Lost Kept is = absurd (differs (codes "lost") (codes "kept") (λ e. omega (arith, e)) is)
+one_fate Lost Lost is = refl
+
+-- no word that has nothing but the time after it says what became of a page
+no_fate_of : (fate : Fate) (word : List ℕ) → (107 ≡ first word → ⊥) → (108 ≡ first word → ⊥) → fate_word fate ≡ word → ⊥
+no_fate_of Kept word not_k not_l is = differs (codes "kept") word not_k is
+no_fate_of Lost word not_k not_l is = differs (codes "lost") word not_l is
+
+pub word_is_no_fate : (word : List ℕ) (said : Said) (fate : Fate) → IsWordOf word said → fate_word fate ≡ word → ⊥
+word_is_no_fate word Quiet fate h is = no_fate_of fate (codes "quiet") (λ e. omega (arith, e)) (λ e. omega (arith, e)) (is ∙ h)
+word_is_no_fate word Busy fate h is = no_fate_of fate (codes "busy") (λ e. omega (arith, e)) (λ e. omega (arith, e)) (is ∙ h)
+word_is_no_fate word (Received channel kind bits octets) fate h is = h
+word_is_no_fate word NotReady fate h is = no_fate_of fate (codes "not-ready") (λ e. omega (arith, e)) (λ e. omega (arith, e)) (is ∙ h)
+word_is_no_fate word Ready fate h is = no_fate_of fate (codes "ready") (λ e. omega (arith, e)) (λ e. omega (arith, e)) (is ∙ h)
+word_is_no_fate word Missed fate h is = no_fate_of fate (codes "missed") (λ e. omega (arith, e)) (λ e. omega (arith, e)) (is ∙ h)
+word_is_no_fate word (Told told file) fate h is = h
+word_is_no_fate word Stop fate h is = no_fate_of fate (codes "stop") (λ e. omega (arith, e)) (λ e. omega (arith, e)) (is ∙ h)
+word_is_no_fate word End fate h is = no_fate_of fate (codes "end") (λ e. omega (arith, e)) (λ e. omega (arith, e)) (is ∙ h)
+
+-- ---- the time and a file
+
+pub no_told_word : (fate : Fate) (text : List ℕ) → HasNoSpace text → (timed : TimedLine) → ToldAfter fate text timed → ⊥
+no_told_word fate text none timed (time, name, is, number, tells) = no_cut text time name none is
+
+pub no_told_time : (fate : Fate) (text digits after : List ℕ) → HasNoSpace digits → text ≡ digits ++ 32 ∷ after →
+    ((n : ℕ) → IsNumber 15 digits n → ⊥) → (timed : TimedLine) → ToldAfter fate text timed → ⊥
+no_told_time fate text digits after solid cut none timed (time, name, is, number, tells) =
+    none timed.at
+    (subst (λ d. IsNumber 15 d timed.at) (same_cut text digits after time name solid cut (number_solid 15 time timed.at number) is).0 number)
 
 module _ (line word after : List ℕ) (solid : HasNoSpace word) (cut : line ≡ word ++ 32 ∷ after) where
   word_cut : (first time : List ℕ) (timed : TimedLine) → line ≡ spaced (first ∷ time ∷ []) → IsWordOf first timed.said
@@ -270,20 +326,27 @@ module _ (line word after : List ℕ) (solid : HasNoSpace word) (cut : line ≡ 
   rx_cut : (rest : List ℕ) → line ≡ spaced (codes "rx" ∷ rest ∷ []) → (codes "rx" ≡ word) × (rest ≡ after)
   rx_cut rest is = same_cut line word after (codes "rx") rest solid cut rx_solid is
 
-  pub no_word_of : (word ≡ codes "rx" → ⊥) → ((said : Said) → IsWordOf word said → ⊥) → SaysNothing line
-  no_word_of not_rx none timed h = elim h.words [
+  fate_cut : (fate : Fate) (rest : List ℕ) → line ≡ spaced (fate_word fate ∷ rest ∷ []) → (fate_word fate ≡ word) × (rest ≡ after)
+  fate_cut fate rest is = same_cut line word after (fate_word fate) rest solid cut (fate_solid fate) is
+
+  pub no_word_of : (word ≡ codes "rx" → ⊥) → ((fate : Fate) → word ≡ fate_word fate → ⊥) → ((said : Said) → IsWordOf word said → ⊥)
+      → SaysNothing line
+  no_word_of not_rx no_fate none timed h = elim h.words [
     | inl t ↦
         let same = word_cut t.0 t.1 timed t.2 t.3 in
         none timed.said (subst (λ w. IsWordOf w timed.said) same.0 t.3)
-    | inr r ↦ not_rx (sym (rx_cut r.0 r.1).0)
+    | inr (inl r) ↦ not_rx (sym (rx_cut r.0 r.1).0)
+    | inr (inr f) ↦ no_fate f.0 (sym (fate_cut f.0 f.1 f.2).0)
   ]
 
-  pub no_time_after : (word ≡ codes "rx" → ⊥) → ((n : ℕ) → IsNumber 15 after n → ⊥) → SaysNothing line
-  no_time_after not_rx none timed h = elim h.words [
+  pub no_time_after : (word ≡ codes "rx" → ⊥) → ((fate : Fate) → word ≡ fate_word fate → ⊥) → ((n : ℕ) → IsNumber 15 after n → ⊥)
+      → SaysNothing line
+  no_time_after not_rx no_fate none timed h = elim h.words [
     | inl t ↦
         let same = word_cut t.0 t.1 timed t.2 t.3 in
         none timed.at (subst (λ d. IsNumber 15 d timed.at) same.1 t.4)
-    | inr r ↦ not_rx (sym (rx_cut r.0 r.1).0)
+    | inr (inl r) ↦ not_rx (sym (rx_cut r.0 r.1).0)
+    | inr (inr f) ↦ no_fate f.0 (sym (fate_cut f.0 f.1 f.2).0)
   ]
 
   pub nothing_received : word ≡ codes "rx" → ((timed : TimedLine) → ReceivedAfter after timed → ⊥) → SaysNothing line
@@ -291,19 +354,46 @@ module _ (line word after : List ℕ) (solid : HasNoSpace word) (cut : line ≡ 
     | inl t ↦
         let same = word_cut t.0 t.1 timed t.2 t.3 in
         word_is_not_rx t.0 timed.said t.3 (same.0 ∙ is_rx)
-    | inr r ↦ none timed (subst (λ b. ReceivedAfter b timed) (rx_cut r.0 r.1).1 r.2)
+    | inr (inl r) ↦ none timed (subst (λ b. ReceivedAfter b timed) (rx_cut r.0 r.1).1 r.2)
+    | inr (inr f) ↦ fate_is_not_rx f.0 ((fate_cut f.0 f.1 f.2).0 ∙ is_rx)
+  ]
+
+  pub nothing_told : (fate : Fate) → word ≡ fate_word fate → ((timed : TimedLine) → ToldAfter fate after timed → ⊥) → SaysNothing line
+  nothing_told fate is none timed h = elim h.words [
+    | inl t ↦
+        let same = word_cut t.0 t.1 timed t.2 t.3 in
+        word_is_no_fate t.0 timed.said fate t.3 (sym is ∙ sym same.0)
+    | inr (inl r) ↦ fate_is_not_rx fate (sym is ∙ sym (rx_cut r.0 r.1).0)
+    | inr (inr f) ↦
+        let same = fate_cut f.0 f.1 f.2 in
+        none timed (subst (λ g. ToldAfter g after timed) (one_fate f.0 fate (same.0 ∙ is))
+        (subst (λ b. ToldAfter f.0 b timed) same.1 f.3))
   ]
 
   pub says_received : length line ≤ 400000 → word ≡ codes "rx" → (timed : TimedLine) → ReceivedAfter after timed → Says line timed
-  says_received most is_rx timed h = record { most = most; words = inr (after, cut ∙ ap (λ w. w ++ 32 ∷ after) is_rx, h) }
+  says_received most is_rx timed h =
+      record { most = most; words = inr (inl (after, cut ∙ ap (λ w. w ++ 32 ∷ after) is_rx, h)) }
+
+  pub says_told : (fate : Fate) → length line ≤ 400000 → word ≡ fate_word fate → (timed : TimedLine) → ToldAfter fate after timed
+      → Says line timed
+  says_told fate most is timed h =
+      record { most = most; words = inr (inr (fate, after, cut ∙ ap (λ w. w ++ 32 ∷ after) is, h)) }
 
   pub says_timed : length line ≤ 400000 → (timed : TimedLine) → IsWordOf word timed.said → IsNumber 15 after timed.at → Says line timed
   says_timed most timed says number = record { most = most; words = inl (word, after, cut, says, number) }
 
--- what the two readings of a line come to: the first is of a line that begins with `rx`
+-- what the readings of a line come to: the first is of a line that begins with `rx`
 pub received_line : (R : Result TimedLine LineRefused) (line word after : List ℕ) → HasNoSpace word → line ≡ word ++ 32 ∷ after
     → length line ≤ 400000 → word ≡ codes "rx"
     → MatchResult R (ReceivedAfter after) (λ refused. refused ≡ NoLine → (timed : TimedLine) → ReceivedAfter after timed → ⊥)
     → MatchResult R (Says line) (λ refused. refused ≡ NoLine → SaysNothing line)
 received_line (Ok timed) line word after solid cut most is_rx h = says_received line word after solid cut most is_rx timed h
 received_line (Err refused) line word after solid cut most is_rx h = λ no. nothing_received line word after solid cut is_rx (h no)
+
+-- the same of a line that begins with `kept` or `lost`
+pub told_line : (R : Result TimedLine LineRefused) (line word after : List ℕ) (fate : Fate) → HasNoSpace word → line ≡ word ++ 32 ∷ after
+    → length line ≤ 400000 → word ≡ fate_word fate
+    → MatchResult R (ToldAfter fate after) (λ refused. refused ≡ NoLine → (timed : TimedLine) → ToldAfter fate after timed → ⊥)
+    → MatchResult R (Says line) (λ refused. refused ≡ NoLine → SaysNothing line)
+told_line (Ok timed) line word after fate solid cut most is h = says_told line word after solid cut fate most is timed h
+told_line (Err refused) line word after fate solid cut most is h = λ no. nothing_told line word after solid cut fate is (h no)

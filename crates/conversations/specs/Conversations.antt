@@ -11,9 +11,9 @@ use Rattle.conversations.specs.declared.giving.Given.TheVariants.{Loss as GivenL
 use Rattle.conversations.specs.declared.hearing.Heard.{Heard}
 use Rattle.conversations.specs.declared.hearing.Heard.TheVariants.{Frames, Check, Nothing}
 use Rattle.conversations.specs.declared.line.Said.{Said}
-use Rattle.conversations.specs.declared.line.Said.TheVariants.{Quiet, Busy, Received, NotReady, Ready, Missed, Stop, End}
+use Rattle.conversations.specs.declared.line.Said.TheVariants.{Quiet, Busy, Received, NotReady, Ready, Missed, Told, Stop, End}
 use Rattle.conversations.specs.declared.line.TimedLine.{TimedLine}
-use Rattle.conversations.specs.declared.refusing.Refusal.{Refusal}
+use Rattle.terminals.specs.declared.watching.Refusal.{Refusal}
 use Rattle.conversations.specs.declared.writing.Says.{Says}
 use Rattle.signals.specs.declared.signal.Side.{Side}
 use Rattle.stations.specs.declared.listening.Listening.{Listening}
@@ -80,6 +80,7 @@ state_of (Received channel kind bits octets) = HasCarrier
 state_of NotReady = Unsaid
 state_of Ready = Unsaid
 state_of Missed = Unsaid
+state_of (Told fate file) = Unsaid
 state_of Stop = Unsaid
 state_of End = Unsaid
 
@@ -92,6 +93,7 @@ line_gives begun side shown c d (Received channel kind bits octets) =
 line_gives begun side shown c d NotReady = input (busy true)
 line_gives begun side shown c d Ready = input (busy false)
 line_gives begun side shown c d Missed = cond begun (missed_given shown.listens) nothing
+line_gives begun side shown c d (Told fate file) = nothing
 line_gives begun side shown c d Stop = stopping
 line_gives begun side shown c d End = losing
 
@@ -103,6 +105,7 @@ begins (Received channel kind bits octets) at = false
 begins NotReady at = false
 begins Ready at = false
 begins Missed at = false
+begins (Told fate file) at = false
 begins Stop at = true
 begins End at = false
 

@@ -1,11 +1,11 @@
 -- A whole conversation: the lines of a reader, answered one after the other.
-use Rattle.std.specs.Prelude.{ℕ, ◌≡◌, ◌⊎◌, ◌+◌, ◌∷◌, [], ⊤, Bool, true, false, List, Option, length}
+use Rattle.std.specs.Prelude.{ℕ, ◌≡◌, ◌⊎◌, ◌+◌, ◌-◌, ◌^◌, ◌∷◌, [], Bool, true, false, List, Option, length}
 use Rattle.std.specs.Io.KnownBytes.{Consumes, IsAtEnd}
-use Rattle.conversations.specs.Conversations.{Behaviour, ConversationFields, IsOutOfTime, TakesLine}
+use Rattle.conversations.specs.Conversations.{Behaviour, ConversationFields, IsOutOfTime, RefusesLine, TakesLine}
 use Rattle.conversations.specs.Lines.{Says, SaysNothing}
 use Rattle.conversations.specs.Reading.{TakesTooMany}
 use Rattle.conversations.specs.Reading.{TakesLine as ReadsLine}
-use Rattle.conversations.specs.Talking.{Answers, KeepsOf}
+use Rattle.conversations.specs.Talking.{Answers, BreaksOff, Keeping}
 use Rattle.conversations.specs.declared.conversing.ConverseFault.{ConverseFault}
 use Rattle.conversations.specs.declared.conversing.ConverseFault.TheVariants.{Line, NoMemory, Reader, Writer, Follower, TooManyLines}
 use Rattle.conversations.specs.declared.conversing.Ending.{Ending}
@@ -13,7 +13,7 @@ use Rattle.conversations.specs.declared.conversing.Ending.TheVariants.{Over, Los
 use Rattle.conversations.specs.declared.line.Said.TheVariants.{End}
 use Rattle.conversations.specs.declared.line.TimedLine.{TimedLine}
 use Rattle.conversations.specs.declared.talking.AnswerFault.{AnswerFault}
-use Rattle.conversations.specs.declared.talking.AnswerFault.TheVariants.{NoLine, OutOfTime}
+use Rattle.conversations.specs.declared.talking.AnswerFault.TheVariants.{NoLine, NotHeld, OutOfTime}
 use Rattle.conversations.specs.declared.talking.AnswerFault.TheVariants.{NoMemory as NoMemoryLeft, Writer as WriterFailed}
 use Rattle.conversations.specs.declared.talking.AnswerFault.TheVariants.{Follower as FollowerFailed}
 use Rattle.terminals.specs.Speaking.{BurstsOf}
@@ -30,21 +30,21 @@ abbrev pub talk_state : {S K : Type 0} → Option (List ℕ) → ConversationFie
 talk_state input conversation keeper output =
     record { input = input; conversation = conversation; keeper = keeper; output = output }
 
--- who talks: the station as a conversation knows it, what it is to keep what a line brought, and the bursts of a turn
+-- who talks: the station and its keeper as a conversation knows them, and the bursts of a turn
 pub record Talker (S K : Type 0) : Type 1 where
   pub station : Behaviour S
-  pub keeps : KeepsOf S K
+  pub keeping : Keeping S K
   pub lends : BurstsOf S
 
 -- who talks, of its three parts
-abbrev pub talker : {S K : Type 0} → Behaviour S → KeepsOf S K → BurstsOf S → Talker S K
-talker station keeps lends = record { station = station; keeps = keeps; lends = lends }
+abbrev pub talker : {S K : Type 0} → Behaviour S → Keeping S K → BurstsOf S → Talker S K
+talker station keeping lends = record { station = station; keeping = keeping; lends = lends }
 
 -- the next line is read and answered: all that it brought was kept or not, and the call is over or goes on
 pub record AnswersNext (S K : Type 0) (t : Talker S K) (old new : TalkState S K) (line : List ℕ) (kept over : Bool) : Type 0 where
   pub read : ReadsLine old.input new.input line
   pub answered :
-      Answers S K t.station t.keeps t.lends line old.conversation new.conversation old.keeper new.keeper old.output new.output kept over
+      Answers S K t.station t.keeping t.lends line old.conversation new.conversation old.keeper new.keeper old.output new.output kept over
 
 -- lines are read and answered one after the other: all that each brought was kept, and the call goes on
 abbrev pub AnswersAll : {S K : Type 0} → Talker S K → List (List ℕ) → TalkState S K → TalkState S K → Type 0
@@ -77,14 +77,18 @@ pub record Converses (S K E : Type 0) (t : Talker S K) (old new : TalkState S K)
   pub answered : AnswersAll t lines old last
   pub ends : EndsSo t last new ending
 
--- octets are none of a station's lines, or their time can't follow
-abbrev pub IsNoLine : {S : Type 0} → ConversationFields S → List ℕ → Type 0
-IsNoLine c line = SaysNothing line ⊎ ((timed : TimedLine) × Says line timed × IsOutOfTime c timed)
+-- a line that can't come now: its keeper can't take it, or its time can't follow
+abbrev pub CannotCome : {S K : Type 0} → Talker S K → TalkState S K → TimedLine → Type 0
+CannotCome t old timed = (t.keeping.takes old.keeper timed.said ≡ false) ⊎ IsOutOfTime old.conversation timed
+
+-- octets are none of a station's lines, or one that can't come now
+abbrev pub IsNoLine : {S K : Type 0} → Talker S K → TalkState S K → List ℕ → Type 0
+IsNoLine t old line = SaysNothing line ⊎ ((timed : TimedLine) × Says line timed × CannotCome t old timed)
 
 -- the next line is too long, or it is read and isn't answered: all else is as it was
-pub record RefusesNext (S K : Type 0) (old new : TalkState S K) : Type 0 where
+pub record RefusesNext (S K : Type 0) (t : Talker S K) (old new : TalkState S K) : Type 0 where
   pub line : List ℕ
-  pub refused : TakesTooMany old.input new.input line ⊎ (ReadsLine old.input new.input line × IsNoLine old.conversation line)
+  pub refused : TakesTooMany old.input new.input line ⊎ (ReadsLine old.input new.input line × IsNoLine t old line)
   pub rest : new ≡ record old { input = new.input }
 
 -- lines are answered, and then the one of this number, from 1, is refused
@@ -93,7 +97,7 @@ pub record RefusesLineOf (S K : Type 0) (t : Talker S K) (old new : TalkState S 
   pub last : TalkState S K
   pub answered : AnswersAll t lines old last
   pub count : number ≡ length lines + 1
-  pub refused : RefusesNext S K last new
+  pub refused : RefusesNext S K t last new
 
 -- lines are answered, and then the reader fails: all but what is left to be read is as it was
 pub record FailsToRead (S K : Type 0) (t : Talker S K) (old new : TalkState S K) : Type 0 where
@@ -102,18 +106,46 @@ pub record FailsToRead (S K : Type 0) (t : Talker S K) (old new : TalkState S K)
   pub answered : AnswersAll t lines old last
   pub rest : new ≡ record last { input = new.input }
 
--- how far a conversation is when it stops for a fault; nothing is said of a line whose answer failed
+-- a line is read, and its answer fails on the way: what it brought is kept before anything is written
+abbrev pub BreaksNext : {S K : Type 0} → Talker S K → TalkState S K → TalkState S K → Type 0
+BreaksNext t old new = (line : List ℕ) × ReadsLine old.input new.input line
+    × BreaksOff t.station t.keeping line old.conversation new.conversation old.keeper new.keeper old.output new.output
+
+-- lines are answered, and then the answer to one fails on the way
+pub record Breaks (S K : Type 0) (t : Talker S K) (old new : TalkState S K) : Type 0 where
+  pub lines : List (List ℕ)
+  pub last : TalkState S K
+  pub answered : AnswersAll t lines old last
+  pub breaks : BreaksNext t last new
+
+-- no line is left, and memory is refused while the station is given the loss of its line: nothing is kept or written
+pub record CannotLose (S K : Type 0) (t : Talker S K) (old new : TalkState S K) : Type 0 where
+  pub lines : List (List ℕ)
+  pub last : TalkState S K
+  pub answered : AnswersAll t lines old last
+  pub refused : RefusesLine S t.station last.conversation (lost_at last.conversation.clock.now) new.conversation
+  pub keeper : new.keeper ≡ last.keeper
+  pub output : new.output ≡ last.output
+
+-- lines are answered, as many as are counted
+pub record AnswersMost (S K : Type 0) (t : Talker S K) (old new : TalkState S K) : Type 0 where
+  pub lines : List (List ℕ)
+  pub answered : AnswersAll t lines old new
+  pub count : length lines ≡ 2 ^ 64 - 2
+
+-- how far a conversation is when it stops for a fault
 abbrev pub StopsSo : {S K F : Type 0} → Talker S K → TalkState S K → TalkState S K → ConverseFault F → Type 0
 StopsSo {S} {K} t old new (Line number) = RefusesLineOf S K t old new number
 StopsSo {S} {K} t old new (Reader kind) = FailsToRead S K t old new
-StopsSo t old new NoMemory = ⊤
-StopsSo t old new (Writer kind) = ⊤
-StopsSo t old new (Follower fault) = ⊤
-StopsSo t old new TooManyLines = ⊤
+StopsSo {S} {K} t old new NoMemory = FailsToRead S K t old new ⊎ (CannotLose S K t old new ⊎ Breaks S K t old new)
+StopsSo {S} {K} t old new (Writer kind) = Breaks S K t old new
+StopsSo {S} {K} t old new (Follower fault) = Breaks S K t old new
+StopsSo {S} {K} t old new TooManyLines = AnswersMost S K t old new
 
 -- the fault of a conversation whose line of this number, from 1, isn't answered
 abbrev pub unanswered : {F : Type 0} → AnswerFault F → ℕ → ConverseFault F
 unanswered NoLine number = Line number
+unanswered NotHeld number = Line number
 unanswered OutOfTime number = Line number
 unanswered NoMemoryLeft number = NoMemory
 unanswered (WriterFailed kind) number = Writer kind

@@ -4,12 +4,12 @@ pub mod Conversing
 pub mod FrameLines
 pub mod FrameLineLaws
 pub mod Hearing
+pub mod Holding
 pub mod Led
 pub mod LineLaws
 pub mod Lines
 pub mod Reading
 pub mod Refusing
-pub mod RefusingLaws
 pub mod StoredLines
 pub mod Talking
 pub mod Writing

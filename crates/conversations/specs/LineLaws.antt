@@ -16,8 +16,9 @@ use Rattle.conversations.specs.Lines.{IsNumber, Says, channel_name, kind_name, o
 use Rattle.conversations.specs.Writing.{burst_words, channel_of, kind_of}
 use Rattle.conversations.specs.declared.carrier.Channel.{Channel}
 use Rattle.conversations.specs.declared.carrier.Kind.{Kind}
+use Rattle.conversations.specs.declared.line.Fate.{Fate}
 use Rattle.conversations.specs.declared.line.Said.{Said}
-use Rattle.conversations.specs.declared.line.Said.TheVariants.{Quiet, Busy, Received, NotReady, Ready, Missed, Stop, End}
+use Rattle.conversations.specs.declared.line.Said.TheVariants.{Quiet, Busy, Received, NotReady, Ready, Missed, Told, Stop, End}
 use Rattle.conversations.specs.declared.line.TimedLine.{TimedLine}
 
 -- The law: two carriers have two names.
@@ -32,6 +33,7 @@ KindsHaveNames = (one other : Kind) → kind_name one ≡ kind_name other → on
 pub data PlainSaid : Type 0 where
   quiet busy not_ready ready missed stop ended : PlainSaid
   received : Channel → Kind → ℕ → List ℕ → PlainSaid
+  told : Fate → List ℕ → PlainSaid
 
 -- the plain value of what a line says
 abbrev pub plain_said : Said → PlainSaid
@@ -41,6 +43,7 @@ plain_said (Received channel kind bits octets) = received channel kind bits octe
 plain_said NotReady = not_ready
 plain_said Ready = ready
 plain_said Missed = missed
+plain_said (Told fate file) = told fate file.items
 plain_said Stop = stop
 plain_said End = ended
 

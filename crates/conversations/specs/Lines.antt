@@ -10,8 +10,10 @@ use Rattle.conversations.specs.declared.carrier.Channel.TheVariants.{V21, Messag
 use Rattle.conversations.specs.declared.carrier.Kind.{Kind}
 use Rattle.conversations.specs.declared.carrier.Kind.TheVariants.{Frames, Check}
 use Rattle.conversations.specs.FrameLines.{IsInFrames}
+use Rattle.conversations.specs.declared.line.Fate.{Fate}
+use Rattle.conversations.specs.declared.line.Fate.TheVariants.{Kept, Lost}
 use Rattle.conversations.specs.declared.line.Said.{Said}
-use Rattle.conversations.specs.declared.line.Said.TheVariants.{Quiet, Busy, Received, NotReady, Ready, Missed, Stop, End}
+use Rattle.conversations.specs.declared.line.Said.TheVariants.{Quiet, Busy, Received, NotReady, Ready, Missed, Told, Stop, End}
 use Rattle.conversations.specs.declared.line.TimedLine.{TimedLine}
 
 -- words with one space between two of them
@@ -71,6 +73,7 @@ IsWordOf word (Received channel kind bits octets) = ⊥
 IsWordOf word NotReady = word ≡ codes "not-ready"
 IsWordOf word Ready = word ≡ codes "ready"
 IsWordOf word Missed = word ≡ codes "missed"
+IsWordOf word (Told fate file) = ⊥
 IsWordOf word Stop = word ≡ codes "stop"
 IsWordOf word End = word ≡ codes "end"
 
@@ -93,10 +96,34 @@ abbrev pub ReceivedAfter : List ℕ → TimedLine → Type 0
 ReceivedAfter text timed = (time : List ℕ) × (burst : List ℕ)
     × (text ≡ spaced (time ∷ burst ∷ [])) × IsNumber 15 time timed.at × IsReceived burst timed.said
 
--- The line, which has at most 400,000 octets, says this, and when: a word and the time, or `rx`, the time and a burst.
+-- the word that says what became of a page that was handed over
+abbrev pub fate_word : Fate → List ℕ
+fate_word Kept = codes "kept"
+fate_word Lost = codes "lost"
+
+-- the line says that this became of the page in this file
+abbrev pub IsTold : Fate → List ℕ → Said → Type 0
+IsTold fate name (Told same file) = (same ≡ fate) × (file.items ≡ name)
+IsTold fate name said = ⊥
+
+-- what follows `kept` or `lost`: the time and the name of a file, which may have spaces
+abbrev pub ToldAfter : Fate → List ℕ → TimedLine → Type 0
+ToldAfter fate text timed = (time : List ℕ) × (name : List ℕ)
+    × (text ≡ spaced (time ∷ name ∷ [])) × IsNumber 15 time timed.at × IsTold fate name timed.said
+
+-- the line is `rx`, the time and a burst
+abbrev pub IsReceivedLine : List ℕ → TimedLine → Type 0
+IsReceivedLine line timed = (after : List ℕ) × (line ≡ spaced (codes "rx" ∷ after ∷ [])) × ReceivedAfter after timed
+
+-- the line is `kept` or `lost`, the time and the name of a file
+abbrev pub IsToldLine : List ℕ → TimedLine → Type 0
+IsToldLine line timed = (fate : Fate) × (after : List ℕ) × (line ≡ spaced (fate_word fate ∷ after ∷ [])) × ToldAfter fate after timed
+
+-- The line, which has at most 400,000 octets, says this, and when: a word and the time, or `rx`, the time and a burst; or `kept` or `lost`,
+-- the time and a file.
 pub record Says (line : List ℕ) (timed : TimedLine) : Type 0 where
   pub most : length line ≤ 400000
-  pub words : IsTimed line timed ⊎ ((after : List ℕ) × (line ≡ spaced (codes "rx" ∷ after ∷ [])) × ReceivedAfter after timed)
+  pub words : IsTimed line timed ⊎ (IsReceivedLine line timed ⊎ IsToldLine line timed)
 
 -- the line says nothing
 abbrev pub SaysNothing : List ℕ → Type 0

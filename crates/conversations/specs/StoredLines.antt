@@ -4,6 +4,7 @@ use Rattle.conversations.specs.Answering.{StoreStep, StoresAll, StoresEach, limi
 use Rattle.conversations.specs.Conversations.{ConversationFields}
 use Rattle.conversations.specs.Conversing.{AnswersAll, AnswersNext, TalkState, Talker, talker}
 use Rattle.conversations.specs.Lines.{Says}
+use Rattle.conversations.specs.Talking.{keeping}
 use Rattle.conversations.specs.declared.line.Said.{Said}
 use Rattle.conversations.specs.declared.line.Said.TheVariants.{Received}
 use Rattle.conversations.specs.declared.line.TimedLine.{TimedLine}
@@ -46,10 +47,10 @@ pub record IsNewAnswerer (caps : Caps) (c : ConversationFields LimitedFields) : 
   pub told : c.terminal.speaking.station.told ≡ false
   pub framing : IsAfter c.terminal.framing [] 0
 
--- an answerer with limits talks, and its pages go to a store
-abbrev pub storing : {P : Type 0} → StoreStep P → StoreStep P → Talker LimitedFields P
-storing stores refuses =
-    talker limited_behaviour (λ old c new after kept. StoresAll stores refuses c after old new kept)
+-- an answerer with limits talks, and its pages go to a store, which takes some lines and says something
+abbrev pub storing : {P : Type 0} → StoreStep P → StoreStep P → (P → Said → Bool) → (P → List ℕ) → Talker LimitedFields P
+storing stores refuses takes tells =
+    talker limited_behaviour (keeping (λ old c said new after kept. StoresAll stores refuses c after old new kept) takes tells)
     (λ v turn bursts. AnswererLends v.station turn bursts)
 
 -- Pages were stored in order, and each is what data fields of FCDs, joined, read as by the parameters of a DCS that the answerer allows;
@@ -64,23 +65,23 @@ pub record StoresWhatIsSaid (P : Type 0) (stores : StoreStep P) (caps : Caps) (l
 -- The law, whoever is on the line: after lines that an answerer has answered `StoresWhatIsSaid` holds of its store.
 abbrev pub StoredIsSaid : (P : Type 0) → StoreStep P → StoreStep P → Type 0
 StoredIsSaid P stores refuses =
-    (caps : Caps) (lines : List (List ℕ)) (old new : TalkState LimitedFields P) → IsNewAnswerer caps old.conversation →
-    AnswersAll (storing stores refuses) lines old new → StoresWhatIsSaid P stores caps lines old.keeper new.keeper
+    (takes : P → Said → Bool) (tells : P → List ℕ) (caps : Caps) (lines : List (List ℕ)) (old new : TalkState LimitedFields P) →
+    IsNewAnswerer caps old.conversation → AnswersAll (storing stores refuses takes tells) lines old new → StoresWhatIsSaid P stores caps lines old.keeper new.keeper
 
 -- The law with one line more, after which the call is over or goes on, and all of whose pages were kept: `StoresWhatIsSaid` holds of the
 -- store.
 abbrev pub LastIsSaid : (P : Type 0) → StoreStep P → StoreStep P → Type 0
 LastIsSaid P stores refuses =
-    (caps : Caps) (lines : List (List ℕ)) (old mid new : TalkState LimitedFields P) (line : List ℕ) (over : Bool) →
-    IsNewAnswerer caps old.conversation → AnswersAll (storing stores refuses) lines old mid →
-    AnswersNext LimitedFields P (storing stores refuses) mid new line true over →
+    (takes : P → Said → Bool) (tells : P → List ℕ) (caps : Caps) (lines : List (List ℕ)) (old mid new : TalkState LimitedFields P)
+    (line : List ℕ) (over : Bool) → IsNewAnswerer caps old.conversation → AnswersAll (storing stores refuses takes tells) lines old mid →
+    AnswersNext LimitedFields P (storing stores refuses takes tells) mid new line true over →
     StoresWhatIsSaid P stores caps (lines ++ line ∷ []) old.keeper new.keeper
 
 -- The law for a last line of whose pages one was refused: `StoresWhatIsSaid` holds of the pages before that one.
 abbrev pub RefusedIsLast : (P : Type 0) → StoreStep P → StoreStep P → Type 0
 RefusedIsLast P stores refuses =
-    (caps : Caps) (lines : List (List ℕ)) (old mid new : TalkState LimitedFields P) (line : List ℕ) (over : Bool) →
-    IsNewAnswerer caps old.conversation → AnswersAll (storing stores refuses) lines old mid →
-    AnswersNext LimitedFields P (storing stores refuses) mid new line false over →
+    (takes : P → Said → Bool) (tells : P → List ℕ) (caps : Caps) (lines : List (List ℕ)) (old mid new : TalkState LimitedFields P)
+    (line : List ℕ) (over : Bool) → IsNewAnswerer caps old.conversation → AnswersAll (storing stores refuses takes tells) lines old mid →
+    AnswersNext LimitedFields P (storing stores refuses takes tells) mid new line false over →
     (stored : P) × (page : PagePixels) × StoresWhatIsSaid P stores caps (lines ++ line ∷ []) old.keeper stored ×
     refuses stored page new.keeper

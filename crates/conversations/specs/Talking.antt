@@ -1,12 +1,13 @@
 -- The answer to a line: what the station makes of it, and the lines that are written.
-use Rattle.std.specs.Prelude.{ℕ, ◌≡◌, ◌++◌, ◌∷◌, [], ◌↔◌, ⊤, Bool, IsTrue, IsSome, List, Option, Some, None, Ok, flat_map}
+use Rattle.std.specs.Prelude.{ℕ, ◌≡◌, ◌⊎◌, ◌++◌, ◌∷◌, [], ◌↔◌, ⊤, Bool, true, false, IsTrue, IsSome, List, Option, Some, None, Ok, flat_map}
 use Rattle.std.specs.Io.KnownBytes.{Appends}
-use Rattle.conversations.specs.Conversations.{Behaviour, ConversationFields, IsOutOfTime, SendsIfBegun, TakesLine, refused_so, next_quiet}
+use Rattle.conversations.specs.Conversations.{Behaviour, ConversationFields, IsOutOfTime, RefusesLine, SendsIfBegun, TakesLine, refused_so, next_quiet}
 use Rattle.conversations.specs.Lines.{Says, SaysNothing}
 use Rattle.conversations.specs.Writing.{burst_line, on_lines, rest_lines}
+use Rattle.conversations.specs.declared.line.Said.{Said}
 use Rattle.conversations.specs.declared.line.TimedLine.{TimedLine}
 use Rattle.conversations.specs.declared.talking.AnswerFault.{AnswerFault}
-use Rattle.conversations.specs.declared.talking.AnswerFault.TheVariants.{NoLine, OutOfTime}
+use Rattle.conversations.specs.declared.talking.AnswerFault.TheVariants.{NoLine, NotHeld, OutOfTime, NoMemory, Writer, Follower}
 use Rattle.signals.specs.declared.signal.Side.{Side}
 use Rattle.terminals.specs.Speaking.{BurstsOf}
 use Rattle.terminals.specs.declared.sending.SentBurst.{SentBurst}
@@ -42,31 +43,85 @@ pub record WritesTurn (S : Type 0) (side : Side) (lends : BurstsOf S) (shows : S
   pub says_rest : SaysRest side shows new over rest
   pub writes : Appends before after (flat_map (burst_line old.says.frames) bursts ++ rest)
 
--- a relation that says how what a line brought is kept: the keeper and the conversation before and after, and if all was kept
+-- a relation that says how what a line brought is kept: the keeper and the conversation before, what the line says, both after, and if all
+-- was kept
 abbrev pub KeepsOf : Type 0 → Type 0 → Type 1
-KeepsOf S K = K → ConversationFields S → K → ConversationFields S → Bool → Type 0
+KeepsOf S K = K → ConversationFields S → Said → K → ConversationFields S → Bool → Type 0
+
+-- a keeper as a conversation knows it: how it keeps what a line brought, which lines it can take, and what it says of what it keeps
+pub record Keeping (S K : Type 0) : Type 1 where
+  pub keeps : KeepsOf S K
+  pub takes : K → Said → Bool
+  pub tells : K → List ℕ
+
+-- a keeper, of its three parts
+abbrev pub keeping : {S K : Type 0} → KeepsOf S K → (K → Said → Bool) → (K → List ℕ) → Keeping S K
+keeping keeps takes tells = record { keeps = keeps; takes = takes; tells = tells }
+
+-- an answer is withheld: its bursts are given and not sent; or it isn't
+abbrev pub Withholds : {S : Type 0} → Side → BurstsOf S → ConversationFields S → Bool → ConversationFields S → Type 0
+Withholds side lends old false new = new ≡ old
+Withholds side lends old true new = (bursts : List SentBurst) × GivesAll side lends old bursts new
 
 -- A line is answered: it is taken, the call is stopped if a second DCS wasn't allowed, what it brought is kept, and only then is the answer
--- written: the line of each burst that is left, and the word.
-pub record Answers (S K : Type 0) (b : Behaviour S) (keeps : KeepsOf S K) (lends : BurstsOf S) (line : List ℕ)
+-- written: what the keeper says, the line of each burst that is left, and the word. If the answer is too late its bursts are withheld.
+pub record Answers (S K : Type 0) (b : Behaviour S) (k : Keeping S K) (lends : BurstsOf S) (line : List ℕ)
     (old new : ConversationFields S) (keeper kept_in : K) (before after : Option (List ℕ)) (kept over : Bool) : Type 0 where
   pub timed : TimedLine
   pub heard : ConversationFields S
   pub ready : ConversationFields S
+  pub late : Bool
+  pub left : ConversationFields S
+  pub told : Option (List ℕ)
   pub says : Says line timed
+  pub can_come : k.takes keeper timed.said ≡ true
   pub takes : TakesLine S b old timed heard
-  pub keeps_so : keeps keeper (refused_so b heard) kept_in ready kept
-  pub writes : WritesTurn S b.side lends b.shows ready new before after over
+  pub keeps_so : k.keeps keeper (refused_so b heard) timed.said kept_in ready kept
+  pub tells : Appends before told (k.tells kept_in)
+  pub withholds : Withholds b.side lends ready late left
+  pub writes : WritesTurn S b.side lends b.shows left new told after over
 
--- octets that aren't answered: they are no line of a station, or their time can't follow
-abbrev pub IsNoAnswer : {S F : Type 0} → ConversationFields S → List ℕ → AnswerFault F → Type 0
-IsNoAnswer old line NoLine = SaysNothing line
-IsNoAnswer old line OutOfTime = (timed : TimedLine) × Says line timed × IsOutOfTime old timed
-IsNoAnswer old line fault = ⊤
+-- a line was taken, and what it brought was kept, all of it or not
+pub record KeepsLine (S K : Type 0) (b : Behaviour S) (k : Keeping S K) (line : List ℕ) (old : ConversationFields S) (keeper kept_in : K) :
+    Type 0 where
+  pub timed : TimedLine
+  pub heard : ConversationFields S
+  pub ready : ConversationFields S
+  pub kept : Bool
+  pub says : Says line timed
+  pub can_come : k.takes keeper timed.said ≡ true
+  pub takes : TakesLine S b old timed heard
+  pub keeps_so : k.keeps keeper (refused_so b heard) timed.said kept_in ready kept
 
--- the condition holds if octets were refused before anything was done: they were no line, or their time can't follow
+-- nothing was done but that the line may have been heard in part, since memory was refused
+abbrev pub KeepsNothing : {S K : Type 0} → Behaviour S → List ℕ → ConversationFields S → ConversationFields S → K → K →
+    Option (List ℕ) → Option (List ℕ) → Type 0
+KeepsNothing {S} b line old new keeper kept_in before after = (kept_in ≡ keeper) × (after ≡ before)
+    × ((new ≡ old) ⊎ ((timed : TimedLine) × Says line timed × RefusesLine S b old timed new))
+
+-- An answer failed on the way. What the line brought was kept before anything was written: nothing was kept, and nothing written; or it was
+-- kept, and then the answer failed.
+abbrev pub BreaksOff : {S K : Type 0} → Behaviour S → Keeping S K → List ℕ → ConversationFields S → ConversationFields S → K → K →
+    Option (List ℕ) → Option (List ℕ) → Type 0
+BreaksOff {S} {K} b k line old new keeper kept_in before after =
+    KeepsNothing b line old new keeper kept_in before after ⊎ KeepsLine S K b k line old keeper kept_in
+
+-- why octets aren't answered, by what became of it: they are no line of a station, or no line that can come now, or their time can't follow;
+-- or the answer failed on the way
+abbrev pub IsNoAnswer : {S K F : Type 0} → Behaviour S → Keeping S K → List ℕ → ConversationFields S → ConversationFields S → K → K →
+    Option (List ℕ) → Option (List ℕ) → AnswerFault F → Type 0
+IsNoAnswer b k line old new keeper kept_in before after NoLine = SaysNothing line
+IsNoAnswer b k line old new keeper kept_in before after NotHeld =
+    (timed : TimedLine) × Says line timed × (k.takes keeper timed.said ≡ false)
+IsNoAnswer b k line old new keeper kept_in before after OutOfTime = (timed : TimedLine) × Says line timed × IsOutOfTime old timed
+IsNoAnswer b k line old new keeper kept_in before after NoMemory = BreaksOff b k line old new keeper kept_in before after
+IsNoAnswer b k line old new keeper kept_in before after (Writer kind) = BreaksOff b k line old new keeper kept_in before after
+IsNoAnswer b k line old new keeper kept_in before after (Follower why) = BreaksOff b k line old new keeper kept_in before after
+
+-- the condition holds if octets were refused before anything was done: they were no line, or one that can't come now
 abbrev pub IfRefused : {F : Type 0} → AnswerFault F → Type 0 → Type 0
 IfRefused NoLine A = A
+IfRefused NotHeld A = A
 IfRefused OutOfTime A = A
 IfRefused fault A = ⊤
 

@@ -1,23 +1,21 @@
 //! The conversation of a station as a process: lines that are taken, and bursts that are given.
 
 ghost use Rattle.conversations.specs.Conversations.{IsInTime, IsNew, IsOutOfTime, SendsIfBegun, TakesOrRefuses, behaviour, with_pages_taken, hung_up_so};
-ghost use Rattle.conversations.specs.Conversations.{next_quiet, refused_so};
-ghost use Rattle.conversations.specs.Refusing.{WatchFields, refusal_in};
-ghost use Rattle.conversations.specs.declared.refusing.Refused.TheVariants.{Never};
-ghost use Rattle.hdlc.specs.DeframerState.{IsAfter};
-ghost use Rattle.std.specs.Prelude.{◌≡◌, ◌↔◌, [], IsTrue, IsSome, Some, true, false};
+ghost use Rattle.conversations.specs.Conversations.{next_quiet, refused_so, stopped_so};
+ghost use Rattle.conversations.specs.Refusing.{IsNewWatch, WatchFields, gap_in, refusal_in};
+ghost use Rattle.std.specs.Prelude.{◌≡◌, ◌↔◌, IsTrue, IsSome, Some, true, false};
 ghost use Rattle.terminals.specs.declared.stopping.Shown.{Shown as AnyShown};
 
 use crate::giving::{clock_at, give, has_begun, line_gives, most_step};
 use crate::line::TimedLine;
-use crate::refusing::{Refusal, Watch, refusal_in, v21_octets, watch_octets};
+use crate::refusing::{Watch, gap_in, refusal_in, v21_octets, watch_octets};
 use crate::writing::Says;
 use raster::Page;
 use signals::Caps;
 use stations::{CallEnd, LimitedAnswerer, StoppableCaller};
 use std::alloc::{AllocError, Global};
 use std::marker::Model;
-use terminals::{Clock, Durations, SentBurst, Shown, Station, Stoppable, Terminal};
+use terminals::{Clock, Durations, Refusal, SentBurst, Shown, Station, Stoppable, Terminal};
 use thiserror::Error;
 
 /// Why a line wasn't taken.
@@ -106,14 +104,13 @@ impl Conversation<LimitedAnswerer> {
         }
     }
 
-    /// The conversation, whose call is stopped at the second DCS from now on that an answerer with these capabilities doesn't allow. Takes no
-    /// memory.
-    pub fn refusing(self, alloc: Global, caps: Caps) -> Conversation<LimitedAnswerer>
-        ensures { (watch : WatchFields) × (watch.caps ≡ caps) × IsAfter watch.ear [] 0 × (watch.refused ≡ Never)
-            × (result ≡ record self { watch = Some watch }) }
+    /// The conversation, whose caller is watched from now on: its call is stopped at the second DCS that an answerer with these capabilities
+    /// doesn't allow, if it refuses. Takes no memory.
+    pub fn watching(self, alloc: Global, caps: Caps, refuses: bool) -> Conversation<LimitedAnswerer>
+        ensures { (watch : WatchFields) × IsNewWatch caps refuses watch × (result ≡ record self { watch = Some watch }) }
     {
         let mut conversation = self;
-        conversation.watch = Some(Watch::new(alloc, caps));
+        conversation.watch = Some(Watch::new(alloc, caps, refuses));
         conversation
     }
 
@@ -187,12 +184,19 @@ impl<S: Stoppable> Conversation<S> {
         self.begun = true;
     }
 
+    /// Stops the call, as a line `stop` does.
+    pub fn stop(&mut self)
+        ensures { self.new ≡ stopped_so (behaviour S.sends S.steps S.shows S.cut_off S.stop_says) self.old }
+    {
+        self.terminal.stop();
+    }
+
     /// Stops the call, as a line `stop` does, if a second DCS wasn't allowed.
     pub fn refuse(&mut self)
         ensures { self.new ≡ refused_so (behaviour S.sends S.steps S.shows S.cut_off S.stop_says) self.old }
     {
         if self.refusal().is_some() {
-            self.terminal.stop();
+            self.stop();
         }
     }
 
@@ -201,6 +205,14 @@ impl<S: Stoppable> Conversation<S> {
         ensures { result ≡ refusal_in self.now.watch }
     {
         refusal_in(&self.watch)
+    }
+
+    /// Returns the page number, from 0 and modulo 256, of the first PPS whose number was neither that of the PPS before it nor the next; of
+    /// the first PPS, that wasn't 0. None if each followed, or if nothing is watched.
+    pub fn gap(&self) -> Option<u8>
+        ensures { result ≡ gap_in self.now.watch }
+    {
+        gap_in(&self.watch)
     }
 
     /// True if the station hears what is on the line: a caller from the first line on, an answerer once it has begun.

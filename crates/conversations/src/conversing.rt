@@ -1,8 +1,9 @@
 //! A whole conversation: the lines of a reader, answered one after the other until the call is over.
 
-ghost use Rattle.conversations.specs.Conversations.{TakesLine, behaviour};
+ghost use Rattle.conversations.specs.Conversations.{RefusesLine, TakesLine, behaviour};
 ghost use Rattle.conversations.specs.Conversing.{Converses, StopsSo, lost_at, talk_state, talker, unanswered};
-ghost use Rattle.std.specs.Prelude.{◌≡◌, IfErr, IfOk, OnOk};
+ghost use Rattle.conversations.specs.Talking.{keeping};
+ghost use Rattle.std.specs.Prelude.{◌≡◌, IfErr, IfOk, OnErr, OnOk};
 
 use crate::conversation::{Conversation, TakeFault};
 use crate::line::{Said, TimedLine};
@@ -26,8 +27,8 @@ pub enum Ending<E> {
 /// Why a conversation stopped before its end.
 #[derive(Clone, Copy, Debug, PartialEq, Eq, Drop)]
 pub enum ConverseFault<F> {
-    /// The line of this number, from 1, has more than 400,000 octets, isn't a line of a station, or its time can't follow. It has changed
-    /// nothing but what is left to be read.
+    /// The line of this number, from 1, has more than 400,000 octets, isn't a line of a station, or can't come now. It has changed nothing
+    /// but what is left to be read.
     Line(u64),
     /// Memory was refused.
     NoMemory,
@@ -46,7 +47,9 @@ fn unanswered<F>(fault: AnswerFault<F>, number: u64) -> ConverseFault<F>
     ensures { result ≡ unanswered fault number }
 {
     match fault {
-        AnswerFault::NoLine | AnswerFault::OutOfTime => ConverseFault::Line(number),
+        AnswerFault::NoLine | AnswerFault::NotHeld | AnswerFault::OutOfTime => {
+            ConverseFault::Line(number)
+        }
         AnswerFault::NoMemory => ConverseFault::NoMemory,
         AnswerFault::Writer(kind) => ConverseFault::Writer(kind),
         AnswerFault::Follower(fault) => ConverseFault::Follower(fault),
@@ -55,7 +58,9 @@ fn unanswered<F>(fault: AnswerFault<F>, number: u64) -> ConverseFault<F>
 
 /// Gives the station the loss of its line, at the time of the last line. Errs if memory is refused.
 fn lose<S: Stoppable>(conversation: &mut Conversation<S>) -> Result<(), AllocError>
-    ensures { OnOk result (TakesLine S (behaviour S.sends S.steps S.shows S.cut_off S.stop_says)
+    ensures lost { OnOk result (TakesLine S (behaviour S.sends S.steps S.shows S.cut_off S.stop_says)
+        conversation.old (lost_at conversation.old.clock.now) conversation.new) }
+    ensures refused { OnErr result (RefusesLine S (behaviour S.sends S.steps S.shows S.cut_off S.stop_says)
         conversation.old (lost_at conversation.old.clock.now) conversation.new) }
 {
     let lost = TimedLine {
@@ -70,7 +75,7 @@ fn lose<S: Stoppable>(conversation: &mut Conversation<S>) -> Result<(), AllocErr
 
 /// Reads line after line and answers each, as `answer` does, until the call is over, and returns how it ended. If no line is left before
 /// that, the station's line is lost at the time of the last one; if something that a line brought can't be kept, the conversation ends
-/// after the answer to that line. Errs with `Line` at the first line that is too long, isn't a line of a station, or whose time can't follow;
+/// after the answer to that line. Errs with `Line` at the first line that is too long, isn't a line of a station, or that can't come now;
 /// with `NoMemory`; and with `Reader`, `Writer` or `Follower` if one of these fails. Holds one line at a time.
 pub fn converse<S: Stoppable, R: BufRead, K: Keeper<S>, W: Write, F: Follower>(
     alloc: Global,
@@ -81,11 +86,12 @@ pub fn converse<S: Stoppable, R: BufRead, K: Keeper<S>, W: Write, F: Follower>(
     follower: &mut F,
 ) -> Result<Ending<K::Refused>, ConverseFault<F::Failed>>
     ensures ends { IfOk result (λ ending.
-        Converses S K K.Refused (talker (behaviour S.sends S.steps S.shows S.cut_off S.stop_says) K.keeps S.lends)
+        Converses S K K.Refused
+        (talker (behaviour S.sends S.steps S.shows S.cut_off S.stop_says) (keeping K.keeps K.takes K.tells) S.lends)
         (talk_state (R.remaining reader.old) conversation.old keeper.old (W.contents writer.old))
         (talk_state (R.remaining reader.new) conversation.new keeper.new (W.contents writer.new)) ending) }
     ensures stops { IfErr result (λ fault.
-        StopsSo (talker (behaviour S.sends S.steps S.shows S.cut_off S.stop_says) K.keeps S.lends)
+        StopsSo (talker (behaviour S.sends S.steps S.shows S.cut_off S.stop_says) (keeping K.keeps K.takes K.tells) S.lends)
         (talk_state (R.remaining reader.old) conversation.old keeper.old (W.contents writer.old))
         (talk_state (R.remaining reader.new) conversation.new keeper.new (W.contents writer.new)) fault) }
 {

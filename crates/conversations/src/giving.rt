@@ -55,6 +55,7 @@ pub(crate) fn line_gives<'a>(
         Said::NotReady => Given::Busy(true),
         Said::Ready => Given::Busy(false),
         Said::Missed => missed_given(begun, shown.listens),
+        Said::Told { .. } => Given::Nothing,
         Said::Stop => Given::Stop,
         Said::End => Given::Loss,
     }
@@ -98,7 +99,8 @@ fn state_of(said: &Said) -> LineState
     match said {
         Said::Quiet => LineState::Quiet,
         Said::Busy | Said::Received { .. } => LineState::Carrier,
-        Said::NotReady | Said::Ready | Said::Missed | Said::Stop | Said::End => LineState::Unsaid,
+        Said::NotReady | Said::Ready | Said::Missed | Said::Told { .. } | Said::Stop | Said::End =>
+            LineState::Unsaid,
     }
 }
 
@@ -135,6 +137,7 @@ fn begins(said: &Said, at: u64) -> bool
         | Said::NotReady
         | Said::Ready
         | Said::Missed
+        | Said::Told { .. }
         | Said::End => false,
     }
 }

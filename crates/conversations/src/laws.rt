@@ -2,13 +2,13 @@
 
 ghost use Rattle.conversations.specs.Answering.{NoneAreLeft};
 ghost use Rattle.conversations.specs.Hearing.{ExpectsWhatIsHeard};
+ghost use Rattle.conversations.specs.Holding.{HeldIsNotConfirmed};
 ghost use Rattle.conversations.specs.Led.{AnswerersAreLed, CallersAreLed};
 ghost use Rattle.conversations.specs.StoredLines.{LastIsSaid, RefusedIsLast, StoredIsSaid};
 
 use crate::answering::PageStore;
 
 pub mod lines;
-pub mod refusing;
 
 /// What `hear` says is what is heard, and nothing else.
 pub fn hears_are_heard()
@@ -26,6 +26,14 @@ pub fn stations_are_led()
 pub fn none_are_left()
     ensures { NoneAreLeft }
 {}
+
+/// An answerer whose pages are held takes one at a time, and says no MCF while it has one, whatever it hears: a page is confirmed only once it
+/// is kept.
+pub fn held_is_not_confirmed()
+    ensures { HeldIsNotConfirmed }
+{
+    stations::laws::busy_before();
+}
 
 /// Whoever is on the line, the pages that an answerer of lines has stored are stored in order, and each is read, by the grammar of its
 /// code, from data fields of FCDs, joined, by the parameters of a DCS that the answerer allows; these FCDs and the DCS came in good frames

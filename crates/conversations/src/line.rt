@@ -2,8 +2,10 @@
 
 ghost use Rattle.conversations.specs.FrameLines.{AreCoded, EndsWord, IsContent, NoFrameComes, SaysNoFrames, WritesFirst, WritesFrames};
 ghost use Rattle.conversations.specs.Lines.{AreBits, HasCome, IsBurst, IsNumber, ReceivedAfter, IsWordOf, HasNoSpace, Says, SaysNothing};
+ghost use Rattle.conversations.specs.Lines.{ToldAfter, fate_word};
 ghost use Rattle.conversations.specs.declared.carrier.Channel.{Channel as ChannelValue};
 ghost use Rattle.conversations.specs.declared.carrier.Kind.{Kind as KindValue};
+ghost use Rattle.conversations.specs.declared.line.Fate.{Fate as FateValue};
 ghost use Rattle.conversations.specs.declared.line.LineRefused.TheVariants.{NoLine};
 ghost use Rattle.conversations.specs.declared.line.Said.{Said as SaidValue};
 ghost use Rattle.conversations.specs.declared.line.TimedLine.{TimedLine as TimedValue};
@@ -50,10 +52,26 @@ pub enum Said {
     Ready,
     /// `missed`: what was to be heard didn't come.
     Missed,
+    /// `kept` or `lost`: what became of a page that was handed over.
+    Told {
+        /// Whether it is kept.
+        fate: Fate,
+        /// The name of its file.
+        file: Vec<u8>,
+    },
     /// `stop`: the call is to be ended in order.
     Stop,
     /// `end`: the line has dropped.
     End,
+}
+
+/// What became of a page that was handed over.
+#[derive(Clone, Copy, Debug, PartialEq, Eq)]
+pub enum Fate {
+    /// `kept`: it is stored for good.
+    Kept,
+    /// `lost`: it can't be stored.
+    Lost,
 }
 
 /// What a line says, and when.
@@ -347,6 +365,36 @@ fn read_received(alloc: Global, text: &[u8]) -> Result<TimedLine, LineRefused>
     Ok(TimedLine { at, said })
 }
 
+/// What a word says of a page that was handed over, if it does.
+fn fate_by(word: &[u8]) -> Option<Fate>
+    ensures { MatchOption result ((fate : FateValue) → word.now ≡ fate_word fate → ⊥) (λ fate. word.now ≡ fate_word fate) }
+{
+    match word {
+        b"kept" => Some(Fate::Kept),
+        b"lost" => Some(Fate::Lost),
+        _ => None,
+    }
+}
+
+/// Reads the time and the name of a file: what became of its page, and when.
+fn read_told(alloc: Global, fate: Fate, text: &[u8]) -> Result<TimedLine, LineRefused>
+    ensures { MatchResult result (ToldAfter fate text.now) (λ refused. refused ≡ NoLine → (timed : TimedValue)
+        → ToldAfter fate text.now timed → ⊥) }
+{
+    let Some((digits, name)) = split_word(text) else {
+        return Err(LineRefused::NoLine);
+    };
+    let Some(at) = number_in(digits, TIME_DIGITS) else {
+        return Err(LineRefused::NoLine);
+    };
+    let mut file = Vec::new(alloc);
+    if file.extend_from_slice(name).is_err() {
+        return Err(LineRefused::NoMemory);
+    }
+    let said = Said::Told { fate, file };
+    Ok(TimedLine { at, said })
+}
+
 /// Reads a line without its LF: what it says, and when, in milliseconds. Errs with `NoLine` only if the octets aren't a line of a station,
 /// and with `NoMemory`.
 pub fn read_line(alloc: Global, line: &[u8]) -> Result<TimedLine, LineRefused>
@@ -360,6 +408,9 @@ pub fn read_line(alloc: Global, line: &[u8]) -> Result<TimedLine, LineRefused>
     };
     if is_rx(word) {
         return read_received(alloc, rest);
+    }
+    if let Some(fate) = fate_by(word) {
+        return read_told(alloc, fate, rest);
     }
     let Some(said) = said_by(word) else {
         return Err(LineRefused::NoLine);

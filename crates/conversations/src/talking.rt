@@ -1,11 +1,12 @@
 //! A station that talks: it takes a line of text, keeps what that brings, and writes the bursts of its turn and a word.
 
 ghost use Rattle.conversations.specs.Conversations.{ConversationFields, behaviour};
-ghost use Rattle.conversations.specs.Talking.{Answers, IfRefused, IsLate, IsNoAnswer, WritesTurn};
-ghost use Rattle.std.specs.Prelude.{◌≡◌, Bool, IfErr, IfOk, is_none};
+ghost use Rattle.conversations.specs.Talking.{Answers, IfRefused, IsLate, IsNoAnswer, Withholds, WritesTurn, keeping};
+ghost use Rattle.conversations.specs.declared.line.Said.{Said as SaidValue};
+ghost use Rattle.std.specs.Prelude.{◌≡◌, ℕ, Bool, IfErr, IfOk, List, OnOk, is_none};
 
 use crate::conversation::{Conversation, TakeFault};
-use crate::line::{LineRefused, TimedLine, read_line};
+use crate::line::{LineRefused, Said, TimedLine, read_line};
 use crate::writing::{write_rest, write_sent};
 use stations::Listening;
 use std::alloc::{AllocError, Global};
@@ -18,15 +19,30 @@ const MOST_BURSTS: u32 = 255;
 
 /// Where the pages that a station has stored go before it answers.
 pub trait Keeper<S: Stoppable> {
-    // What it is to keep what there is after a line: the keeper and the conversation before, both after, and whether all was kept.
-    ghost keeps: { Self → ConversationFields S → Self → ConversationFields S → Bool → Type 0 };
+    // What it is to keep what there is after a line: the keeper and the conversation before, what the line says, both after, and whether
+    // all was kept.
+    ghost keeps: { Self → ConversationFields S → SaidValue → Self → ConversationFields S → Bool → Type 0 };
+
+    // Whether a line that says this can come.
+    ghost takes: { Self → SaidValue → Bool };
+
+    // What is said of what it keeps, before the bursts.
+    ghost tells: { Self → List ℕ };
 
     /// The error of a keeper.
     type Refused: Drop;
 
-    /// Keeps what the last line brought. Returns the storage error, if any.
-    fn keep(&mut self, conversation: &mut Conversation<S>) -> Option<Self::Refused>
-        ensures { keeps self.old conversation.old self.new conversation.new (is_none result) };
+    /// Whether a line that says this can come now.
+    fn can_take(&self, said: &Said) -> bool
+        ensures { result ≡ takes self.now said.now };
+
+    /// Keeps what the last line brought, which says this. Returns the storage error, if any.
+    fn keep(&mut self, conversation: &mut Conversation<S>, said: &Said) -> Option<Self::Refused>
+        ensures { keeps self.old conversation.old said.now self.new conversation.new (is_none result) };
+
+    /// The lines that are written before the bursts.
+    fn told(&self) -> &[u8]
+        ensures { result.now ≡ tells self.now };
 }
 
 /// Observes a conversation, for example to write a trace, and changes nothing of it.
@@ -37,6 +53,9 @@ pub trait Follower {
     /// A station that listens for this takes a line.
     fn heard(&mut self, listens: Listening, line: &TimedLine) -> Result<(), Self::Failed>;
 
+    /// Whether the answer to the line of this time, in milliseconds, comes too late to be sent.
+    fn is_late(&mut self, at: u64) -> bool;
+
     /// A burst is sent, in answer to the line of this time, in milliseconds.
     fn said(&mut self, at: u64, burst: &SentBurst) -> Result<(), Self::Failed>;
 }
@@ -46,6 +65,8 @@ pub trait Follower {
 pub enum AnswerFault<F> {
     /// The octets aren't a line of a station. Nothing has changed.
     NoLine,
+    /// The line is about a page that isn't held. Nothing has changed.
+    NotHeld,
     /// The line's time is before that of the line before it, or too late after it. Nothing has changed.
     OutOfTime,
     /// Memory was refused.
@@ -117,9 +138,35 @@ pub fn write_turn<S: Stoppable, W: Write, F: Follower>(
     Err(AnswerFault::NoMemory)
 }
 
+/// Whether there are bursts, and the follower says that they come too late in answer to the line of this time.
+fn comes_late<S: Stoppable, F: Follower>(
+    conversation: &Conversation<S>,
+    at: u64,
+    follower: &mut F,
+) -> bool {
+    conversation.terminal().has_burst() && follower.is_late(at)
+}
+
+/// Gives the bursts that are left of the turn, if the answer comes too late, so that none of them is sent. Errs if memory is refused.
+fn withhold<S: Stoppable>(conversation: &mut Conversation<S>, late: bool) -> Result<(), AllocError>
+    ensures { OnOk result (Withholds S.sends S.lends conversation.old late conversation.new) }
+{
+    if !late {
+        return Ok(());
+    }
+    for _burst in 0..MOST_BURSTS {
+        if conversation.next_burst()?.is_none() {
+            return Ok(());
+        }
+    }
+    Err(AllocError)
+}
+
 /// Answers a line, which comes without its LF: takes it, stops the call if a second DCS wasn't allowed, keeps what it brought, and only
-/// then writes the bursts of the turn and a word. If something can't be kept, the answer is what the conversation says after that. Errs
-/// with `NoLine`, or with `OutOfTime` if the time can't follow: nothing has changed. Errs with `NoMemory`, `Writer` or `Follower`.
+/// then writes what the keeper says, the bursts of the turn and a word. If something can't be kept, the answer is what the conversation says
+/// after that; if it comes too late, its bursts aren't sent. Errs with `NoLine`, with `NotHeld` if the keeper can't take the line, or with
+/// `OutOfTime` if the time can't follow: nothing has changed. Errs with `NoMemory`, `Writer` or `Follower`: something is written only if what
+/// the line brought was kept before.
 pub fn answer<S: Stoppable, K: Keeper<S>, W: Write, F: Follower>(
     alloc: Global,
     line: &[u8],
@@ -129,9 +176,12 @@ pub fn answer<S: Stoppable, K: Keeper<S>, W: Write, F: Follower>(
     follower: &mut F,
 ) -> Result<Answered<K::Refused>, AnswerFault<F::Failed>>
     ensures ok { IfOk result (λ answer.
-        Answers S K (behaviour S.sends S.steps S.shows S.cut_off S.stop_says) K.keeps S.lends line.now conversation.old conversation.new
-        keeper.old keeper.new (W.contents writer.old) (W.contents writer.new) (is_none answer.unkept) answer.over) }
-    ensures none { IfErr result (λ fault. IsNoAnswer conversation.old line.now fault) }
+        Answers S K (behaviour S.sends S.steps S.shows S.cut_off S.stop_says) (keeping K.keeps K.takes K.tells) S.lends line.now
+        conversation.old conversation.new keeper.old keeper.new (W.contents writer.old) (W.contents writer.new) (is_none answer.unkept)
+        answer.over) }
+    ensures none { IfErr result (λ fault. IsNoAnswer (behaviour S.sends S.steps S.shows S.cut_off S.stop_says)
+        (keeping K.keeps K.takes K.tells) line.now conversation.old conversation.new keeper.old keeper.new (W.contents writer.old)
+        (W.contents writer.new) fault) }
     ensures unchanged { IfErr result (λ fault. IfRefused fault
         ((conversation.new ≡ conversation.old) × (keeper.new ≡ keeper.old) × (writer.new ≡ writer.old))) }
 {
@@ -140,6 +190,9 @@ pub fn answer<S: Stoppable, K: Keeper<S>, W: Write, F: Follower>(
         Err(LineRefused::NoLine) => return Err(AnswerFault::NoLine),
         Err(LineRefused::NoMemory) => return Err(AnswerFault::NoMemory),
     };
+    if !keeper.can_take(&timed.said) {
+        return Err(AnswerFault::NotHeld);
+    }
     if conversation.has_begun() {
         let listens = conversation.terminal().shown().listens;
         follower
@@ -152,7 +205,10 @@ pub fn answer<S: Stoppable, K: Keeper<S>, W: Write, F: Follower>(
         Err(TakeFault::NoMemory) => return Err(AnswerFault::NoMemory),
     }
     conversation.refuse();
-    let unkept = keeper.keep(conversation);
+    let unkept = keeper.keep(conversation, &timed.said);
+    writer.write_all(keeper.told())?;
+    let late = comes_late(conversation, timed.at, follower);
+    withhold(conversation, late)?;
     let over = write_turn(alloc, conversation, timed.at, writer, follower)?;
     Ok(Answered { over, unkept })
 }

@@ -182,7 +182,7 @@ fn no_raw_pbm(begins: &[u8]) -> &'static str
 }
 
 /// Why the system refuses a file.
-fn reason_words(reason: Option<ErrorKind>) -> &'static str
+pub fn reason_words(reason: Option<ErrorKind>) -> &'static str
     ensures { result.now ≡ reason_words reason }
 {
     match reason {

@@ -12,12 +12,12 @@ use Rattle.clap.proofs.WalkLemmas.{one_text-rows}
 use Rattle.calls.specs.Losses.{IsRate}
 use Rattle.calls.specs.declared.losses.BadLine.{BadLine}
 use Rattle.std.specs.Prelude.{Bool, false, is_some, not, option_map, string_bytes, ◌&&◌}
-use Rattle.faxtool.specs.declared.commands.Command.TheVariants.{Answer, Call, Captures, Code, Decode, Dial, Drive, Frames, Identify, Show, Version}
+use Rattle.faxtool.specs.declared.commands.Command.TheVariants.{Answer, Call, Captures, Code, Decode, Dial, Drive, Each, Frames, Identify, Several, Show, Version}
 use Rattle.faxtool.specs.declared.args.words.Outcome.{Outcome}
 use Rattle.faxtool.specs.declared.args.words.Outcome.TheVariants.{Done, Fault, Incomplete, Words}
 use Rattle.faxtool.specs.Jobs.{AreOptionsIn, HasNoCommand, HasNoOptions, IsFaxtool, IsOutcomeOf, IsRefusalOf, IsWidthIn, ReadsNumber}
 use Rattle.faxtool.specs.Jobs.{has_captures, is_named}
-use Rattle.faxtool.specs.Jobs.{IsBusyIn, IsLineIn, IsTimesIn, IsRateIn, IsSpoilIn, call_and_page_app, with_later}
+use Rattle.faxtool.specs.Jobs.{IsBusyIn, IsLineIn, IsTimesIn, IsRateIn, IsSpoilIn, page_app, with_calls, with_later}
 
 -- ---- the width
 
@@ -62,32 +62,39 @@ width_none rows none n is =
 
 -- ---- the words
 
-pub faxtool_simple : (codings orders sizes modems ends later_codings later_sizes later_modems widths : ValueParser)
-    → is_simple (with_later (call_and_page_app codings orders sizes modems ends) later_codings later_sizes later_modems widths) ≡ true
+pub faxtool_simple : (page_codings page_orders codings orders sizes modems ends later_codings later_sizes later_modems widths : ValueParser)
+    → is_simple (with_later (with_calls (page_app page_codings page_orders) codings orders sizes modems ends) later_codings later_sizes
+    later_modems widths) ≡ true
 unfolding clap_on_literals
-faxtool_simple codings orders sizes modems ends later_codings later_sizes later_modems widths = refl
+faxtool_simple page_codings page_orders codings orders sizes modems ends later_codings later_sizes later_modems widths = refl
 
-pub faxtool_free : (codings orders sizes modems ends later_codings later_sizes later_modems widths : ValueParser)
-    → is_simple_and_free (with_later (call_and_page_app codings orders sizes modems ends) later_codings later_sizes later_modems widths)
-    ≡ true
+pub faxtool_free : (page_codings page_orders codings orders sizes modems ends later_codings later_sizes later_modems widths : ValueParser)
+    → is_simple_and_free (with_later (with_calls (page_app page_codings page_orders) codings orders sizes modems ends) later_codings
+    later_sizes later_modems widths) ≡ true
 unfolding clap_on_literals
-faxtool_free codings orders sizes modems ends later_codings later_sizes later_modems widths = refl
+faxtool_free page_codings page_orders codings orders sizes modems ends later_codings later_sizes later_modems widths = refl
 
 -- the whole program, by its parsers alone
-whole : (a : App) (is : IsFaxtool a)
-    → a ≡ with_later (call_and_page_app is.first.codings is.first.orders is.first.sizes is.first.modems is.first.ends) is.codings
-    is.sizes is.modems is.widths
-whole a is = is.commands ∙ ap (λ (begun : App). with_later begun is.codings is.sizes is.modems is.widths) is.first.commands
+abbrev whole_app : (a : App) → IsFaxtool a → App
+whole_app a is =
+    with_later (with_calls (page_app is.first.pages.codings is.first.pages.orders) is.first.codings is.first.orders is.first.sizes
+    is.first.modems is.first.ends) is.codings is.sizes is.modems is.widths
+
+whole : (a : App) (is : IsFaxtool a) → a ≡ whole_app a is
+whole a is =
+    is.commands ∙ ap (λ (begun : App). with_later begun is.codings is.sizes is.modems is.widths)
+    (is.first.commands ∙ ap (λ (begun : App). with_calls begun is.first.codings is.first.orders is.first.sizes is.first.modems is.first.ends)
+    is.first.pages.commands)
 
 pub is_faxtool_simple : (a : App) → IsFaxtool a → is_simple a ≡ true
 is_faxtool_simple a is =
-    ap is_simple (whole a is) ∙ faxtool_simple is.first.codings is.first.orders is.first.sizes is.first.modems is.first.ends is.codings
-    is.sizes is.modems is.widths
+    ap is_simple (whole a is) ∙ faxtool_simple is.first.pages.codings is.first.pages.orders is.first.codings is.first.orders is.first.sizes
+    is.first.modems is.first.ends is.codings is.sizes is.modems is.widths
 
 pub is_faxtool_free : (a : App) → IsFaxtool a → is_simple_and_free a ≡ true
 is_faxtool_free a is =
-    ap is_simple_and_free (whole a is) ∙ faxtool_free is.first.codings is.first.orders is.first.sizes is.first.modems is.first.ends
-    is.codings is.sizes is.modems is.widths
+    ap is_simple_and_free (whole a is) ∙ faxtool_free is.first.pages.codings is.first.pages.orders is.first.codings is.first.orders
+    is.first.sizes is.first.modems is.first.ends is.codings is.sizes is.modems is.widths
 
 -- clap's own refusal
 pub refused_by_kind : (words : List Text) (a : App) (error : Error) (outcome : Outcome) → IsFaxtool a
@@ -212,11 +219,15 @@ no_width rows none (Show command) (others, e, is) =
     none command.width (subst (λ (xs : List Row). IsWidthIn xs command.width) (sym (some_rows (codes "show") (codes "show") rows others e)) is.width_is)
 no_width rows none (Decode command) (others, e, is) =
     show_is_decode (some_name (codes "show") (codes "decode") rows others e)
+no_width rows none (Each command) (others, e, is) =
+    show_is_decode (some_name (codes "show") (codes "decode") rows others e)
 no_width rows none (Frames command) (others, e, is) =
     show_is_frames (some_name (codes "show") (codes "frames") rows others e)
 no_width rows none (Captures command) (others, e, is) =
     show_is_frames (some_name (codes "show") (codes "frames") rows others e)
-no_width rows none (Identify command) (others, e, is) =
+no_width rows none (Identify command) (others, e, one, is) =
+    show_is_identify (some_name (codes "show") (codes "identify") rows others e)
+no_width rows none (Several command) (others, e, more, is) =
     show_is_identify (some_name (codes "show") (codes "identify") rows others e)
 no_width rows none (Call command) (others, e, is) =
     show_is_call (some_name (codes "show") (codes "call") rows others e)
@@ -229,29 +240,35 @@ no_width rows none (Dial command) (others, e, is) =
 no_width rows none (Version command) (others, e, is) = show_is_version (some_name (codes "show") (codes "version") rows others e)
 
 -- nor is there one for `decode`
-pub no_width_to_decode : (rows : List Row) → ((n : ℕ) → IsWidthIn rows n → ⊥) → HasNoCommand (Some (codes "decode", rows))
-no_width_to_decode rows none (Code command) (others, e, is) =
+pub no_width_to_decode : (rows : List Row) → first_of (codes "each") rows ≡ None → ((n : ℕ) → IsWidthIn rows n → ⊥) → HasNoCommand (Some (codes "decode", rows))
+no_width_to_decode rows alone none (Code command) (others, e, is) =
     decode_is_code (some_name (codes "decode") (codes "code") rows others e)
-no_width_to_decode rows none (Show command) (others, e, is) =
+no_width_to_decode rows alone none (Show command) (others, e, is) =
     show_is_decode (sym (some_name (codes "decode") (codes "show") rows others e))
-no_width_to_decode rows none (Decode command) (others, e, is) =
+no_width_to_decode rows alone none (Decode command) (others, e, is) =
     none command.form.width (subst (λ (xs : List Row). IsWidthIn xs command.form.width) (sym (some_rows (codes "decode") (codes "decode") rows others e))
     is.shown.width_is)
-no_width_to_decode rows none (Frames command) (others, e, is) =
+no_width_to_decode rows alone none (Each command) (others, e, is) =
+    let same : rows ≡ others = some_rows (codes "decode") (codes "decode") rows others e in
+    let no : ◌≡◌ {A = Option Text} (Some (string_bytes command.folder)) None = sym is.folder_is ∙ (ap (first_of (codes "each")) (sym same) ∙ alone) in
+    absurd (cc)
+no_width_to_decode rows alone none (Frames command) (others, e, is) =
     decode_is_frames (some_name (codes "decode") (codes "frames") rows others e)
-no_width_to_decode rows none (Captures command) (others, e, is) =
+no_width_to_decode rows alone none (Captures command) (others, e, is) =
     decode_is_frames (some_name (codes "decode") (codes "frames") rows others e)
-no_width_to_decode rows none (Identify command) (others, e, is) =
+no_width_to_decode rows alone none (Identify command) (others, e, one, is) =
     decode_is_identify (some_name (codes "decode") (codes "identify") rows others e)
-no_width_to_decode rows none (Call command) (others, e, is) =
+no_width_to_decode rows alone none (Several command) (others, e, more, is) =
+    decode_is_identify (some_name (codes "decode") (codes "identify") rows others e)
+no_width_to_decode rows alone none (Call command) (others, e, is) =
     decode_is_call (some_name (codes "decode") (codes "call") rows others e)
-no_width_to_decode rows none (Drive command) (others, e, is) =
+no_width_to_decode rows alone none (Drive command) (others, e, is) =
     decode_is_call (some_name (codes "decode") (codes "call") rows others e)
-no_width_to_decode rows none (Answer command) (others, e, is) =
+no_width_to_decode rows alone none (Answer command) (others, e, is) =
     decode_is_station (some_name (codes "decode") (codes "station") rows others e)
-no_width_to_decode rows none (Dial command) (others, e, is) =
+no_width_to_decode rows alone none (Dial command) (others, e, is) =
     decode_is_station (some_name (codes "decode") (codes "station") rows others e)
-no_width_to_decode rows none (Version command) (others, e, is) =
+no_width_to_decode rows alone none (Version command) (others, e, is) =
     decode_is_version (some_name (codes "decode") (codes "version") rows others e)
 
 -- without options there is no command for `call`
@@ -262,11 +279,15 @@ no_options rows none (Show command) (others, e, is) =
     show_is_call (sym (some_name (codes "call") (codes "show") rows others e))
 no_options rows none (Decode command) (others, e, is) =
     decode_is_call (sym (some_name (codes "call") (codes "decode") rows others e))
+no_options rows none (Each command) (others, e, is) =
+    decode_is_call (sym (some_name (codes "call") (codes "decode") rows others e))
 no_options rows none (Frames command) (others, e, is) =
     call_is_frames (some_name (codes "call") (codes "frames") rows others e)
 no_options rows none (Captures command) (others, e, is) =
     call_is_frames (some_name (codes "call") (codes "frames") rows others e)
-no_options rows none (Identify command) (others, e, is) =
+no_options rows none (Identify command) (others, e, one, is) =
+    call_is_identify (some_name (codes "call") (codes "identify") rows others e)
+no_options rows none (Several command) (others, e, more, is) =
     call_is_identify (some_name (codes "call") (codes "identify") rows others e)
 no_options rows none (Call command) (others, e, is) =
     none command.options (subst (λ (xs : List Row). AreOptionsIn xs command.options) (sym (some_rows (codes "call") (codes "call") rows others e))
@@ -316,11 +337,15 @@ no_line rows open_end none (Show command) (others, e, is) =
     show_is_call (sym (some_name (codes "call") (codes "show") rows others e))
 no_line rows open_end none (Decode command) (others, e, is) =
     decode_is_call (sym (some_name (codes "call") (codes "decode") rows others e))
+no_line rows open_end none (Each command) (others, e, is) =
+    decode_is_call (sym (some_name (codes "call") (codes "decode") rows others e))
 no_line rows open_end none (Frames command) (others, e, is) =
     call_is_frames (some_name (codes "call") (codes "frames") rows others e)
 no_line rows open_end none (Captures command) (others, e, is) =
     call_is_frames (some_name (codes "call") (codes "frames") rows others e)
-no_line rows open_end none (Identify command) (others, e, is) =
+no_line rows open_end none (Identify command) (others, e, one, is) =
+    call_is_identify (some_name (codes "call") (codes "identify") rows others e)
+no_line rows open_end none (Several command) (others, e, more, is) =
     call_is_identify (some_name (codes "call") (codes "identify") rows others e)
 no_line rows open_end none (Call command) (others, e, is) =
     let same : rows ≡ others = some_rows (codes "call") (codes "call") rows others e in
@@ -344,11 +369,15 @@ no_times rows open_end none (Show command) (others, e, is) =
     show_is_call (sym (some_name (codes "call") (codes "show") rows others e))
 no_times rows open_end none (Decode command) (others, e, is) =
     decode_is_call (sym (some_name (codes "call") (codes "decode") rows others e))
+no_times rows open_end none (Each command) (others, e, is) =
+    decode_is_call (sym (some_name (codes "call") (codes "decode") rows others e))
 no_times rows open_end none (Frames command) (others, e, is) =
     call_is_frames (some_name (codes "call") (codes "frames") rows others e)
 no_times rows open_end none (Captures command) (others, e, is) =
     call_is_frames (some_name (codes "call") (codes "frames") rows others e)
-no_times rows open_end none (Identify command) (others, e, is) =
+no_times rows open_end none (Identify command) (others, e, one, is) =
+    call_is_identify (some_name (codes "call") (codes "identify") rows others e)
+no_times rows open_end none (Several command) (others, e, more, is) =
     call_is_identify (some_name (codes "call") (codes "identify") rows others e)
 no_times rows open_end none (Call command) (others, e, is) =
     let same : rows ≡ others = some_rows (codes "call") (codes "call") rows others e in
@@ -394,6 +423,8 @@ no_folder rows alone wanted none (Show command) (others, e, is) =
     show_is_frames (sym (some_name (codes "frames") (codes "show") rows others e))
 no_folder rows alone wanted none (Decode command) (others, e, is) =
     decode_is_frames (sym (some_name (codes "frames") (codes "decode") rows others e))
+no_folder rows alone wanted none (Each command) (others, e, is) =
+    decode_is_frames (sym (some_name (codes "frames") (codes "decode") rows others e))
 no_folder rows alone wanted none (Frames command) (others, e, is) =
     let same : rows ≡ others = some_rows (codes "frames") (codes "frames") rows others e in
     let asked : command.salvage ≡ true = is.pages_are.salvage_is
@@ -409,7 +440,9 @@ no_folder rows alone wanted none (Captures command) (others, e, is) =
     let there : has_captures others ≡ true = rw is.diagram_is refl in
     let no : ◌≡◌ {A = Bool} true false = sym there ∙ (ap has_captures (sym same) ∙ alone) in
     cc
-no_folder rows alone wanted none (Identify command) (others, e, is) =
+no_folder rows alone wanted none (Identify command) (others, e, one, is) =
+    frames_is_identify (some_name (codes "frames") (codes "identify") rows others e)
+no_folder rows alone wanted none (Several command) (others, e, more, is) =
     frames_is_identify (some_name (codes "frames") (codes "identify") rows others e)
 no_folder rows alone wanted none (Call command) (others, e, is) =
     call_is_frames (sym (some_name (codes "frames") (codes "call") rows others e))

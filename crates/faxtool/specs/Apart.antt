@@ -7,7 +7,7 @@ use Rattle.faults.specs.declared.fault.ToolFault.TheVariants.{No}
 use Rattle.faxtool.specs.declared.args.words.Outcome.{Outcome}
 use Rattle.faxtool.specs.declared.files.apart.CommandFile.{CommandFile}
 use Rattle.faxtool.specs.declared.files.apart.Identity.{Identity}
-use Rattle.faxtool.specs.declared.files.apart.Identity.TheVariants.{File, New, Other}
+use Rattle.faxtool.specs.declared.files.apart.Identity.TheVariants.{File, New}
 use Rattle.faxtool.specs.declared.args.words.Outcome.TheVariants.{Done, Incomplete, Fault, Words}
 
 -- Two names lead to one place: to a file or a pipe of the same device and number, or to a new file of the same name in the same folder. A

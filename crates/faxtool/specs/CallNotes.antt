@@ -4,13 +4,17 @@ use Rattle.std.specs.Prelude.{codes, cond, drop, length, nat_eq, take}
 use Rattle.std.specs.Fmt.{decimal}
 use Rattle.captures.specs.Missing.{lines_word}
 use Rattle.captures.specs.Names.{code_name}
-use Rattle.captures.specs.OtherWords.{other_words}
 use Rattle.captures.specs.Records.{other_record}
+use Rattle.captures.specs.Texts.{content_text}
 use Rattle.conversations.specs.Lines.{channel_name}
 use Rattle.conversations.specs.declared.carrier.Channel.TheVariants.{Message}
-use Rattle.conversations.specs.declared.refusing.Refusal.{Refusal}
-use Rattle.conversations.specs.declared.refusing.Refusal.TheVariants.{NoErrorCorrection as RefusedPlain, NotOffered}
+use Rattle.terminals.specs.declared.watching.Refusal.{Refusal}
+use Rattle.terminals.specs.declared.watching.Refusal.TheVariants.{NoErrorCorrection as RefusedPlain, NotOffered}
 use Rattle.faults.specs.RecordLines.{count, words}
+use Rattle.faults.specs.Explanations.{reason_words as system_words}
+use Rattle.std.specs.declared.io.ErrorKind.{ErrorKind}
+use Rattle.faxtool.specs.declared.commands.station.folder.StoppedBy.{StoppedBy}
+use Rattle.faxtool.specs.declared.commands.station.folder.StoppedBy.TheVariants.{Pages, Octets, Seconds, LostPage}
 use Rattle.faxtool.specs.declared.commands.station.notes.Noted.{Noted}
 use Rattle.faxtool.specs.declared.commands.station.trace.FrameRun.{FrameRun}
 use Rattle.raster.specs.Pages.{PagePixels}
@@ -138,10 +142,18 @@ abbrev pub IsMissing : Option Caps → Wish → Bool → Option Reason → Type 
 IsMissing None wish fine missing = missing ≡ None
 IsMissing (Some caps) wish fine missing = (reason : Reason) × (missing ≡ Some reason) × IsLack caps wish fine reason
 
--- why a DCS wasn't allowed, of a call that was stopped
-abbrev pub stopped_why : Option Refusal → Option (List ℕ)
-stopped_why None = None
-stopped_why (Some why) = Some (refusal_words why)
+-- why an answerer's program stopped its call, in words
+abbrev pub stopped_words : StoppedBy → List ℕ
+stopped_words Pages = codes "a further page is dropped, and the call stopped: --most-pages"
+stopped_words Octets = codes "a further page is dropped, and the call stopped: --most-octets"
+stopped_words Seconds = codes "the call is stopped: --most-seconds"
+stopped_words LostPage = codes "the call is stopped: a page that was handed over is lost"
+
+-- why a DCS wasn't allowed, of a call that was stopped, or else why the program stopped it
+abbrev pub stopped_why : Option Refusal → Option StoppedBy → Option (List ℕ)
+stopped_why (Some why) by = Some (refusal_words why)
+stopped_why None None = None
+stopped_why None (Some by) = Some (stopped_words by)
 
 -- what is missing, of stations that aren't compatible
 abbrev pub missing_why : Option Reason → Option (List ℕ)
@@ -149,10 +161,15 @@ missing_why None = None
 missing_why (Some reason) = Some (reason_words reason)
 
 -- why a call ended so, in words, where more is known than its end
-abbrev pub why_words : Option CallEnd → Option Refusal → Option Reason → Option (List ℕ)
-why_words (Some Stopped) refused missing = stopped_why refused
-why_words (Some (By NotCompatible)) refused missing = missing_why missing
-why_words end refused missing = None
+abbrev pub end_why : Option CallEnd → Option Refusal → Option StoppedBy → Option Reason → Option (List ℕ)
+end_why (Some Stopped) refused by missing = stopped_why refused by
+end_why (Some (By NotCompatible)) refused by missing = missing_why missing
+end_why end refused by missing = None
+
+-- why, or why a page's file couldn't be written
+abbrev pub why_words : Option ErrorKind → Option (List ℕ) → Option (List ℕ)
+why_words None why = why
+why_words (Some kind) why = Some (system_words (Some kind))
 
 -- ---- the records
 
@@ -178,9 +195,32 @@ page_record at number file (Some params) page = object (member (codes "at") (cou
     (member (codes "speed") (words (channel_name (Message params.speed)))
     (member (codes "width") (count page.width) no_members))))))))
 
+-- how a page was sent, in words
+abbrev pub sent_words : Option Params → List ℕ
+sent_words None = []
+sent_words (Some params) = codes ", " ++ (code_name params.coding ++ (codes ", " ++ channel_name (Message params.speed)))
+
+-- the same in words, as a line
+abbrev pub page_words : ℕ → ℕ → ℕ → Option Params → PagePixels → List ℕ
+page_words at number file params page = decimal at ++ (codes " page " ++ (decimal number ++ (codes " in " ++ (file_name file ++ (codes ": "
+    ++ (decimal page.width ++ (codes " x " ++ (decimal (length page.rows) ++ (codes ", " ++ (lines_word page.fine
+    ++ (sent_words params ++ 10 ∷ [])))))))))))
+
 -- the record of the page that a caller counts as confirmed at a time, by its number from 1 among those that are sent
 abbrev pub confirmed_record : ℕ → ℕ → Data
 confirmed_record at number = object (member (codes "at") (count at) (member (codes "confirmed") (count number) no_members))
+
+-- the same in words, as a line
+abbrev pub confirmed_words : ℕ → ℕ → List ℕ
+confirmed_words at number = decimal at ++ (codes " page " ++ (decimal number ++ codes " confirmed\n"))
+
+-- the record of a PPS whose page number, from 1, doesn't follow that of the one before it
+abbrev pub gap_record : ℕ → ℕ → Data
+gap_record at page = object (member (codes "at") (count at) (member (codes "gap") (count page) no_members))
+
+-- the same in words, as a line
+abbrev pub gap_words : ℕ → ℕ → List ℕ
+gap_words at page = decimal at ++ (codes " gap before page " ++ (decimal page ++ codes ": one may be missing\n"))
 
 -- a line of words without the four spaces before it, and its end
 abbrev pub bare : List ℕ → List ℕ
@@ -192,6 +232,15 @@ heard_record at octet [] = object (member (codes "at") (count at) (member (codes
 heard_record at octet text = object (member (codes "at") (count at)
     (member (codes "heard") (other_record octet)
     (member (codes "words") (words text) no_members)))
+
+-- what a content that is no signal of these stations is called: its words, or what the list of frames says of it
+abbrev pub heard_name : List ℕ → List ℕ → List ℕ
+heard_name content [] = content_text content
+heard_name content text = text
+
+-- the same in words, as a line
+abbrev pub heard_words : ℕ → List ℕ → List ℕ → List ℕ
+heard_words at content text = decimal at ++ (codes " heard " ++ (heard_name content text ++ 10 ∷ []))
 
 -- The record of how a call stands at its end, also after a fault: the pages that a caller counts as confirmed, or that an answerer has
 -- stored, whether the call is whole, and why it ended so, if that is known.

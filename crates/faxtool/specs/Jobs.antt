@@ -1,11 +1,11 @@
 -- The commands of the program, what each command is of the values that clap reads, and why words are refused.
 use Rattle.std.specs.Prelude.{◌≡◌, ◌≢◌, ◌≤◌, ◌<◌, ◌^◌, ◌⊎◌, ℕ, Bool, true, false, List, [], ◌∷◌, Option, Some, None}
-use Rattle.std.specs.Prelude.{codes, map, pos, if◌then◌else◌, is_some, nat_eq, nat_le, option_map, string_bytes, not, ◌&&◌, ◌||◌, ◌+◌, ◌*◌, ◌-◌}
+use Rattle.std.specs.Prelude.{IfSome, ◌++◌, length, nat_lt, unwrap_or, codes, map, pos, if◌then◌else◌, is_some, nat_eq, nat_le, option_map, string_bytes, not, ◌&&◌, ◌||◌, ◌+◌, ◌*◌, ◌-◌}
 use Rattle.std.specs.Str.{bytes_eq}
 use Rattle.std.specs.Str.Parse.{IsNumeral, digits_value, without_leading_plus}
-use Rattle.clap.specs.Words.{App, IsAmong, Row, Rule, Text, fault_of, first_of, kind_of, new_app}
+use Rattle.clap.specs.Words.{App, IsAmong, Row, Rule, Text, all_of, fault_of, first_of, kind_of, new_app}
 use Rattle.clap.specs.Words.{new_rule, one_of, subcommand_of, with_rule, with_subcommand}
-use Rattle.clap.specs.declared.builder.action.ArgAction.TheVariants.{Set, SetTrue}
+use Rattle.clap.specs.declared.builder.action.ArgAction.TheVariants.{Append, Set, SetTrue}
 use Rattle.clap.specs.declared.builder.value_parser.ValueParser.{ValueParser}
 use Rattle.clap.specs.declared.builder.value_parser.ValueParser.TheVariants as vp
 use Rattle.clap.specs.declared.error.Error.{Error}
@@ -33,7 +33,7 @@ use Rattle.faxtool.specs.declared.args.station_words.GivenWaits.{GivenWaits}
 use Rattle.faxtool.specs.declared.files.output.Rights.{Rights}
 use Rattle.faxtool.specs.declared.files.output.Rights.TheVariants.{Mode, Private}
 use Rattle.faxtool.specs.declared.commands.Command.{Command}
-use Rattle.faxtool.specs.declared.commands.Command.TheVariants.{Answer, Call, Captures, Code, Decode, Dial, Drive, Frames, Identify, Show, Version}
+use Rattle.faxtool.specs.declared.commands.Command.TheVariants.{Answer, Call, Captures, Code, Decode, Dial, Drive, Each, Frames, Identify, Several, Show, Version}
 use Rattle.faxtool.specs.declared.args.words.Request.{Request}
 use Rattle.faxtool.specs.declared.args.words.Outcome.{Outcome}
 use Rattle.faxtool.specs.declared.args.words.Outcome.TheVariants.{Done, Fault, Incomplete, Words}
@@ -102,6 +102,15 @@ abbrev pub code_app : ValueParser → ValueParser → App
 code_app codings orders = with_explain (with_rule (with_rule (with_rule (with_rule (new_app (codes "code"))
     (coding_rule codings)) (order_rule orders)) (file_rule (codes "in"))) (file_rule (codes "out")))
 
+-- the names of files, one or more
+abbrev pub files_rule : Text → Rule
+files_rule id = record (file_rule id) { action = Some Append }
+
+-- the command with the code, the width and the order, of which none need be given
+abbrev pub with_any_options : App → ValueParser → ValueParser → App
+with_any_options app codings orders = with_rule (with_rule (with_rule app (record (coding_rule codings) { required = false }))
+    (record width_rule { required = false })) (order_rule orders)
+
 -- the command with the code, the width and the order
 abbrev pub with_page_options : App → ValueParser → ValueParser → App
 with_page_options app codings orders = with_rule (with_rule (with_rule app (coding_rule codings)) width_rule) (order_rule orders)
@@ -118,11 +127,12 @@ with_flags app = with_rule (with_rule (with_rule (with_rule (with_rule (with_rul
     (flag_rule (codes "json"))
 
 -- `decode`: the code, the width, the order, fine or not, what is done with a page that can't be
--- read or has no end, verbose or not, records or not, the page's number, and the files of the page and of its image
+-- read or has no end, verbose or not, records or not, the page's number, the folder of all pages, and the files of the page and of its
+-- image, or those of all pages
 abbrev pub decode_app : ValueParser → ValueParser → App
-decode_app codings orders = with_explain (with_rule (with_rule (with_rule (with_flags (with_page_options (new_app (codes "decode"))
+decode_app codings orders = with_explain (with_rule (with_rule (with_rule (with_rule (with_flags (with_any_options (new_app (codes "decode"))
     codings orders)) (record (option_rule (codes "page")) { parser = Some (vp.Signed (pos 1) (pos 4294967295)) }))
-    (file_rule (codes "file"))) (file_rule (codes "out")))
+    (option_rule (codes "each"))) (file_rule (codes "file"))) (record (files_rule (codes "out")) { required = false }))
 
 -- the name of a file that need not be there
 abbrev pub optional_file_rule : Text → Rule
@@ -194,16 +204,17 @@ with_refusing app = with_rule (with_rule app (flag_rule (codes "refuse"))) (flag
 
 -- the command with the options for an answerer only, and those for a caller only
 abbrev pub with_station_choices : App → ValueParser → ValueParser → App
-with_station_choices app sizes widths = with_rule (with_rule (with_rule (with_refusing (with_limits (with_rule (with_rule (with_rule
-    (with_rule app (flag_rule (codes "standard"))) (named_rule (codes "widest") widths)) (number_rule (codes "limit") 1 1000))
-    (option_rule (codes "mode"))))) (named_rule (codes "frame") sizes)) (flag_rule (codes "fine")))
+with_station_choices app sizes widths = with_rule (with_rule (with_rule (with_rule (with_refusing (with_limits (with_rule (with_rule
+    (with_rule (with_rule app (flag_rule (codes "standard"))) (named_rule (codes "widest") widths)) (number_rule (codes "limit") 1 1000))
+    (option_rule (codes "mode"))))) (flag_rule (codes "hold"))) (named_rule (codes "frame") sizes)) (flag_rule (codes "fine")))
     (number_rule (codes "from") 1 4294967295)
 
--- the command with how long the four waits run, whether what is heard, and until when, is said, and whether frames are said as contents
+-- the command with how long the four waits run, whether what is heard, and until when, is said, whether frames are said as contents, and how
+-- late an answer may come
 abbrev pub with_waits : App → App
-with_waits app = with_rule (with_rule (with_rule (with_rule (with_rule (with_rule app (millis_rule (codes "t1")))
+with_waits app = with_rule (with_rule (with_rule (with_rule (with_rule (with_rule (with_rule app (millis_rule (codes "t1")))
     (millis_rule (codes "t2"))) (millis_rule (codes "t4"))) (millis_rule (codes "t5"))) (flag_rule (codes "hear")))
-    (flag_rule (codes "frames"))
+    (flag_rule (codes "frames"))) (millis_rule (codes "late"))
 
 -- `station`: which station it is, its options, its waits, the file of its trace, a line a frame in it or not, records or not, and the file
 -- of the document
@@ -218,22 +229,23 @@ empty_app = let app = new_app (codes "faxtool") in record app {
   top = record app.top { arg_required_else_help = true; subcommand_required = true };
 }
 
--- the program with the commands that code, show and decode pages and list frames
+-- the program with the commands that code, show and decode pages
 abbrev pub page_app : ValueParser → ValueParser → App
-page_app codings orders = with_subcommand (with_subcommand (with_subcommand (with_subcommand empty_app (code_app codings orders).top)
-    (show_app codings orders).top) (decode_app codings orders).top) (frames_app orders).top
+page_app codings orders = with_subcommand (with_subcommand (with_subcommand empty_app (code_app codings orders).top)
+    (show_app codings orders).top) (decode_app codings orders).top
 
--- `identify`: the file that is tried
+-- `identify`: records or not, and the files that are tried
 abbrev pub identify_app : App
-identify_app = with_explain (with_rule (new_app (codes "identify")) (file_rule (codes "file")))
+identify_app = with_explain (with_rule (with_rule (new_app (codes "identify")) (flag_rule (codes "json"))) (files_rule (codes "file")))
 
 -- `version`, with `--proof`
 abbrev pub version_app : App
 version_app = with_rule (new_app (codes "version")) (flag_rule (codes "proof"))
 
--- the program with the command that runs calls too
-abbrev pub call_and_page_app : ValueParser → ValueParser → ValueParser → ValueParser → ValueParser → App
-call_and_page_app codings orders sizes modems ends = with_subcommand (page_app codings orders) (call_app codings sizes modems ends).top
+-- and with the command that lists frames, and the one that runs calls
+abbrev pub with_calls : App → ValueParser → ValueParser → ValueParser → ValueParser → ValueParser → App
+with_calls app codings orders sizes modems ends =
+    with_subcommand (with_subcommand app (frames_app orders).top) (call_app codings sizes modems ends).top
 
 -- and with the command that tries files, the one that is one end of a call, and `version`
 abbrev pub with_later : App → ValueParser → ValueParser → ValueParser → ValueParser → App
@@ -251,8 +263,18 @@ pub record TakeNames (codings sizes modems : ValueParser) : Type 0 where
   pub takes_sizes : TakesNames sizes (codes "256" ∷ codes "64" ∷ [])
   pub takes_modems : TakesNames modems (codes "v17" ∷ codes "v27v29" ∷ codes "v29" ∷ codes "v27" ∷ codes "fallback" ∷ [])
 
+-- the program with the commands of pages
+pub record HasPageCommands (a : App) : Type 0 where
+  pub codings : ValueParser
+  pub orders : ValueParser
+  pub takes_codings : TakesNames codings (codes "mh" ∷ codes "mmr" ∷ codes "t4" ∷ codes "t6" ∷ [])
+  pub takes_orders : TakesNames orders (codes "msb" ∷ codes "lsb" ∷ [])
+  pub commands : a ≡ page_app codings orders
+
 -- the program with its first commands
 pub record BeginsFaxtool (a : App) : Type 0 where
+  pub begun : App
+  pub pages : HasPageCommands begun
   pub codings : ValueParser
   pub orders : ValueParser
   pub sizes : ValueParser
@@ -261,7 +283,7 @@ pub record BeginsFaxtool (a : App) : Type 0 where
   pub names : TakeNames codings sizes modems
   pub takes_orders : TakesNames orders (codes "msb" ∷ codes "lsb" ∷ [])
   pub takes_ends : TakesNames ends (codes "normal" ∷ [])
-  pub commands : a ≡ call_and_page_app codings orders sizes modems ends
+  pub commands : a ≡ with_calls begun codings orders sizes modems ends
 
 -- the command that the program hands to `clap`
 pub record IsFaxtool (a : App) : Type 0 where
@@ -357,6 +379,46 @@ abbrev pub page_of : Option ℕ → ℕ
 page_of None = 1
 page_of (Some page) = page
 
+-- the values of an argument, none if it isn't given
+abbrev pub texts_of : Text → List Row → List Text
+texts_of id rows = unwrap_or (all_of id rows) []
+
+-- an argument has more than one value
+abbrev pub has_more : Text → List Row → Bool
+has_more id rows = nat_lt 1 (length (texts_of id rows))
+
+-- an option for one page was given
+abbrev pub has_one : List Row → Bool
+has_one rows = is_some (first_of (codes "page") rows) || is_named (codes "true") (first_of (codes "verbose") rows)
+
+-- one of the code and the width was given, and not the other
+abbrev pub has_half_form : List Row → Bool
+has_half_form rows = if is_some (first_of (codes "code") rows) then not (is_some (first_of (codes "width") rows))
+    else is_some (first_of (codes "width") rows)
+
+-- how all pages are read, if the code and the width are given
+abbrev pub IsFormIn : List Row → Option PageForm → Type 0
+IsFormIn rows None = (coding_named (first_of (codes "code") rows) ≡ None) ⊎ ((width : ℕ) → IsWidthIn rows width → ⊥)
+IsFormIn rows (Some form) = (coding_named (first_of (codes "code") rows) ≡ Some form.coding)
+    × (form.order ≡ order_named (first_of (codes "order") rows)) × IsWidthIn rows form.width
+    × (form.fine ≡ is_named (codes "true") (first_of (codes "fine") rows))
+
+-- the values of the command `decode` are those of many files, of which every page is decoded
+pub record IsEachOf (rows : List Row) (form : Option PageForm) (options : DecodeOptions) (folder : Text) (files : List Text)
+    : Type 0 where
+  pub folder_is : first_of (codes "each") rows ≡ Some folder
+  pub form_is : IsFormIn rows form
+  pub whole_form : has_half_form rows ≡ false
+  pub options_are : AreDecodeOptionsIn rows options
+  pub one_way : (options.salvage && options.repair) ≡ false
+  pub alone : has_one rows ≡ false
+  pub files_are : files ≡ texts_of (codes "file") rows ++ texts_of (codes "out") rows
+
+-- the values of the command `identify` are those of several files, or of records
+pub record AreSeveralOf (rows : List Row) (records : Bool) (files : List Text) : Type 0 where
+  pub records_is : records ≡ is_named (codes "true") (first_of (codes "json") rows)
+  pub files_are : files ≡ texts_of (codes "file") rows
+
 -- the values of the command `decode` are those that are asked for
 pub record IsDecodeOf (rows : List Row) (form : PageForm) (options : DecodeOptions) (page : ℕ) (input output : Text) : Type 0 where
   pub shown : IsShowOf rows form.coding form.order form.width input
@@ -366,7 +428,9 @@ pub record IsDecodeOf (rows : List Row) (form : PageForm) (options : DecodeOptio
   pub number : Option ℕ
   pub number_given : ReadsNumber (codes "page") rows number
   pub page_is : page ≡ page_of number
+  pub alone : first_of (codes "each") rows ≡ None
   pub output_is : first_of (codes "out") rows ≡ Some output
+  pub one_output : has_more (codes "out") rows ≡ false
 
 -- a value is of a picture of two captures
 abbrev pub has_captures : List Row → Bool
@@ -563,18 +627,27 @@ abbrev pub refuses_and_not : List Row → Bool
 refuses_and_not rows = is_named (codes "true") (first_of (codes "refuse") rows)
     && is_named (codes "true") (first_of (codes "no-refuse") rows)
 
+-- it was said how pages are stored
+abbrev pub has_storing : List Row → Bool
+has_storing rows = is_some (first_of (codes "mode") rows) || is_named (codes "true") (first_of (codes "hold") rows)
+
+-- pages are handed over, which are one at a time, and it was said how many wait
+abbrev pub holds_and_limits : List Row → Bool
+holds_and_limits rows = is_named (codes "true") (first_of (codes "hold") rows) && is_some (first_of (codes "limit") rows)
+
 -- an option for an answerer only was given
 abbrev pub has_answerer : List Row → Bool
 has_answerer rows = is_some (first_of (codes "out") rows) || (is_named (codes "true") (first_of (codes "standard") rows) ||
     (is_some (first_of (codes "widest") rows) || (is_some (first_of (codes "limit") rows)
-    || (is_some (first_of (codes "mode") rows) || has_stops rows))))
+    || (has_storing rows || has_stops rows))))
 
 -- an option for a caller only was given
 abbrev pub has_caller : List Row → Bool
 has_caller rows = is_some (first_of (codes "frame") rows) || (is_named (codes "true") (first_of (codes "fine") rows) ||
     (is_some (first_of (codes "from") rows) || is_some (first_of (codes "in") rows)))
 
--- the lengths of the waits, if given, whether what is heard, and until when, is said, and whether frames are said as contents
+-- the lengths of the waits, if given, whether what is heard, and until when, is said, whether frames are said as contents, and how late an
+-- answer may come, if that is given
 pub record AreWaitsIn (rows : List Row) (waits : GivenWaits) : Type 0 where
   pub t1_is : ReadsNumber (codes "t1") rows waits.t1
   pub t2_is : ReadsNumber (codes "t2") rows waits.t2
@@ -582,6 +655,7 @@ pub record AreWaitsIn (rows : List Row) (waits : GivenWaits) : Type 0 where
   pub t5_is : ReadsNumber (codes "t5") rows waits.t5
   pub hears_is : waits.hears ≡ is_named (codes "true") (first_of (codes "hear") rows)
   pub frames_is : waits.frames ≡ is_named (codes "true") (first_of (codes "frames") rows)
+  pub late_is : ReadsNumber (codes "late") rows waits.late
 
 -- what an answerer can do, as the values say: it takes each code up to the one named, and fine lines unless it takes standard ones alone
 abbrev pub caps_in : List Row → Coding → Caps
@@ -594,9 +668,9 @@ caps_in rows coding = record {
   ecm = true;
 }
 
--- the values of the command `station` are those of an answerer
-pub record IsAnswerOf (rows : List Row) (caps : Caps) (limit : ℕ) (limits : GivenLimits) (refuses : Bool) (waits : GivenWaits) (out : Text)
-    (rights : Rights) (trace : Option Text) (frames : Bool) : Type 0 where
+-- the values of the command `station` are those of an answerer; one whose pages are held has no other limit of them
+pub record IsAnswerOf (rows : List Row) (caps : Caps) (limit : ℕ) (holds : Bool) (limits : GivenLimits) (refuses : Bool)
+    (waits : GivenWaits) (out : Text) (rights : Rights) (trace : Option Text) (frames : Bool) : Type 0 where
   pub answers : is_named (codes "true") (first_of (codes "answer") rows) ≡ true
   pub calls : is_named (codes "true") (first_of (codes "call") rows) ≡ false
   pub alone : has_caller rows ≡ false
@@ -606,6 +680,8 @@ pub record IsAnswerOf (rows : List Row) (caps : Caps) (limit : ℕ) (limits : Gi
   pub given : Option ℕ
   pub limit_given : ReadsNumber (codes "limit") rows given
   pub limit_is : limit ≡ limit_of given
+  pub holds_is : holds ≡ is_named (codes "true") (first_of (codes "hold") rows)
+  pub one_limit : holds_and_limits rows ≡ false
   pub limits_are : AreLimitsIn rows limits
   pub one_way : refuses_and_not rows ≡ false
   pub refuses_is : refuses ≡ refuses_in rows
@@ -642,6 +718,9 @@ IsCommandOf met (Show command) = (rows : List Row)
 IsCommandOf met (Decode command) = (rows : List Row)
     × (met ≡ Some (codes "decode", rows))
     × IsDecodeOf rows command.form command.options command.page (string_bytes command.input) (string_bytes command.output)
+IsCommandOf met (Each command) = (rows : List Row)
+    × (met ≡ Some (codes "decode", rows))
+    × IsEachOf rows command.form command.options (string_bytes command.folder) (map string_bytes command.files.items)
 IsCommandOf met (Frames command) = (rows : List Row)
     × (met ≡ Some (codes "frames", rows))
     × IsFramesOf rows command.most command.order command.form (option_map string_bytes command.pages) command.salvage (string_bytes command.input)
@@ -650,7 +729,12 @@ IsCommandOf met (Captures command) = (rows : List Row)
     × AreCapturesOf rows command.order command.records (string_bytes command.diagram) (string_bytes command.caller) (string_bytes command.answerer)
 IsCommandOf met (Identify command) = (rows : List Row)
     × (met ≡ Some (codes "identify", rows))
+    × ((is_named (codes "true") (first_of (codes "json") rows) || has_more (codes "file") rows) ≡ false)
     × (first_of (codes "file") rows ≡ Some (string_bytes command.input))
+IsCommandOf met (Several command) = (rows : List Row)
+    × (met ≡ Some (codes "identify", rows))
+    × ((is_named (codes "true") (first_of (codes "json") rows) || has_more (codes "file") rows) ≡ true)
+    × AreSeveralOf rows command.records (map string_bytes command.files.items)
 IsCommandOf met (Call command) = (rows : List Row)
     × (met ≡ Some (codes "call", rows))
     × IsCallOf rows (string_bytes command.script) command.options (option_map string_bytes command.out) (option_map string_bytes command.bits) command.normal
@@ -661,7 +745,7 @@ IsCommandOf met (Drive command) = (rows : List Row)
     (option_map string_bytes command.diagram) (string_bytes command.input)
 IsCommandOf met (Answer command) = (rows : List Row)
     × (met ≡ Some (codes "station", rows))
-    × IsAnswerOf rows command.caps command.limit command.limits command.refuses command.waits (string_bytes command.out) command.rights
+    × IsAnswerOf rows command.caps command.limit command.holds command.limits command.refuses command.waits (string_bytes command.out) command.rights
     (option_map string_bytes command.trace) command.frames
 IsCommandOf met (Dial command) = (rows : List Row)
     × (met ≡ Some (codes "station", rows))
@@ -719,9 +803,11 @@ abbrev pub HasWidth : Command → Type 0
 HasWidth (Code command) = Unit {0}
 HasWidth (Show command) = IsWidth command.width
 HasWidth (Decode command) = IsWidth command.form.width
+HasWidth (Each command) = IfSome command.form (λ form. IsWidth form.width)
 HasWidth (Frames command) = Unit {0}
 HasWidth (Captures command) = Unit {0}
 HasWidth (Identify command) = Unit {0}
+HasWidth (Several command) = Unit {0}
 HasWidth (Call command) = Unit {0}
 HasWidth (Drive command) = Unit {0}
 HasWidth (Answer command) = Unit {0}

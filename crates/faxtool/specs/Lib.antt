@@ -5,5 +5,7 @@ pub mod CallNotes
 pub mod Jobs
 pub mod Table
 pub mod Folders
+pub mod Lateness
 pub mod Told
+pub mod Each
 pub mod Runs

@@ -2,7 +2,7 @@
 --
 -- No clause says what a file holds. So the octets that a command has read, and what a writer had before and after, are some octets of which
 -- the engine's definition holds.
-use Rattle.std.specs.Prelude.{◌≡◌, ◌⊎◌, ◌<◌, ◌&&◌, ◌||◌, ◌∷◌, ◌-◌, ℕ, Bool, List, Option, Some, None, Result, Ok, Err, not, true, false, is_some, codes, drop, length}
+use Rattle.std.specs.Prelude.{◌≡◌, ◌⊎◌, ◌<◌, ◌&&◌, ◌||◌, ◌-◌, ℕ, Bool, List, Option, Some, None, Result, Ok, Err, not, false, is_some, codes, drop, length}
 use Rattle.std.specs.Prelude.{IfErr, IfOk, if◌then◌else◌}
 use Rattle.call_tallies.specs.ManyCalls.{TellsMany}
 use Rattle.calls.specs.BadLines.{LeavesDriven, RefusesDriven}
@@ -12,7 +12,7 @@ use Rattle.calls.specs.Transcripts.{end_text}
 use Rattle.line_sim.specs.declared.live.Ending.{Ending}
 use Rattle.clap.specs.Words.{kind_of}
 use Rattle.clap.specs.declared.error.kind.ErrorKind.TheVariants.{ArgumentConflict}
-use Rattle.conversations.specs.declared.refusing.Refusal.{Refusal}
+use Rattle.terminals.specs.declared.watching.Refusal.{Refusal}
 use Rattle.faults.specs.Faults.{IsOutside}
 use Rattle.faults.specs.declared.fault.ToolFault.{ToolFault}
 use Rattle.faults.specs.declared.fault.ToolFault.TheVariants.{No}
@@ -36,7 +36,7 @@ use Rattle.faxtool.specs.declared.args.station_words.GivenWaits.{GivenWaits}
 use Rattle.faxtool.specs.declared.args.words.Outcome.{Outcome}
 use Rattle.faxtool.specs.declared.args.words.Outcome.TheVariants.{Done, Fault, Incomplete, Words}
 use Rattle.faxtool.specs.declared.commands.Command.{Command}
-use Rattle.faxtool.specs.declared.commands.Command.TheVariants.{Answer, Call, Captures, Code, Decode, Dial, Drive, Frames, Identify, Show, Version}
+use Rattle.faxtool.specs.declared.commands.Command.TheVariants.{Answer, Call, Captures, Code, Decode, Dial, Drive, Each, Frames, Identify, Several, Show, Version}
 use Rattle.faxtool.specs.declared.commands.Completeness.{Completeness}
 use Rattle.faxtool.specs.declared.commands.Completeness.TheVariants.{Lacking, Whole}
 use Rattle.faxtool.specs.declared.commands.call.ScriptCommand.{ScriptCommand}
@@ -210,9 +210,11 @@ abbrev pub Ran : Command → Outcome → Type 0
 Ran (Code command) outcome = Gave (CodeGives command) outcome
 Ran (Show command) outcome = Gave (ShowGives command) outcome
 Ran (Decode command) outcome = Gave (DecodeGives command) outcome
+Ran (Each command) outcome = Gave FailsOutside outcome
 Ran (Frames command) outcome = Gave (FramesGives command) outcome
 Ran (Captures command) outcome = Gave FailsOutside outcome
 Ran (Identify command) outcome = Gave IdentifyGives outcome
+Ran (Several command) outcome = Gave FailsOutside outcome
 Ran (Call command) outcome = Gave (ScriptGives command) outcome
 Ran (Drive command) outcome = Gave (DriveGives command) outcome
 Ran (Answer command) outcome = Gave FailsOutside outcome

@@ -12,7 +12,7 @@ use Rattle.std.specs.Fmt.{decimal}
 use Rattle.faults.specs.Explanations.{explained, name_text}
 use Rattle.faults.specs.declared.explain.Explained.{Explained}
 use Rattle.faxtool.specs.declared.context.Cause.{Cause}
-use Rattle.faxtool.specs.declared.context.Cause.TheVariants.{FewerPages, Terminal, TooLong, NotCallable, RowsOf}
+use Rattle.faxtool.specs.declared.context.Cause.TheVariants.{EmptyRuns, FewerPages, NextPage, NoEofb, NotCallable, RowsOf, Terminal, TooLong}
 use Rattle.faxtool.specs.declared.commands.station.no_line.Wrong.{Wrong}
 use Rattle.faxtool.specs.declared.commands.station.no_line.Wrong.TheVariants as wrong
 
@@ -64,6 +64,12 @@ told words (Some (FewerPages count from)) = name_text words.known.file.now ++ (c
     ++ (codes ", and --from is " ++ decimal from)))
 told words (Some (RowsOf width)) = explained words.fault words.known ++ (codes "; each row ends after " ++ (decimal width
     ++ (codes " pixels: try --width " ++ decimal width)))
+told words (Some EmptyRuns) = explained words.fault words.known
+    ++ codes "; runs of 0 pixels come before the row's EOL: decode --repair reads it"
+told words (Some (NextPage octet)) = explained words.fault words.known
+    ++ (codes "; without EOFB nothing marks a page's end: another page may begin at octet " ++ decimal octet)
+told words (Some NoEofb) = explained words.fault words.known
+    ++ codes "; the file doesn't end with EOFB: nothing marks a page's end then, and another page may begin before this bit"
 
 -- the line that is read, before its next octet: a new one, if the line before has ended
 abbrev pub begun_line : Bool → List ℕ → List ℕ
@@ -85,4 +91,6 @@ line_words wrong.Kind = codes "hdlc or raw is expected here"
 line_words wrong.Bits = codes "the number of bits is expected here, 1 to 7 digits"
 line_words wrong.Hex = codes "two hexadecimal digits are expected for each octet of the bits"
 line_words wrong.Content = codes "a frame's content of 3 to 300 octets is expected here"
+line_words wrong.File = codes "a space and the name of a file are expected after the time"
+line_words wrong.NotHeld = codes "no page of this name is held, or the time can't follow"
 line_words wrong.OutOfTime = codes "the time is before that of the line before, or too long after it"

@@ -1,6 +1,7 @@
 //! The words that the program is called with: its commands and their options, and what they ask for.
 
 pub(crate) mod captures_words;
+pub(crate) mod each_words;
 pub(crate) mod fault_table;
 pub(crate) mod parser;
 pub(crate) mod station_words;

@@ -18,9 +18,11 @@ use crate::commands::call::ScriptCommand;
 use crate::commands::call::drives::DriveCommand;
 use crate::commands::code::CodeCommand;
 use crate::commands::decode::DecodeCommand;
+use crate::commands::decode::each::EachCommand;
 use crate::commands::frames::FramesCommand;
 use crate::commands::frames::two_captures::CapturesCommand;
 use crate::commands::identify::IdentifyCommand;
+use crate::commands::identify::several::SeveralCommand;
 use crate::commands::show::ShowCommand;
 use crate::commands::station::{AnswerCommand, DialCommand};
 use crate::commands::version::VersionCommand;
@@ -40,12 +42,16 @@ pub enum Command {
     Show(ShowCommand),
     /// Writes a page in a file as an image.
     Decode(DecodeCommand),
+    /// Writes every page of many files as images.
+    Each(EachCommand),
     /// Lists the frames in a file of bits.
     Frames(FramesCommand),
     /// Draws the frames in two files of bits, one of each station of a call.
     Captures(CapturesCommand),
     /// Prints as which format a file begins, and in which ways it reads as a page.
     Identify(IdentifyCommand),
+    /// Prints a line for each of several files, of what it is.
+    Several(SeveralCommand),
     /// Runs a call by a script, and prints its transcript.
     Call(ScriptCommand),
     /// Runs a call over a bad line and prints its transcript; or many, and prints a line for each and a table.

@@ -56,6 +56,12 @@ pub enum Cause {
     },
     /// Each row of a page ends after this number of pixels, and not after those that were given.
     RowsOf(u32),
+    /// Runs of 0 pixels come before the EOL of the refused row of T.4, which `decode --repair` reads.
+    EmptyRuns,
+    /// The next page of a file of T.6 may begin at this octet, since nothing marks the end of the one before.
+    NextPage(usize),
+    /// A file of T.6 doesn't end with EOFB, so that the next page may begin anywhere before the refused bit.
+    NoEofb,
 }
 
 /// What is noted of a command while it runs.

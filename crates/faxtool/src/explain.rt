@@ -1,9 +1,13 @@
 //! How a fault is shown: a line, and one of words where they are asked for.
 
 ghost use Rattle.faxtool.specs.declared.args.words.Outcome.TheVariants.{Fault};
+ghost use Rattle.faxtool.specs.declared.context.Cause.TheVariants.{EmptyRuns, NoEofb};
+ghost use Rattle.page_files.specs.NextT6.{EndsByEofb};
+ghost use Rattle.page_files.specs.Refusals.{EndsInEmptyRuns};
+ghost use Rattle.raster.specs.Packed.{bits_of};
 ghost use Rattle.raster.specs.Pixels.{IsWidth};
 ghost use Rattle.faults.specs.Faults.{IsOutside};
-ghost use Rattle.std.specs.Prelude.{◌≡◌, IfErr, IfSome};
+ghost use Rattle.std.specs.Prelude.{◌≡◌, IfErr, IfSome, Some, false};
 
 mod row_widths;
 mod told;
@@ -17,10 +21,11 @@ use crate::explain::told::Told;
 use calls::line_fault_at;
 use clap::Error;
 use faults::{
-    Expected, Explained, FAILED, Known, LineFault, ToolFault, is_shown, write_fault, write_notice,
+    Expected, Explained, FAILED, FaultKind, Known, LineFault, ToolFault, is_shown, write_fault,
+    write_notice,
 };
 use page_code::Coding;
-use page_files::{PageForm, refused_at, refused_in};
+use page_files::{PageForm, ends_by_eofb, ends_in_empty_runs, may_follow, refused_at, refused_in};
 use raster::{Page, read_pbm};
 use run_tables::Order;
 use signals::PageWidth;
@@ -215,9 +220,9 @@ fn explained<'a, C: Runs>(command: &'a C, fault: ToolFault, context: &'a Context
     let form = command.page();
     let (row, expected) = refused_place(form, fault, context);
     let cause = context.cause().or(cause_of(form, fault, context));
-    // with another width neither the order nor the code is in doubt
+    // with another width, or such runs, neither the order nor the code is in doubt
     let read_as = match cause {
-        Some(Cause::RowsOf(_)) => None,
+        Some(Cause::RowsOf(_) | Cause::EmptyRuns) => None,
         _ => form.map(|form| (form.coding, form.order)),
     };
     let known = Known {
@@ -236,17 +241,56 @@ fn explained<'a, C: Runs>(command: &'a C, fault: ToolFault, context: &'a Context
 }
 
 /// What the input's octets say of a fault beside its number.
-fn cause_of(form: Option<PageForm>, fault: ToolFault, context: &Context<'_>) -> Option<Cause> {
+fn cause_of(form: Option<PageForm>, fault: ToolFault, context: &Context<'_>) -> Option<Cause>
+    requires { IfSome form (λ form. IsWidth form.width) }
+{
     match fault {
         ToolFault::No(26) => width_not_callable(context.rt(), context.octets()),
-        ToolFault::AtBit { .. } => {
+        ToolFault::AtBit { no: _, place } => {
             let form = form?;
             match form.coding {
-                Coding::OneDim => other_width(context.octets(), form.order, form.width),
-                Coding::T6 => None,
+                Coding::OneDim => one_dim_cause(form, fault, place, context.octets()),
+                Coding::T6 => t6_cause(form, fault, context),
             }
         }
         ToolFault::No(_) | ToolFault::AtLine(_) => None,
+    }
+}
+
+/// What is known of a fault of a page of T.4: that it has another width, or rows with runs of 0 before their EOLs.
+fn one_dim_cause(form: PageForm, fault: ToolFault, place: u128, octets: &[u8]) -> Option<Cause>
+    ensures { result ≡ Some EmptyRuns → EndsInEmptyRuns form.width (bits_of form.order octets.now) place }
+{
+    if let Some(width) = other_width(octets, form.order, form.width) {
+        return Some(Cause::RowsOf(width));
+    }
+    match fault.kind() {
+        FaultKind::BadCode if ends_in_empty_runs(octets, form.order, form.width, place) => {
+            Some(Cause::EmptyRuns)
+        }
+        _ => None,
+    }
+}
+
+/// How many rows of T.6 octets have at most that are no page of it: a few, by chance.
+const CHANCE_ROWS: u32 = 15;
+
+/// What is known of a page of T.6 that is refused after so many rows that it is one: where the next page may begin, or that the file has no EOFB at its end;
+/// unless the file ends there.
+fn t6_cause(form: PageForm, fault: ToolFault, context: &Context<'_>) -> Option<Cause>
+    requires { IsWidth form.width }
+    ensures { result ≡ Some NoEofb → EndsByEofb form.order context.now.noted.octets.items false }
+{
+    let refused = context.refused()?;
+    let octets = context.octets();
+    match fault.kind() {
+        FaultKind::Truncated | FaultKind::MissingEofb => None,
+        _ if refused.rows <= CHANCE_ROWS => None,
+        _ => match may_follow(context.alloc(), octets, form, refused.row_start) {
+            Some(octet) => Some(Cause::NextPage(octet)),
+            None if ends_by_eofb(octets, form.order) => None,
+            None => Some(Cause::NoEofb),
+        },
     }
 }
 
@@ -270,9 +314,9 @@ pub(crate) fn first_not_callable(pages: &[Page], before: usize) -> Option<Cause>
 }
 
 /// Returns the width of the rows of a page of T.4, if they all have the same one, and it isn't the one given.
-fn other_width(octets: &[u8], order: Order, given: u32) -> Option<Cause> {
+fn other_width(octets: &[u8], order: Order, given: u32) -> Option<u32> {
     match same_width(octets, order) {
-        Some(width) if width != given => Some(Cause::RowsOf(width)),
+        Some(width) if width != given => Some(width),
         _ => None,
     }
 }

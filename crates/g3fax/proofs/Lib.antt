@@ -3,4 +3,5 @@ pub mod CopyLemmas
 pub mod LooseValues
 pub mod RasterLemmas
 pub mod SignalLemmas
+pub mod TakingLemmas
 pub mod Values

@@ -15,6 +15,7 @@ use Rattle.stations.specs.AnswererStep.{new_answerer}
 use Rattle.stations.specs.CallerFields.{AreCallable, NewCaller}
 use Rattle.stations.specs.CallerStep.{no_params}
 use Rattle.stations.specs.declared.turn.Turn.TheVariants.{Dis, Silent}
+use Rattle.terminals.specs.Watching.{nothing_watched}
 use Rattle.g3fax.specs.Answering.{AnsweringFields, CallingFields}
 use Rattle.g3fax.specs.Codes.{coding_of}
 use Rattle.g3fax.specs.Documents.{pages_of}
@@ -66,7 +67,7 @@ wish_with (Some modems) (Some coding) (Some small) = Some (record { modems = mod
 abbrev pub wish_of : G3Wish → Option Wish
 wish_of wish = wish_with (modems_of wish.modems) (coding_of wish.coding) (small_of wish.frame)
 
--- a new answerer's terminal, at 0 ms: it has heard nothing, and DIS is to be sent
+-- a new answerer's terminal, at 0 ms: it has heard and seen nothing, and DIS is to be sent
 pub record IsNewAnswerer (caps : Caps) (limit : ℕ) (answering : AnsweringFields) : Type 0 where
   pub framing : IsAfter answering.terminal.framing [] 0
   pub speaking : answering.terminal.speaking ≡ record {
@@ -80,7 +81,9 @@ pub record IsNewAnswerer (caps : Caps) (limit : ℕ) (answering : AnsweringField
     turn = Dis;
     taken = 0;
   }
+  pub watched : answering.watched ≡ Some (nothing_watched caps)
   pub waiting : answering.waiting ≡ []
+  pub stores : answering.limit ≡ limit
   pub timing : answering.timing ≡ new_timing
 
 -- An empty handle is filled with the terminal of a new answerer, which sends DIS first. 104 exactly if the number of the modems or of the

@@ -85,7 +85,7 @@ HasAnswerer Holds (Some (Page page)) = ⊥
 HasAnswerer Holds (Some (Deframer state)) = ⊥
 HasAnswerer Holds (Some (Document pages)) = ⊥
 HasAnswerer Holds (Some (Caller terminal)) = ⊥
-HasAnswerer Holds (Some (Answerer answering)) = Holds answering
+HasAnswerer Holds (Some (Answerer answering)) = Holds answering.value
 HasAnswerer Holds (Some (RowCoder coder)) = ⊥
 HasAnswerer Holds (Some (RowReader reader)) = ⊥
 
@@ -248,7 +248,7 @@ OnAnswerer Makes (Some (Answerer old)) (Some (Page page)) status = ⊥
 OnAnswerer Makes (Some (Answerer old)) (Some (Deframer state)) status = ⊥
 OnAnswerer Makes (Some (Answerer old)) (Some (Document pages)) status = ⊥
 OnAnswerer Makes (Some (Answerer old)) (Some (Caller terminal)) status = ⊥
-OnAnswerer Makes (Some (Answerer old)) (Some (Answerer new)) status = Makes old new
+OnAnswerer Makes (Some (Answerer old)) (Some (Answerer new)) status = Makes old.value new.value
 OnAnswerer Makes (Some (Answerer old)) (Some (RowCoder coder)) status = ⊥
 OnAnswerer Makes (Some (Answerer old)) (Some (RowReader reader)) status = ⊥
 OnAnswerer Makes (Some (RowCoder coder)) new status = (status ≡ other_handle) × (new ≡ Some (RowCoder coder))
@@ -303,42 +303,49 @@ OfTerminal Calls Answers (Some (Page page)) status = status ≡ other_handle
 OfTerminal Calls Answers (Some (Deframer state)) status = status ≡ other_handle
 OfTerminal Calls Answers (Some (Document pages)) status = status ≡ other_handle
 OfTerminal Calls Answers (Some (Caller calling)) status = Calls calling.terminal
-OfTerminal Calls Answers (Some (Answerer answering)) status = Answers answering
+OfTerminal Calls Answers (Some (Answerer answering)) status = Answers answering.value
 OfTerminal Calls Answers (Some (RowCoder coder)) status = status ≡ other_handle
 OfTerminal Calls Answers (Some (RowReader reader)) status = status ≡ other_handle
 
--- What happens to the terminal in a handle and to its timing: the first relation for a caller's, the second for an answerer's, whose
--- waiting pages stay. An
--- empty handle is 100, another kind is 101, and the handle stays.
+-- What happens to the terminal in a handle: the first relation for a caller's, the second for an answerer's. An empty handle is 100, another
+-- kind is 101, and the handle stays.
+abbrev pub OnStation :
+    (CallingFields → CallingFields → Type 0) → (AnsweringFields → AnsweringFields → Type 0) → Option Kept → Option Kept → ℕ → Type 0
+OnStation Calls Answers None new status = (status ≡ empty_handle) × (new ≡ None)
+OnStation Calls Answers (Some (Octets octets)) new status = (status ≡ other_handle) × (new ≡ Some (Octets octets))
+OnStation Calls Answers (Some (Page page)) new status = (status ≡ other_handle) × (new ≡ Some (Page page))
+OnStation Calls Answers (Some (Deframer state)) new status = (status ≡ other_handle) × (new ≡ Some (Deframer state))
+OnStation Calls Answers (Some (Document pages)) new status = (status ≡ other_handle) × (new ≡ Some (Document pages))
+OnStation Calls Answers (Some (Caller old)) None status = ⊥
+OnStation Calls Answers (Some (Caller old)) (Some (Octets octets)) status = ⊥
+OnStation Calls Answers (Some (Caller old)) (Some (Page page)) status = ⊥
+OnStation Calls Answers (Some (Caller old)) (Some (Deframer state)) status = ⊥
+OnStation Calls Answers (Some (Caller old)) (Some (Document pages)) status = ⊥
+OnStation Calls Answers (Some (Caller old)) (Some (Caller new)) status = Calls old new
+OnStation Calls Answers (Some (Caller old)) (Some (Answerer answering)) status = ⊥
+OnStation Calls Answers (Some (Caller old)) (Some (RowCoder coder)) status = ⊥
+OnStation Calls Answers (Some (Caller old)) (Some (RowReader reader)) status = ⊥
+OnStation Calls Answers (Some (Answerer old)) None status = ⊥
+OnStation Calls Answers (Some (Answerer old)) (Some (Octets octets)) status = ⊥
+OnStation Calls Answers (Some (Answerer old)) (Some (Page page)) status = ⊥
+OnStation Calls Answers (Some (Answerer old)) (Some (Deframer state)) status = ⊥
+OnStation Calls Answers (Some (Answerer old)) (Some (Document pages)) status = ⊥
+OnStation Calls Answers (Some (Answerer old)) (Some (Caller terminal)) status = ⊥
+OnStation Calls Answers (Some (Answerer old)) (Some (Answerer new)) status = Answers old.value new.value
+OnStation Calls Answers (Some (Answerer old)) (Some (RowCoder coder)) status = ⊥
+OnStation Calls Answers (Some (Answerer old)) (Some (RowReader reader)) status = ⊥
+OnStation Calls Answers (Some (RowCoder coder)) new status = (status ≡ other_handle) × (new ≡ Some (RowCoder coder))
+OnStation Calls Answers (Some (RowReader reader)) new status = (status ≡ other_handle) × (new ≡ Some (RowReader reader))
+
+-- what happens to the terminal in a handle and to its timing: the first relation for a caller's, the second for an answerer's, of which all
+-- else stays
 abbrev pub OnTimed :
     (TerminalFields StoppableCallerFields → Timing → TerminalFields StoppableCallerFields → Timing → Type 0)
     → (TerminalFields LimitedFields → Timing → TerminalFields LimitedFields → Timing → Type 0) → Option Kept → Option Kept → ℕ → Type 0
-OnTimed Calls Answers None new status = (status ≡ empty_handle) × (new ≡ None)
-OnTimed Calls Answers (Some (Octets octets)) new status = (status ≡ other_handle) × (new ≡ Some (Octets octets))
-OnTimed Calls Answers (Some (Page page)) new status = (status ≡ other_handle) × (new ≡ Some (Page page))
-OnTimed Calls Answers (Some (Deframer state)) new status = (status ≡ other_handle) × (new ≡ Some (Deframer state))
-OnTimed Calls Answers (Some (Document pages)) new status = (status ≡ other_handle) × (new ≡ Some (Document pages))
-OnTimed Calls Answers (Some (Caller old)) None status = ⊥
-OnTimed Calls Answers (Some (Caller old)) (Some (Octets octets)) status = ⊥
-OnTimed Calls Answers (Some (Caller old)) (Some (Page page)) status = ⊥
-OnTimed Calls Answers (Some (Caller old)) (Some (Deframer state)) status = ⊥
-OnTimed Calls Answers (Some (Caller old)) (Some (Document pages)) status = ⊥
-OnTimed Calls Answers (Some (Caller old)) (Some (Caller new)) status = Calls old.terminal old.timing new.terminal new.timing
-OnTimed Calls Answers (Some (Caller old)) (Some (Answerer answering)) status = ⊥
-OnTimed Calls Answers (Some (Caller old)) (Some (RowCoder coder)) status = ⊥
-OnTimed Calls Answers (Some (Caller old)) (Some (RowReader reader)) status = ⊥
-OnTimed Calls Answers (Some (Answerer old)) None status = ⊥
-OnTimed Calls Answers (Some (Answerer old)) (Some (Octets octets)) status = ⊥
-OnTimed Calls Answers (Some (Answerer old)) (Some (Page page)) status = ⊥
-OnTimed Calls Answers (Some (Answerer old)) (Some (Deframer state)) status = ⊥
-OnTimed Calls Answers (Some (Answerer old)) (Some (Document pages)) status = ⊥
-OnTimed Calls Answers (Some (Answerer old)) (Some (Caller terminal)) status = ⊥
-OnTimed Calls Answers (Some (Answerer old)) (Some (Answerer new)) status =
-    Answers old.terminal old.timing new.terminal new.timing × (new.waiting ≡ old.waiting)
-OnTimed Calls Answers (Some (Answerer old)) (Some (RowCoder coder)) status = ⊥
-OnTimed Calls Answers (Some (Answerer old)) (Some (RowReader reader)) status = ⊥
-OnTimed Calls Answers (Some (RowCoder coder)) new status = (status ≡ other_handle) × (new ≡ Some (RowCoder coder))
-OnTimed Calls Answers (Some (RowReader reader)) new status = (status ≡ other_handle) × (new ≡ Some (RowReader reader))
+OnTimed Calls Answers old new status =
+    OnStation (λ before after. Calls before.terminal before.timing after.terminal after.timing)
+    (λ before after. Answers before.terminal before.timing after.terminal after.timing
+    × (after ≡ record before { terminal = after.terminal; timing = after.timing })) old new status
 
 -- what happens to the terminal in a handle, whose timing stays
 abbrev pub OnTerminal :
@@ -357,7 +364,7 @@ OfTimed Calls Answers (Some (Page page)) status = status ≡ other_handle
 OfTimed Calls Answers (Some (Deframer state)) status = status ≡ other_handle
 OfTimed Calls Answers (Some (Document pages)) status = status ≡ other_handle
 OfTimed Calls Answers (Some (Caller calling)) status = Calls calling.terminal calling.timing
-OfTimed Calls Answers (Some (Answerer answering)) status = Answers answering.terminal answering.timing
+OfTimed Calls Answers (Some (Answerer answering)) status = Answers answering.value.terminal answering.value.timing
 OfTimed Calls Answers (Some (RowCoder coder)) status = status ≡ other_handle
 OfTimed Calls Answers (Some (RowReader reader)) status = status ≡ other_handle
 

@@ -2,6 +2,7 @@
 use Rattle.std.specs.Prelude.{ℕ, ◌≡◌, ◌≢◌, ◌<◌, ◌≤◌, ◌⊎◌, List, Ok, Err, length}
 use Rattle.std.specs.declared.option.Option.{Option}
 use Rattle.std.specs.declared.option.Option.TheVariants.{None, Some}
+use Rattle.hdlc.specs.DeframerState.{DeframerState}
 use Rattle.stations.specs.Limiting.{LimitedFields}
 use Rattle.stations.specs.Stopping.{StoppableCallerFields}
 use Rattle.stations.specs.declared.stopping.Cut.{Cut}
@@ -12,6 +13,9 @@ use Rattle.terminals.specs.Runs.{Hears, TerminalFields}
 use Rattle.terminals.specs.Speaking.{StepOf, Takes}
 use Rattle.terminals.specs.Stopping.{CallerStepsUnlessCut, LimitedStepsUnlessCut, hung_up, silenced, stopped}
 use Rattle.terminals.specs.declared.fault.HearFault.TheVariants.{FrameLost}
+use Rattle.terminals.specs.Watching.{Sees}
+use Rattle.terminals.specs.declared.watching.Watched.{Watched}
+use Rattle.g3fax.specs.Answering.{AnsweringFields}
 use Rattle.g3fax.specs.Frames.{HoldsFrame, longest_content}
 use Rattle.g3fax.specs.Statuses.{ok, no_memory, bad_choice, bad_length, frame_lost}
 
@@ -30,17 +34,32 @@ pub record HearsOctets (S : Type 0) (steps : StepOf S) (old : TerminalFields S) 
   pub kept : status ≡ no_memory → new ≡ old
   pub only : (status ≡ ok) ⊎ ((status ≡ no_memory) ⊎ (status ≡ frame_lost))
 
--- octets that hold the frame of a content, and how many bits it has, were heard
-abbrev pub HearsItsOctets : (S : Type 0) → StepOf S → TerminalFields S → List ℕ → TerminalFields S → ℕ → Type 0
-HearsItsOctets S steps old content new status = (octets : List ℕ) × (bits : ℕ) × HoldsFrame content octets bits
-    × HearsOctets S steps old octets new status
+-- what octets brought was seen, also where frames of them are lost; by 9 nothing was
+pub record SeesOctets (framing : DeframerState) (octets : List ℕ) (was is : Option Watched) (status : ℕ) : Type 0 where
+  pub seen : status ≢ no_memory → Sees framing octets was is
+  pub unseen : status ≡ no_memory → is ≡ was
 
--- Octets that hold the frame of a content were heard. 105 exactly if the content hasn't 3 to 300 octets. By 9 nothing changes, and by 108
--- frames are lost.
-pub record HearsFrame (S : Type 0) (steps : StepOf S) (old : TerminalFields S) (content : List ℕ) (new : TerminalFields S) (status : ℕ) : Type 0 where
+-- a caller has taken each signal in the octets
+abbrev pub CallerHears : TerminalFields StoppableCallerFields → List ℕ → TerminalFields StoppableCallerFields → ℕ → Type 0
+CallerHears = HearsOctets StoppableCallerFields caller_steps
+
+-- an answerer has taken each signal in the octets, and what they brought was seen; all else of it stays
+pub record AnswererHears (old : AnsweringFields) (octets : List ℕ) (new : AnsweringFields) (status : ℕ) : Type 0 where
+  pub hears : HearsOctets LimitedFields answerer_steps old.terminal octets new.terminal status
+  pub sees : SeesOctets old.terminal.framing octets old.watched new.watched status
+  pub same : new ≡ record old { terminal = new.terminal; watched = new.watched }
+
+-- octets that hold the frame of a content, and how many bits it has, were heard
+abbrev pub HearsItsOctets : (T : Type 0) → (T → List ℕ → T → ℕ → Type 0) → T → List ℕ → T → ℕ → Type 0
+HearsItsOctets T HearsThem old content new status = (octets : List ℕ) × (bits : ℕ) × HoldsFrame content octets bits
+    × HearsThem old octets new status
+
+-- Octets that hold the frame of a content were heard, as this relation says of octets. 105 exactly if the content hasn't 3 to 300 octets. By
+-- 9 nothing changes, and by 108 frames are lost.
+pub record HearsFrame (T : Type 0) (HearsThem : T → List ℕ → T → ℕ → Type 0) (old : T) (content : List ℕ) (new : T) (status : ℕ) : Type 0 where
   pub short : length content < 3 → (status ≡ bad_length) × (new ≡ old)
   pub long : longest_content < length content → (status ≡ bad_length) × (new ≡ old)
-  pub heard : 3 ≤ length content → length content ≤ longest_content → status ≢ no_memory → HearsItsOctets S steps old content new status
+  pub heard : 3 ≤ length content → length content ≤ longest_content → status ≢ no_memory → HearsItsOctets T HearsThem old content new status
   pub kept : status ≡ no_memory → new ≡ old
 
 -- the station has taken an input; or memory was refused, and nothing has changed

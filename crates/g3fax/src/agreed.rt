@@ -61,7 +61,7 @@ pub extern "C" fn g3_core_terminal_params(
         Some(kept) => {
             let status = match &*kept {
                 Kept::Caller(calling) => caller_params(&calling.terminal, params),
-                Kept::Answerer(answering) => answerer_params(answering, params),
+                Kept::Answerer(answering) => answerer_params(&**answering, params),
                 _ => OTHER_HANDLE,
             };
             terminal.put(kept);
@@ -132,7 +132,7 @@ pub extern "C" fn g3_core_terminal_peer(
         Some(kept) => {
             let status = match &*kept {
                 Kept::Caller(calling) => caller_peer(&calling.terminal, signal),
-                Kept::Answerer(answering) => answerer_peer(answering, signal),
+                Kept::Answerer(answering) => answerer_peer(&**answering, signal),
                 _ => OTHER_HANDLE,
             };
             terminal.put(kept);

@@ -11,14 +11,14 @@ use crate::answering::{Answering, Calling};
 use crate::codes::coding_of;
 use crate::handle::{G3Handle, Kept};
 use crate::status::{
-    BAD_CHOICE, EMPTY_HANDLE, FULL_HANDLE, NOT_CALLABLE, NOTHING, OK, OTHER_HANDLE,
+    BAD_CHOICE, EMPTY_HANDLE, FULL_HANDLE, NO_MEMORY, NOT_CALLABLE, NOTHING, OK, OTHER_HANDLE,
 };
 use crate::timing::Timing;
 use raster::{Document, Page};
 use signals::{Caps, Modems, PageWidth, Wish};
 use stations::{Caller, LimitedAnswerer, Limits, StoppableCaller, Turn};
 use std::alloc::Global;
-use terminals::Terminal;
+use terminals::{Terminal, Watched};
 
 /// What an answerer can do: its modems, whether it reads T.6 and takes fine lines, its widest page, and how many pages wait in memory.
 #[repr(C)]
@@ -116,7 +116,9 @@ fn answering(alloc: Global, caps: Caps, limit: u32) -> Answering
     Answering {
         terminal: Terminal::new(alloc, station, first),
         timing: Timing::new(),
+        watched: Some(Watched::new(caps)),
         waiting: Vec::new(alloc),
+        limit,
     }
 }
 
@@ -135,7 +137,10 @@ pub extern "C" fn g3_core_answerer_new(alloc: Global, out: &mut G3Handle, caps: 
     if caps.limit == 0 {
         return BAD_CHOICE;
     }
-    out.fill(alloc, Kept::Answerer(answering(alloc, given, caps.limit)))
+    let Ok(boxed) = Box::new(alloc, answering(alloc, given, caps.limit)) else {
+        return NO_MEMORY;
+    };
+    out.fill(alloc, Kept::Answerer(boxed))
 }
 
 /// Returns whether a call can have the width of each page.

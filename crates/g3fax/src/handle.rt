@@ -27,8 +27,9 @@ pub enum Kept {
     Document(Option<Document>),
     /// The terminal of a caller, with its clock.
     Caller(Calling),
-    /// The terminal of an answerer, with its clock, and with pages that were taken out of it.
-    Answerer(Answering),
+    /// The terminal of an answerer, with its clock, and with pages that were taken out of it. It is by far the largest value: in a box of
+    /// its own, so that the box of each other handle is half as large.
+    Answerer(Box<Answering>),
     /// A coder of a page row by row.
     RowCoder(RowCoder),
     /// A reader of a page row by row.
@@ -181,20 +182,17 @@ macro_rules! opened {
 
 pub(crate) use opened;
 
-/// Works on the terminal of a handle, a caller's or an answerer's: as `opened` does.
-macro_rules! opened_terminal {
-    ($alloc:expr, $handle:expr, $name:ident => $work:expr) => {
+/// Works on what a handle has of a caller, or of an answerer: as `opened` does.
+macro_rules! opened_station {
+    ($alloc:expr, $handle:expr, $calling:ident => $calls:expr, $answering:ident => $answers:expr) => {
         match $handle.take($alloc) {
             None => crate::status::EMPTY_HANDLE,
             Some(mut kept) => {
                 let status = match &mut *kept {
-                    crate::handle::Kept::Caller(calling) => {
-                        let $name = &mut calling.terminal;
-                        $work
-                    }
-                    crate::handle::Kept::Answerer(answering) => {
-                        let $name = &mut answering.terminal;
-                        $work
+                    crate::handle::Kept::Caller($calling) => $calls,
+                    crate::handle::Kept::Answerer(boxed) => {
+                        let $answering = &mut **boxed;
+                        $answers
                     }
                     _ => crate::status::OTHER_HANDLE,
                 };
@@ -205,31 +203,45 @@ macro_rules! opened_terminal {
     };
 }
 
+pub(crate) use opened_station;
+
+/// Works on the terminal of a handle, a caller's or an answerer's.
+macro_rules! opened_terminal {
+    ($alloc:expr, $handle:expr, $name:ident => $work:expr) => {
+        crate::handle::opened_station!(
+            $alloc,
+            $handle,
+            calling => {
+                let $name = &mut calling.terminal;
+                $work
+            },
+            answering => {
+                let $name = &mut answering.terminal;
+                $work
+            }
+        )
+    };
+}
+
 pub(crate) use opened_terminal;
 
-/// Works on the terminal of a handle and its timing: as `opened` does.
+/// Works on the terminal of a handle and its timing.
 macro_rules! opened_timed {
     ($alloc:expr, $handle:expr, $name:ident, $timing:ident => $work:expr) => {
-        match $handle.take($alloc) {
-            None => crate::status::EMPTY_HANDLE,
-            Some(mut kept) => {
-                let status = match &mut *kept {
-                    crate::handle::Kept::Caller(calling) => {
-                        let $name = &mut calling.terminal;
-                        let $timing = &mut calling.timing;
-                        $work
-                    }
-                    crate::handle::Kept::Answerer(answering) => {
-                        let $name = &mut answering.terminal;
-                        let $timing = &mut answering.timing;
-                        $work
-                    }
-                    _ => crate::status::OTHER_HANDLE,
-                };
-                $handle.put(kept);
-                status
+        crate::handle::opened_station!(
+            $alloc,
+            $handle,
+            calling => {
+                let $name = &mut calling.terminal;
+                let $timing = &mut calling.timing;
+                $work
+            },
+            answering => {
+                let $name = &mut answering.terminal;
+                let $timing = &mut answering.timing;
+                $work
             }
-        }
+        )
     };
 }
 

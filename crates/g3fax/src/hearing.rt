@@ -1,7 +1,9 @@
 //! What terminals hear, for C, and how their calls are stopped.
 
-ghost use Rattle.g3fax.specs.Handles.{OnTerminal, OnTimed};
-ghost use Rattle.g3fax.specs.Hearing.{EndsWait, HangsUp, HearsFrame, HearsOctets, LosesLine, StopsCall, TakesInput, answerer_steps, caller_steps};
+ghost use Rattle.g3fax.specs.Answering.{AnsweringFields};
+ghost use Rattle.g3fax.specs.Handles.{OnStation, OnTerminal, OnTimed};
+ghost use Rattle.g3fax.specs.Hearing.{AnswererHears, CallerHears, EndsWait, HangsUp, HearsFrame, HearsOctets, LosesLine, SeesOctets};
+ghost use Rattle.g3fax.specs.Hearing.{StopsCall, TakesInput, answerer_steps, caller_steps};
 ghost use Rattle.g3fax.specs.Numbers.{wait_of};
 ghost use Rattle.g3fax.specs.Pages.{is_set};
 ghost use Rattle.g3fax.specs.Ticking.{NotesCheck};
@@ -9,25 +11,48 @@ ghost use Rattle.std.specs.Prelude.{◌≡◌};
 ghost use Rattle.stations.specs.Limiting.{LimitedFields};
 ghost use Rattle.stations.specs.Stopping.{StoppableCallerFields};
 ghost use Rattle.terminals.specs.Hearing.{busy, check};
+ghost use Rattle.terminals.specs.Runs.{TerminalFields};
 ghost use Rattle.terminals.specs.Stopping.{CallerShows, LimitedShows, caller_cut_off, caller_stop_says, limited_cut_off, limited_stop_says};
 
+use crate::answering::Answering;
 use crate::frames::{LONGEST_CONTENT, framed};
-use crate::handle::{G3Handle, opened_terminal, opened_timed};
+use crate::handle::{G3Handle, opened_station, opened_terminal, opened_timed};
 use crate::numbers::wait_of;
 use crate::status::{BAD_CHOICE, BAD_LENGTH, FRAME_LOST, NO_MEMORY, OK};
 use crate::timing::Timing;
+use stations::StoppableCaller;
 use std::alloc::Global;
-use terminals::{HearFault, Station, Stoppable, Terminal};
+use terminals::{HearFault, Station, Stoppable, Terminal, Watched};
 
-/// Hears octets of the line.
-fn hear<S: Station>(terminal: &mut Terminal<S>, octets: &[u8]) -> u32
-    ensures { HearsOctets S S.steps terminal.old octets.now terminal.new result }
+/// Hears octets of the line, and sees what they bring.
+fn hear_watching<S: Station>(
+    terminal: &mut Terminal<S>,
+    watched: &mut Option<Watched>,
+    octets: &[u8],
+) -> u32
+    ensures hears { HearsOctets S S.steps terminal.old octets.now terminal.new result }
+    ensures sees { SeesOctets terminal.old.framing octets.now watched.old watched.new result }
 {
-    match terminal.hear(octets) {
+    match terminal.hear_watching(octets, watched) {
         Ok(()) => OK,
         Err(HearFault::NothingTaken) => NO_MEMORY,
         Err(HearFault::FrameLost) => FRAME_LOST,
     }
+}
+
+/// A caller hears octets of the line.
+fn caller_hears(terminal: &mut Terminal<StoppableCaller>, octets: &[u8]) -> u32
+    ensures { CallerHears terminal.old octets.now terminal.new result }
+{
+    let mut nothing = None;
+    hear_watching(terminal, &mut nothing, octets)
+}
+
+/// An answerer hears octets of the line, and sees what its caller says.
+fn answerer_hears(answering: &mut Answering, octets: &[u8]) -> u32
+    ensures { AnswererHears answering.old octets.now answering.new result }
+{
+    hear_watching(&mut answering.terminal, &mut answering.watched, octets)
 }
 
 /// Hears the next octets of the line, flags and frames, the least significant bit of each first, in pieces of any size. The station takes
@@ -39,24 +64,41 @@ pub extern "C" fn g3_core_terminal_hear(
     terminal: &mut G3Handle,
     octets: &[u8],
 ) -> u32
-    ensures { OnTerminal (λ old new. HearsOctets StoppableCallerFields caller_steps old octets.now new result)
-        (λ old new. HearsOctets LimitedFields answerer_steps old octets.now new result) terminal.old.value terminal.new.value result }
+    ensures { OnStation (λ old new. CallerHears old.terminal octets.now new.terminal result × (new.timing ≡ old.timing))
+        (λ old new. AnswererHears old octets.now new result) terminal.old.value terminal.new.value result }
 {
-    opened_terminal!(alloc, terminal, terminal => hear(terminal, octets))
+    opened_station!(alloc, terminal, calling => caller_hears(&mut calling.terminal, octets), answering => answerer_hears(answering, octets))
 }
 
-/// Hears a frame of this content.
-fn hear_frame<S: Station>(alloc: Global, terminal: &mut Terminal<S>, content: &[u8]) -> u32
-    ensures { HearsFrame S S.steps terminal.old content.now terminal.new result }
+/// Works on the octets of the frame of a content: terminals take octets alone, and count frames by them.
+macro_rules! as_frame {
+    ($alloc:expr, $content:expr, $octets:ident => $work:expr) => {{
+        if $content.len() < 3 || $content.len() > LONGEST_CONTENT {
+            return BAD_LENGTH;
+        }
+        match framed($alloc, $content) {
+            Ok(($octets, _)) => $work,
+            Err(_) => NO_MEMORY,
+        }
+    }};
+}
+
+/// A caller hears a frame of this content.
+fn caller_hears_frame(
+    alloc: Global,
+    terminal: &mut Terminal<StoppableCaller>,
+    content: &[u8],
+) -> u32
+    ensures { HearsFrame (TerminalFields StoppableCallerFields) CallerHears terminal.old content.now terminal.new result }
 {
-    if content.len() < 3 || content.len() > LONGEST_CONTENT {
-        return BAD_LENGTH;
-    }
-    // terminals take octets alone, and count frames by them
-    match framed(alloc, content) {
-        Ok((octets, _)) => hear(terminal, &octets),
-        Err(_) => NO_MEMORY,
-    }
+    as_frame!(alloc, content, octets => caller_hears(terminal, &octets))
+}
+
+/// An answerer hears a frame of this content.
+fn answerer_hears_frame(alloc: Global, answering: &mut Answering, content: &[u8]) -> u32
+    ensures { HearsFrame AnsweringFields AnswererHears answering.old content.now answering.new result }
+{
+    as_frame!(alloc, content, octets => answerer_hears(answering, &octets))
 }
 
 /// Hears a good frame by its content of 3 to 300 octets, as `g3_core_terminal_hear` hears the octets of that frame: for a modem that finds
@@ -68,10 +110,12 @@ pub extern "C" fn g3_core_terminal_hear_frame(
     terminal: &mut G3Handle,
     content: &[u8],
 ) -> u32
-    ensures { OnTerminal (λ old new. HearsFrame StoppableCallerFields caller_steps old content.now new result)
-        (λ old new. HearsFrame LimitedFields answerer_steps old content.now new result) terminal.old.value terminal.new.value result }
+    ensures { OnStation (λ old new. HearsFrame (TerminalFields StoppableCallerFields) CallerHears old.terminal content.now new.terminal result
+        × (new.timing ≡ old.timing)) (λ old new. HearsFrame AnsweringFields AnswererHears old content.now new result)
+        terminal.old.value terminal.new.value result }
 {
-    opened_terminal!(alloc, terminal, terminal => hear_frame(alloc, terminal, content))
+    opened_station!(alloc, terminal, calling => caller_hears_frame(alloc, &mut calling.terminal, content),
+        answering => answerer_hears_frame(alloc, answering, content))
 }
 
 /// Hears a training check.

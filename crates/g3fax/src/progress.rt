@@ -1,7 +1,7 @@
 //! How far terminals are with their calls, for C.
 
 ghost use Rattle.g3fax.specs.Handles.{OfTerminal};
-ghost use Rattle.g3fax.specs.Progress.{TellsAnswering, TellsCalling, answering_told, calling_told};
+ghost use Rattle.g3fax.specs.Progress.{TellsAnswering, TellsCalling, answering_told, calling_told, refused_times, refused_why, with_watch};
 ghost use Rattle.std.specs.Prelude.{◌≡◌, ◌≢◌, ◌≤◌};
 
 use crate::answering::Answering;
@@ -10,7 +10,7 @@ use crate::handle::{G3Handle, Kept};
 use crate::status::{EMPTY_HANDLE, OK, OTHER_HANDLE};
 use stations::{AnswererProgress, CallerProgress, StoppableCaller};
 use std::alloc::Global;
-use terminals::Terminal;
+use terminals::{Refusal, Refused, Terminal, Watched};
 
 /// How far a terminal is with its call; what belongs to the other station is 0.
 #[repr(C)]
@@ -38,6 +38,48 @@ pub struct G3Progress {
     pub accepted_page: u32,
     /// The number of that block in its page, modulo 256.
     pub accepted_block: u32,
+    /// How often an answerer was sent a DCS that it doesn't allow, 0 to 2: 2 for twice or more.
+    pub refused: u32,
+    /// Why the second one isn't allowed: 1 if it is without error correction, 2 if it wants what isn't offered; 0 if there was no second.
+    pub refused_why: u32,
+    /// 1 if the page numbers of an answerer's PPSs have jumped, otherwise 0.
+    pub gap: u32,
+    /// The page number, modulo 256, that came first after a jump.
+    pub gap_page: u32,
+}
+
+/// How often a DCS wasn't allowed, and why the second one wasn't.
+fn refused_told(refused: Refused) -> (u32, u32)
+    ensures times { result.0 ≡ refused_times refused }
+    ensures why { result.1 ≡ refused_why refused }
+{
+    match refused {
+        Refused::Never => (0, 0),
+        Refused::Once => (1, 0),
+        Refused::Twice(Refusal::NoErrorCorrection) => (2, 1),
+        Refused::Twice(Refusal::NotOffered) => (2, 2),
+    }
+}
+
+/// What is told of how far a station is, with what it saw.
+fn with_watch(told: G3Progress, watched: Option<Watched>) -> G3Progress
+    ensures { result ≡ with_watch watched told }
+{
+    let Some(watched) = watched else {
+        return told;
+    };
+    let (refused, refused_why) = refused_told(watched.refused);
+    let (gap, gap_page) = match watched.pages.gap {
+        Some(page) => (1, page as u32),
+        None => (0, 0),
+    };
+    G3Progress {
+        refused,
+        refused_why,
+        gap,
+        gap_page,
+        ..told
+    }
 }
 
 /// What is told of how far a caller is.
@@ -60,6 +102,10 @@ fn calling_told(far: CallerProgress) -> G3Progress
         accepted: 0,
         accepted_page: 0,
         accepted_block: 0,
+        refused: 0,
+        refused_why: 0,
+        gap: 0,
+        gap_page: 0,
     }
 }
 
@@ -83,6 +129,10 @@ fn answering_told(far: AnswererProgress, pages: u64) -> G3Progress
         accepted,
         accepted_page,
         accepted_block,
+        refused: 0,
+        refused_why: 0,
+        gap: 0,
+        gap_page: 0,
     }
 }
 
@@ -100,11 +150,13 @@ fn tell_answering(answering: &Answering, progress: &mut G3Progress) -> u32
 {
     let station = answering.terminal.station().station();
     let pages = answering.waiting.len() as u128 + station.pages().len() as u128;
-    *progress = answering_told(station.progress(), in_64_bits(pages));
+    let told = answering_told(station.progress(), in_64_bits(pages));
+    *progress = with_watch(told, answering.watched);
     OK
 }
 
-/// Tells how far a terminal is with its call: a caller's pages, block and tries, or an answerer's pages, octets and frames.
+/// Tells how far a terminal is with its call: a caller's pages, block and tries, or an answerer's pages, octets and
+/// frames, and what it saw of its caller.
 #[unsafe(no_mangle)]
 pub extern "C" fn g3_core_terminal_progress(
     alloc: Global,
@@ -121,7 +173,7 @@ pub extern "C" fn g3_core_terminal_progress(
         Some(kept) => {
             let status = match &*kept {
                 Kept::Caller(calling) => tell_calling(&calling.terminal, progress),
-                Kept::Answerer(answering) => tell_answering(answering, progress),
+                Kept::Answerer(answering) => tell_answering(&**answering, progress),
                 _ => OTHER_HANDLE,
             };
             terminal.put(kept);

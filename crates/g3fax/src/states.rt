@@ -87,7 +87,7 @@ pub extern "C" fn g3_core_terminal_state(
         Some(kept) => {
             let status = match &*kept {
                 Kept::Caller(calling) => tell_caller(&calling.terminal, state),
-                Kept::Answerer(answering) => tell_answerer(answering, state),
+                Kept::Answerer(answering) => tell_answerer(&**answering, state),
                 _ => OTHER_HANDLE,
             };
             terminal.put(kept);

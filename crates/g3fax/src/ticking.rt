@@ -2,12 +2,13 @@
 
 ghost use Rattle.g3fax.specs.Handles.{OfTimed, OnTimed};
 ghost use Rattle.g3fax.specs.Hearing.{answerer_steps, caller_steps};
-ghost use Rattle.g3fax.specs.Ticking.{AnswersTick, EndsOver, TellsDue, line_of, over_at};
+ghost use Rattle.g3fax.specs.Ticking.{AnswersTick, LimitsCall, StopsOrEnds, TellsDue, line_of, over_at};
 ghost use Rattle.signals.specs.declared.signal.Side.TheVariants.{Answerer as AnswererSide, Caller as CallerSide};
 ghost use Rattle.std.specs.Prelude.{◌≡◌, ◌≢◌, OnErr, OnOk};
 ghost use Rattle.stations.specs.Limiting.{LimitedFields};
 ghost use Rattle.stations.specs.Stopping.{StoppableCallerFields};
-ghost use Rattle.terminals.specs.Stopping.{CallerShows, LimitedShows};
+ghost use Rattle.terminals.specs.Clocks.{earlier};
+ghost use Rattle.terminals.specs.Stopping.{CallerShows, LimitedShows, caller_cut_off, caller_stop_says, limited_cut_off, limited_stop_says};
 
 use crate::codes::in_64_bits;
 use crate::handle::{G3Handle, Kept, opened_timed};
@@ -40,11 +41,19 @@ fn over_at(line: LineState, side: Side, shown: Shown, clock: Clock) -> Option<Wa
     }
 }
 
-/// Ends a wait that is over.
-fn end_over<S: Station>(terminal: &mut Terminal<S>, over: Option<Wait>) -> Result<(), AllocError>
-    ensures ok { OnOk result (EndsOver S S.steps over terminal.old terminal.new) }
+/// Stops a call that is too long, or else ends a wait that is over.
+fn stop_or_end<S: Stoppable>(
+    terminal: &mut Terminal<S>,
+    too_long: bool,
+    over: Option<Wait>,
+) -> Result<(), AllocError>
+    ensures ok { OnOk result (StopsOrEnds S S.steps S.cut_off S.stop_says too_long over terminal.old terminal.new) }
     ensures err { OnErr result (terminal.new ≡ terminal.old) }
 {
+    if too_long {
+        terminal.stop();
+        return Ok(());
+    }
     match over {
         Some(wait) => terminal.wait_over(wait),
         None => Ok(()),
@@ -53,7 +62,8 @@ fn end_over<S: Station>(terminal: &mut Terminal<S>, over: Option<Wait>) -> Resul
 
 /// Tells a terminal the time, and what the line is.
 fn tick<S: Stoppable>(terminal: &mut Terminal<S>, timing: &mut Timing, now: u64, line: u32) -> u32
-    ensures { AnswersTick S S.sends S.steps S.shows (line_of line) now terminal.old timing.old terminal.new timing.new result }
+    ensures { AnswersTick S S.sends S.steps S.cut_off S.stop_says S.shows (line_of line) now terminal.old timing.old terminal.new timing.new
+        result }
 {
     let Some(line) = line_of(line) else {
         return BAD_CHOICE;
@@ -65,7 +75,8 @@ fn tick<S: Stoppable>(terminal: &mut Terminal<S>, timing: &mut Timing, now: u64,
     let frames = terminal.good_frames();
     let clock = timing.clock_at(line, now, frames).asked(shown.longer);
     let side = terminal.station().side();
-    if end_over(terminal, over_at(line, side, shown, clock)).is_err() {
+    let too_long = timing.is_too_long(line, now);
+    if stop_or_end(terminal, too_long, over_at(line, side, shown, clock)).is_err() {
         return NO_MEMORY;
     }
     let later = terminal.shown();
@@ -74,13 +85,14 @@ fn tick<S: Stoppable>(terminal: &mut Terminal<S>, timing: &mut Timing, now: u64,
         sent: false,
         checked: false,
         frames,
+        most: timing.most,
     };
     OK
 }
 
 /// Tells a terminal the time, in milliseconds since its call was set up, and what the line is: 1 for a quiet line, 2 for one on which a
-/// carrier of the other station is on, or has just ended. The wait that is over on a quiet line ends. Returns `G3_BAD_CHOICE` (104) for
-/// another number, or a time before that of the last tick, or `G3_NO_MEMORY` (9).
+/// carrier of the other station is on, or has just ended. On a quiet line the wait that is over ends, or a call that has lasted as long as it
+/// may is stopped. Returns `G3_BAD_CHOICE` (104) for another number, or a time before that of the last tick, or `G3_NO_MEMORY` (9).
 #[unsafe(no_mangle)]
 pub extern "C" fn g3_core_terminal_tick(
     alloc: Global,
@@ -89,23 +101,59 @@ pub extern "C" fn g3_core_terminal_tick(
     line: u32,
 ) -> u32
     ensures { OnTimed
-        (λ old was new is. AnswersTick StoppableCallerFields CallerSide caller_steps CallerShows (line_of line) now old was new is result)
-        (λ old was new is. AnswersTick LimitedFields AnswererSide answerer_steps LimitedShows (line_of line) now old was new is result)
+        (λ old was new is. AnswersTick StoppableCallerFields CallerSide caller_steps caller_cut_off caller_stop_says CallerShows (line_of line)
+        now old was new is result)
+        (λ old was new is. AnswersTick LimitedFields AnswererSide answerer_steps limited_cut_off limited_stop_says LimitedShows (line_of line)
+        now old was new is result)
         terminal.old.value terminal.new.value result }
 {
     opened_timed!(alloc, terminal, terminal, timing => tick(terminal, timing, now, line))
 }
 
-/// Tells when the next wait is over.
+/// The earlier one of the time at which a wait is over, and of that at which the call is too long.
+fn earlier(wait: Option<u128>, stop: Option<u64>) -> Option<u128>
+    ensures { result ≡ earlier wait stop }
+{
+    let Some(stop) = stop else {
+        return wait;
+    };
+    match wait {
+        Some(wait) if wait <= stop as u128 => Some(wait),
+        _ => Some(stop as u128),
+    }
+}
+
+/// Limits the call of a terminal.
+fn limit_call<S: Station>(terminal: &mut Terminal<S>, timing: &mut Timing, seconds: u32) -> u32
+    ensures { LimitsCall S terminal.old timing.old seconds terminal.new timing.new result }
+{
+    *timing = timing.with_most(seconds);
+    OK
+}
+
+/// Lets the call of a terminal last so many seconds at most, from 0 ms on; 0 for no limit, as in the beginning. The first tick at which they
+/// have passed on a quiet line stops it.
+#[unsafe(no_mangle)]
+pub extern "C" fn g3_core_terminal_most_seconds(
+    alloc: Global,
+    terminal: &mut G3Handle,
+    seconds: u32,
+) -> u32
+    ensures { OnTimed (λ old was new is. LimitsCall StoppableCallerFields old was seconds new is result)
+        (λ old was new is. LimitsCall LimitedFields old was seconds new is result) terminal.old.value terminal.new.value result }
+{
+    opened_timed!(alloc, terminal, terminal, timing => limit_call(terminal, timing, seconds))
+}
+
+/// Tells when the next wait is over, or when the call is too long.
 fn tell_due<S: Stoppable>(terminal: &Terminal<S>, timing: &Timing, at: &mut u64) -> u32
     ensures tells { TellsDue S S.sends S.shows terminal.now timing.now at.old at.new result }
     ensures untold { result ≢ 0 → at.new ≡ at.old }
 {
     let side = terminal.station().side();
-    match timing
-        .clock_since()
-        .wait_due(side, terminal.shown(), durations())
-    {
+    let shown = terminal.shown();
+    let wait = timing.clock_since().wait_due(side, shown, durations());
+    match earlier(wait, timing.stop_due(shown.end)) {
         Some(due) => {
             *at = in_64_bits(due);
             OK
@@ -114,8 +162,9 @@ fn tell_due<S: Stoppable>(terminal: &Terminal<S>, timing: &Timing, at: &mut u64)
     }
 }
 
-/// Tells when the next wait is over, in the milliseconds of the ticks, if the line stays as it is and nothing comes; it may have passed.
-/// Returns `G3_NOTHING` (106) if no wait runs yet: T2 and T4 run from the first tick at which the line is quiet.
+/// Tells when the next wait is over, or the call has lasted as long as it may, in the milliseconds of the ticks, if the line stays as it is
+/// and nothing comes; it may have passed. Returns `G3_NOTHING` (106) if there is neither yet: T2, T4 and the call's end run from the first
+/// tick at which the line is quiet.
 #[unsafe(no_mangle)]
 pub extern "C" fn g3_core_terminal_due(alloc: Global, terminal: &mut G3Handle, at: &mut u64) -> u32
     ensures answers { OfTimed

@@ -1,9 +1,9 @@
 //! The clocks of terminals, and what has come and gone since their last ticks.
 
-ghost use Rattle.g3fax.specs.Ticking.{clock_ticked, clock_since, is_awaited, new_timing, of_t30};
+ghost use Rattle.g3fax.specs.Ticking.{clock_ticked, clock_since, is_awaited, is_too_long, most_millis, new_timing, of_t30, stop_due};
 ghost use Rattle.std.specs.Prelude.{◌≡◌, ◌||◌, true};
 
-use stations::Listening;
+use stations::{CallEnd, Listening};
 use terminals::{Clock, Durations, LineState, T1_MILLIS, T2_MILLIS, T4_MILLIS, T5_MILLIS};
 
 /// The clock of a terminal, and what has come and gone since its last tick.
@@ -17,6 +17,8 @@ pub struct Timing {
     pub checked: bool,
     /// How many good frames had been heard by then.
     pub frames: u64,
+    /// How many milliseconds the call has at most, if it has a limit.
+    pub most: Option<u64>,
 }
 
 impl Timing {
@@ -29,6 +31,39 @@ impl Timing {
             sent: false,
             checked: false,
             frames: 0,
+            most: None,
+        }
+    }
+
+    /// The timing of a call that has so many seconds at most; 0 for no limit.
+    pub(crate) fn with_most(self, seconds: u32) -> Timing
+        ensures { result ≡ record self { most = most_millis seconds } }
+    {
+        let most = if seconds == 0 {
+            None
+        } else {
+            Some(seconds as u64 * 1000)
+        };
+        Timing { most, ..self }
+    }
+
+    /// Whether the call is too long at a time, of which the line is this.
+    pub(crate) fn is_too_long(self, line: LineState, now: u64) -> bool
+        ensures { result ≡ is_too_long line self.most now }
+    {
+        match (line, self.most) {
+            (LineState::Quiet, Some(most)) => most <= now,
+            _ => false,
+        }
+    }
+
+    /// When the call is too long, if it hasn't ended and the line is calm.
+    pub(crate) fn stop_due(self, end: Option<CallEnd>) -> Option<u64>
+        ensures { result ≡ stop_due end (clock_since self).calm self.most }
+    {
+        match (end, self.clock_since().calm) {
+            (None, Some(_)) => self.most,
+            _ => None,
         }
     }
 

@@ -13,3 +13,4 @@ mod RepairsMean
 mod RepairsT6
 mod Identifying
 mod OwnWidths
+mod NoEols

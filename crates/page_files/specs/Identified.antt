@@ -9,7 +9,7 @@ use Rattle.raster.specs.declared.packed.Order.{Order}
 use Rattle.raster.specs.declared.packed.Order.TheVariants.{LsbFirst, MsbFirst}
 use Rattle.raster.specs.declared.row.Color.{Color}
 use Rattle.raster.specs.Packed.{bits_of}
-use Rattle.raster.specs.Pixels.{max_width}
+use Rattle.raster.specs.Pixels.{IsWidth, max_width}
 use Rattle.page_code.specs.declared.Coding.{Coding}
 use Rattle.page_code.specs.declared.Coding.TheVariants.{OneDim, T6}
 use Rattle.page_code.specs.Codings.{ReadsIn}
@@ -18,6 +18,7 @@ use Rattle.page_code.specs.RowsSoFar.{AreWholeRows}
 use Rattle.page_code.specs.declared.one_dim.repair.RepairedRow.{RepairedRow}
 use Rattle.page_files.specs.Answers.{octets_after}
 use Rattle.page_files.specs.CodedPages.{RefusesCode}
+use Rattle.page_files.specs.NoEols.{FirstAlone}
 use Rattle.page_files.specs.OwnWidths.{SaysTwoDim, SaysWidth}
 use Rattle.page_files.specs.Repairs.{RefusesLines}
 use Rattle.faults.specs.FaultKinds.{kind_of}
@@ -120,9 +121,13 @@ IsMended octets form coding (Ok bits) mended = mended ≡ None
 IsMended octets form OneDim (Err fault) mended = MendsTo form.order form.width octets mended
 IsMended octets form T6 (Err fault) mended = mended ≡ None
 
+-- the width of this way is a page's
+abbrev pub IsWay : Tried → Type 0
+IsWay tried = IsWidth tried.form.width
+
 -- the result of this way is right
 abbrev pub IsTried : List ℕ → Tried → Type 0
-IsTried octets tried = ReadsTo octets tried.form tried.rows tried.end × IsMended octets tried.form tried.form.coding tried.end tried.mended
+IsTried octets tried = IsWay tried × ReadsTo octets tried.form tried.rows tried.end × IsMended octets tried.form tried.form.coding tried.end tried.mended
 
 -- the way that was tried
 abbrev pub form_of : Tried → PageForm
@@ -258,6 +263,21 @@ TellsIdentity octets tried own Several before after = Appends before after (code
 TellsIdentity octets tried own (Nothing fault) before after =
     (msb lsb : Option ℕ) × AreTwoDim octets msb lsb × Appends before after (nothing_lines octets tried own msb lsb)
 
+-- the line of rows of T.4 without EOLs, by their width and their number
+abbrev pub no_eols_line : Order → Option (ℕ × ℕ) → List ℕ
+no_eols_line order None = []
+no_eols_line order (Some first) = cond (nat_lt 0 first.1)
+    (codes "T.4 without EOLs (TIFF compression 2), " ++ (order_name order ++ (codes ", width " ++ (decimal first.0 ++ (codes ", "
+    ++ (decimal first.1 ++ codes " rows: not read; try tiffcp -c g4 on its TIFF\n")))))) []
+
+-- what is written last, of octets that are nothing known: a line for each order of bits in which they are rows of T.4 without EOLs
+abbrev pub TellsAlone : List ℕ → Identity → Option (List ℕ) → Option (List ℕ) → Type 0
+TellsAlone octets Known before after = Appends before after []
+TellsAlone octets Several before after = Appends before after []
+TellsAlone octets (Nothing fault) before after = (msb lsb : Option (ℕ × ℕ)) × FirstAlone (bits_of MsbFirst octets) tried_widths msb
+    × FirstAlone (bits_of LsbFirst octets) tried_widths lsb
+    × Appends before after (no_eols_line MsbFirst msb ++ no_eols_line LsbFirst lsb)
+
 -- The lines before that. The format, if it is known (`TIFF, by its first octets`). A line for each way that reads a page (`T.6, most
 -- significant bit first, width 1728, 2292 rows`): first those without octets after it, then those without EOFB (`2292 rows, without EOFB`),
 -- then those with octets after it (`2292 rows, 3 octets after it`), then those that `decode --repair` reads (`2292 rows, by decode
@@ -266,13 +286,15 @@ abbrev pub page_lines : List ℕ → List Tried → List ℕ
 page_lines octets tried = format_line (format_of octets) ++ (lines_of Whole octets tried ++ (lines_of NoEofb octets tried
     ++ (lines_of Early octets tried ++ lines_of Mended octets tried)))
 
--- The octets were tried in all ways. What is written are `page_lines` and what `TellsIdentity` says, and what they are known to be is
--- `identity_of`, of the results.
+-- The octets were tried in all ways. What is written are `page_lines` and what `TellsIdentity` and `TellsAlone` say, and what they are
+-- known to be is `identity_of`, of the results.
 pub record Identifies (octets : List ℕ) (before after : Option (List ℕ)) (identity : Identity) : Type 0 where
   pub tried : List Tried
   pub own : Said
   pub are_tried : AreTried octets tried own
   pub between : Option (List ℕ)
+  pub last : Option (List ℕ)
   pub written : Appends before between (page_lines octets tried)
-  pub tells : TellsIdentity octets tried own identity between after
+  pub tells : TellsIdentity octets tried own identity between last
+  pub tells_alone : TellsAlone octets identity last after
   pub identity_is : identity ≡ identity_of (format_of octets) octets tried

@@ -8,6 +8,9 @@ pub mod PageEnds
 pub mod Answers
 pub mod LaterPages
 pub mod OwnWidths
+pub mod NoEols
+pub mod NextT6
+pub mod Found
 pub mod Identified
 pub mod DecodeRecords
 pub mod RepairsMean

@@ -1,5 +1,5 @@
 -- Where in a coded page a refused bit lies, and what was expected there.
-use Rattle.std.specs.Prelude.{ℕ, ◌≡◌, ◌+◌, Bool, List, drop, length}
+use Rattle.std.specs.Prelude.{ℕ, ◌≡◌, ◌≤◌, ◌+◌, Bool, List, Some, drop, length}
 use Rattle.raster.specs.declared.row.Color.{Color}
 use Rattle.page_code.specs.RowsSoFar.{AreWholeRows}
 use Rattle.page_code.specs.OneDimension.Pages.{EolBegins}
@@ -7,6 +7,7 @@ use Rattle.page_code.specs.declared.Coding.{Coding}
 use Rattle.run_tables.specs.CodeReading.{RefusesRun}
 use Rattle.run_tables.specs.RowLaws.{ReadsAsRow}
 use Rattle.run_tables.specs.declared.fault.CodeFault.{CodeFault}
+use Rattle.page_files.specs.OwnWidths.{RowSays}
 use Rattle.faults.specs.declared.expected.Expected.{Expected}
 use Rattle.faults.specs.declared.expected.Expected.TheVariants.{RunOf, Eol}
 
@@ -33,3 +34,8 @@ pub record HasNoEol (width : ℕ) (bits : List Bool) (place : ℕ) : Type 0 wher
 abbrev pub IsExpected : ℕ → List Bool → ℕ → Expected → Type 0
 IsExpected width bits place (RunOf color) = IsRefusedRun bits place color
 IsExpected width bits place Eol = HasNoEol width bits place
+
+-- from a bit up to the place on, the bits are the code words of runs, as many as there are, which are a row of the width; and an EOL comes
+-- after them, or nothing but 0 bits
+abbrev pub EndsInEmptyRuns : ℕ → List Bool → ℕ → Type 0
+EndsInEmptyRuns width bits place = (start : ℕ) × (start ≤ place) × RowSays bits start (Some width)

@@ -13,6 +13,7 @@ ghost use Rattle.std.specs.Io.KnownBytes.{Appends};
 ghost use Rattle.std.specs.Prelude.{◌≡◌, ◌≤◌, ◌++◌, ℕ, Option, All, IfErr, IfOk, OnOk, length, map, option_map};
 
 use crate::coded::read_code;
+use crate::no_eols::tell_alone;
 use crate::options::PageForm;
 use crate::own_widths::{own_width, two_dim_width};
 use faults::{FaultKind, NO_MEMORY, ToolFault};
@@ -37,7 +38,7 @@ pub struct Tried {
 
 /// How far octets fit a way to read them.
 #[derive(Clone, Copy, Debug, PartialEq, Eq)]
-enum Fit {
+pub(crate) enum Fit {
     /// They read to a page's end, and no octet comes after it.
     Whole,
     /// They read to the last row of a page in T.6, and only 0 bits come after it, or none: its EOFB is missing.
@@ -63,7 +64,7 @@ pub enum Identity {
 
 /// The widths that are tried where the octets say none: those that a call carries, those of A5 and A6 (ITU-T T.30, table 2), and those of
 /// Letter and A4 paper at 200 dots an inch.
-const WIDTHS: [u32; 7] = [1728, 2048, 2432, 1216, 864, 1700, 1654];
+pub(crate) const WIDTHS: [u32; 7] = [1728, 2048, 2432, 1216, 864, 1700, 1654];
 
 /// A format: the octets that its files begin with, and its name.
 #[derive(Clone, Copy)]
@@ -118,7 +119,7 @@ fn format_among(formats: &[Format], octets: &[u8]) -> Option<&'static str>
 }
 
 /// Returns the name of the format that octets begin as, if it is known.
-fn format_of(octets: &[u8]) -> Option<&'static str>
+pub(crate) fn format_of(octets: &[u8]) -> Option<&'static str>
     ensures { option_map (λ name. name.now) result ≡ format_of octets.now }
 {
     format_among(&FORMATS, octets)
@@ -242,7 +243,7 @@ fn try_own(
 
 /// The widths that octets say themselves in T.4, by the order of bits: if the most significant bit is first, and if the least is.
 #[derive(Clone, Copy, Debug, PartialEq, Eq)]
-struct Said {
+pub(crate) struct Said {
     msb: Option<u128>,
     lsb: Option<u128>,
 }
@@ -250,7 +251,7 @@ struct Said {
 /// Reads octets in all ways that are tried: T.4 at its own width, or in seven as T.6, both in both bit orders; and returns for each how far
 /// it reads: the rows and the bits of the page that the octets begin with, or the fault that `decode` gives and the whole rows before it.
 /// Errors: `NoMemory` (9).
-fn try_ways(alloc: Global, octets: &[u8]) -> Result<(Vec<Tried>, Said), ToolFault>
+pub(crate) fn try_ways(alloc: Global, octets: &[u8]) -> Result<(Vec<Tried>, Said), ToolFault>
     ensures tried { IfOk result (λ ways. AreTried octets.now ways.0.items ways.1) }
     ensures refused { IfErr result IsOutside }
 {
@@ -287,7 +288,7 @@ fn coding_name(coding: Coding) -> &'static str
 }
 
 /// The name of an order of bits.
-fn order_name(order: Order) -> &'static str
+pub(crate) fn order_name(order: Order) -> &'static str
     ensures { result.now ≡ order_name order }
 {
     match order {
@@ -326,7 +327,11 @@ fn lacks_eofb(rows: usize, end: Result<u128, ToolFault>) -> bool
 }
 
 /// Writes the line of one way.
-fn tell_tried<W: Write>(octets: &[u8], tried: &Tried, writer: &mut W) -> Result<(), ToolFault>
+pub(crate) fn tell_tried<W: Write>(
+    octets: &[u8],
+    tried: &Tried,
+    writer: &mut W,
+) -> Result<(), ToolFault>
     ensures told { OnOk result (Appends (W.contents writer.old) (W.contents writer.new) (tried_line octets.now tried.now)) }
     ensures fault { IfErr result IsOutside }
 {
@@ -358,7 +363,7 @@ fn tell_tried<W: Write>(octets: &[u8], tried: &Tried, writer: &mut W) -> Result<
 }
 
 /// Returns whether octets fit a way so far.
-fn fits(fit: Fit, octets: &[u8], tried: &Tried) -> bool
+pub(crate) fn fits(fit: Fit, octets: &[u8], tried: &Tried) -> bool
     ensures { result ≡ fits fit octets.now tried.now.rows tried.now.end tried.now.mended }
 {
     match (fit, tried.end) {
@@ -419,7 +424,11 @@ fn count_of(fit: Fit, octets: &[u8], tried: &[Tried]) -> u128
 }
 
 /// Writes the line of a width that octets say themselves in T.4, if no page can have it since it is too wide.
-fn tell_wide<W: Write>(order: Order, own: Option<u128>, writer: &mut W) -> Result<(), ToolFault>
+pub(crate) fn tell_wide<W: Write>(
+    order: Order,
+    own: Option<u128>,
+    writer: &mut W,
+) -> Result<(), ToolFault>
     ensures told { OnOk result (Appends (W.contents writer.old) (W.contents writer.new) (wide_line order own)) }
     ensures fault { IfErr result IsOutside }
 {
@@ -456,7 +465,11 @@ fn tell_two_dim_width<W: Write>(
 }
 
 /// Writes the line of a page of T.4 in two dimensions, if octets begin as one.
-fn tell_two_dim<W: Write>(octets: &[u8], order: Order, writer: &mut W) -> Result<(), ToolFault>
+pub(crate) fn tell_two_dim<W: Write>(
+    octets: &[u8],
+    order: Order,
+    writer: &mut W,
+) -> Result<(), ToolFault>
     ensures told { OnOk result ((said : Option ℕ) × SaysTwoDim (bits_of order octets.now) said
         × Appends (W.contents writer.old) (W.contents writer.new) (two_dim_line order said)) }
     ensures fault { IfErr result IsOutside }
@@ -467,7 +480,7 @@ fn tell_two_dim<W: Write>(octets: &[u8], order: Order, writer: &mut W) -> Result
 }
 
 /// Writes the line of a format, if it is known.
-fn tell_format<W: Write>(format: Option<&str>, writer: &mut W) -> Result<(), ToolFault>
+pub(crate) fn tell_format<W: Write>(format: Option<&str>, writer: &mut W) -> Result<(), ToolFault>
     ensures told { OnOk result (Appends (W.contents writer.old) (W.contents writer.new)
         (format_line (option_map (λ name. name.now) format.entry))) }
     ensures fault { IfErr result IsOutside }
@@ -490,7 +503,7 @@ fn no_page(octets: &[u8]) -> ToolFault
 }
 
 /// Returns what octets are known to be, by the format that they begin as and the ways that they read in.
-fn identity_of(format: Option<&str>, octets: &[u8], tried: &[Tried]) -> Identity
+pub(crate) fn identity_of(format: Option<&str>, octets: &[u8], tried: &[Tried]) -> Identity
     ensures { result ≡ identity_of (option_map (λ name. name.now) format.entry) octets.now tried.now }
 {
     let _ways = tried.len(); // shows the proof that the sums fit
@@ -551,8 +564,8 @@ fn tell_identity<W: Write>(
 /// Writes the format that octets begin as, if it is known, and a line for each way in which they read as a page: first those without octets
 /// after it, then those without EOFB, then those with octets after it, then those of `decode --repair`. Where several ways read, says that
 /// the width isn't known, unless one of them alone ends with the octets. With neither, writes how far each way reads that has a first row,
-/// a width that no page can have, and that it begins as T.4 in two dimensions; then the identity has the fault: `NoPages` (7) if there is
-/// no octet, otherwise `Unidentified` (29). Errors: `Io` (8) from the writer, `NoMemory` (9).
+/// a width that no page can have, that it begins as T.4 in two dimensions, and that it is T.4 without EOLs; then the identity has the
+/// fault: `NoPages` (7) if there is no octet, otherwise `Unidentified` (29). Errors: `Io` (8) from the writer, `NoMemory` (9).
 pub fn identify_engine<W: Write>(
     alloc: Global,
     octets: &[u8],
@@ -571,5 +584,6 @@ pub fn identify_engine<W: Write>(
     tell_those(Fit::Mended, octets, &tried, writer)?;
     let identity = identity_of(format, octets, &tried);
     tell_identity(identity, octets, &tried, said, writer)?;
+    tell_alone(alloc, octets, identity, writer)?;
     Ok(identity)
 }

@@ -140,7 +140,7 @@ fn cut_before(octets: &mut Vec<u8>, order: Order, start: u128)
 
 /// Drops the first page if another follows, and returns whether it did. If none follows, or the page can't be read, the octets stay.
 /// Errors: the refusal, at its bit, and then `kept` holds how far the page was read; `NoMemory` (9).
-fn skip_page(
+pub fn skip_page(
     alloc: Global,
     octets: &mut Vec<u8>,
     form: PageForm,

@@ -5,9 +5,12 @@ mod answer;
 mod coded;
 mod decode_records;
 mod decoding;
+mod found;
 mod identify;
 mod later_pages;
 pub mod laws;
+mod next_t6;
+mod no_eols;
 mod options;
 mod own_widths;
 mod page_end;
@@ -18,13 +21,16 @@ mod repair_t6;
 
 pub use crate::answer::DecodeAnswer;
 pub use crate::coded::{read_image, write_code};
-pub use crate::decoding::Broken;
+pub use crate::decoding::{Broken, Decoded, ReadTo, decode_page};
+pub use crate::found::{Found, find_way, tell_found, tell_unread};
 pub use crate::identify::{Identity, Tried, identify_engine};
-pub use crate::later_pages::answer_page;
+pub use crate::later_pages::{answer_page, skip_page};
+pub use crate::next_t6::{ends_by_eofb, may_follow};
 pub use crate::options::{DecodeOptions, PageForm};
 pub use crate::own_widths::own_width;
+pub use crate::page_end::has_its_end;
 pub use crate::pages::{
     Salvage, code_engine, decode_engine, salvage_engine, show_engine, show_page, write_some,
 };
-pub use crate::refused::{refused_at, refused_in};
+pub use crate::refused::{ends_in_empty_runs, refused_at, refused_in};
 pub use crate::repair::{Repair, repair_engine};

@@ -34,7 +34,7 @@ fn ends_row(octets: &[u8], order: Order, place: u128) -> bool
 }
 
 /// Returns the pixels of the runs of a row that begins at a place, if an EOL comes after them, or nothing but 0 bits; else None.
-fn row_from(octets: &[u8], order: Order, start: u128) -> Option<u128>
+pub(crate) fn row_from(octets: &[u8], order: Order, start: u128) -> Option<u128>
     requires { start ≤ 8 * length octets.now }
     ensures { RowSays (bits_of order octets.now) start result }
 {

@@ -14,7 +14,7 @@ const RTC_EOLS: u32 = 6;
 const EOL_ZEROS: u128 = 11;
 
 /// Returns how many of the first `end` bits are left without the 0 bits at their end.
-fn without_zeros(octets: &[u8], order: Order, end: u128) -> u128
+pub(crate) fn without_zeros(octets: &[u8], order: Order, end: u128) -> u128
     requires { end ≤ 8 * length octets.now }
     ensures zeros { bits_in order octets.now end ≡ bits_in order octets.now result ++ replicate (end - result) false }
     ensures within { result ≤ end }
@@ -31,7 +31,7 @@ fn without_zeros(octets: &[u8], order: Order, end: u128) -> u128
 }
 
 /// Returns where the EOL begins, fill included, that ends the first `end` bits; None if they don't end with an EOL.
-fn eol_before(octets: &[u8], order: Order, end: u128) -> Option<u128>
+pub(crate) fn eol_before(octets: &[u8], order: Order, end: u128) -> Option<u128>
     requires { end ≤ 8 * length octets.now }
     ensures { FindsEol order octets.now end result }
 {
@@ -68,7 +68,7 @@ fn ends_by_rtc(octets: &[u8], order: Order, bits: u128) -> bool
 
 /// Returns whether the code of a page, the first `bits` bits of the octets, has its end: RTC in T.4; always in T.6, since a page without
 /// EOFB is refused.
-pub(crate) fn has_its_end(octets: &[u8], form: PageForm, bits: u128) -> bool
+pub fn has_its_end(octets: &[u8], form: PageForm, bits: u128) -> bool
     ensures { IsTrue result ↔ HasItsEnd form.coding form.order octets.now bits }
 {
     match form.coding {

@@ -1,6 +1,6 @@
 //! Where in a coded page a refused bit lies: its row, and what was expected there.
 
-ghost use Rattle.page_files.specs.Refusals.{HasNoEol, IsExpected, IsRefusedRow, IsRefusedRun};
+ghost use Rattle.page_files.specs.Refusals.{EndsInEmptyRuns, HasNoEol, IsExpected, IsRefusedRow, IsRefusedRun};
 ghost use Rattle.raster.specs.Packed.{bits_of};
 ghost use Rattle.raster.specs.Pixels.{IsWidth};
 ghost use Rattle.page_code.specs.PageReaders.{IsPageRefused};
@@ -9,6 +9,7 @@ ghost use Rattle.std.specs.Bool.{OnTrue};
 ghost use Rattle.std.specs.Prelude.{◌≡◌, ◌≤◌, ◌*◌, IfSome, None, length};
 
 use crate::options::PageForm;
+use crate::own_widths::row_from;
 use faults::Expected;
 use page_code::{CodesPages, Coding, RefusedCode};
 use raster::Color;
@@ -117,6 +118,18 @@ fn expected_at(
     }
 }
 
+/// Returns whether a row of T.4 that is refused at a bit reads run by run up to an EOL and is this width in pixels: then the bit is that of
+/// runs of 0 pixels after the row, as mgetty writes them, and `decode --repair` reads it.
+pub fn ends_in_empty_runs(octets: &[u8], order: Order, width: u32, place: u128) -> bool
+    ensures { OnTrue result (EndsInEmptyRuns width (bits_of order octets.now) place) }
+{
+    if place > 8 * octets.len() as u128 {
+        return false;
+    }
+    let start = last_start(octets, order, 0, place);
+    row_from(octets, order, start) == Some(width as u128)
+}
+
 /// Returns whether the row of this width in pixels that begins at the reader's place ends at `place`, and no EOL begins there.
 fn has_no_eol(alloc: Global, reader: BitReader<'_>, width: u32, place: u128) -> bool
     requires { IsWidth width }
@@ -163,7 +176,7 @@ const MOST_RUNS: u32 = 5000;
 fn row_start(octets: &[u8], order: Order, from: u128, place: u128) -> u128
     requires within { place ≤ 8 * length octets.now }
     requires before { from ≤ place }
-    ensures { result ≤ 8 * length octets.now }
+    ensures { result ≤ place }
 {
     let mut zeros = 0u32;
     let mut start = from;
@@ -185,7 +198,7 @@ fn row_start(octets: &[u8], order: Order, from: u128, place: u128) -> u128
 /// Returns the bit after the last EOL that ends before a bit, searching from another bit on and then in all octets; 0 if there is none.
 fn last_start(octets: &[u8], order: Order, from: u128, place: u128) -> u128
     requires { place ≤ 8 * length octets.now }
-    ensures { result ≤ 8 * length octets.now }
+    ensures { result ≤ place }
 {
     let from = from.min(place);
     let start = row_start(octets, order, from, place);

@@ -3,7 +3,7 @@ use Rattle.std.proofs.Common.{◌≡◌, ℕ, List, length, refl, ap, ◌∙◌,
 use Rattle.std.proofs.lemmas.List.{length-map}
 use Rattle.std.proofs.lemmas.List.Sums.{length-filter}
 use Rattle.std.specs.Prelude.{Option, Some, None, Result, Ok, Err}
-use Rattle.hdlc.specs.Gaps.{count_of, good}
+use Rattle.hdlc.specs.Gaps.{count_of}
 use Rattle.hdlc.specs.declared.counts.Class.TheVariants.{Good}
 use Rattle.raster.specs.Packed.{bits_of}
 use Rattle.raster.specs.declared.packed.Order.TheVariants.{LsbFirst}
@@ -26,7 +26,7 @@ use Rattle.stations.specs.declared.turn.Turn.{Turn}
 use Rattle.stations.specs.declared.waiting.Wait.{Wait}
 use Rattle.terminals.specs.Hearing.{PlainInput, contents}
 use Rattle.terminals.specs.Speaking.{StepsOrStays}
-use Rattle.terminals.specs.Stations.{CallerSteps, caller_answers, caller_given, caller_takes}
+use Rattle.terminals.specs.Stations.{caller_answers, caller_given, caller_takes}
 use Rattle.terminals.specs.Stopping.{AnswerersSendDcn, CallerStepsUnlessCut, CallersSendDcn, LimitedShows, unless_cut, unless_ended}
 
 -- ---- a caller's step

@@ -1,7 +1,8 @@
 -- Octets that a deframer was fed, and what is heard of them.
-use Rattle.std.proofs.Common.{◌≡◌, ℕ, Bool, List, [], ◌++◌, length, sym, subst}
+use Rattle.std.proofs.Common.{◌≡◌, ℕ, Bool, List, [], ◌++◌, ◌∙◌, ap, length, sym, subst}
 use Rattle.std.proofs.lemmas.List.{drop_all}
 use Rattle.std.proofs.Math.Nat.{le_refl}
+use Rattle.std.specs.Prelude.{Option}
 use Rattle.raster.specs.Packed.{bits_of}
 use Rattle.raster.specs.declared.packed.Order.TheVariants.{LsbFirst}
 use Rattle.raster.proofs.OctetBits.{bits_of-append}
@@ -9,6 +10,8 @@ use Rattle.hdlc.specs.DeframerState.{DeframerState, IsAfter}
 use Rattle.terminals.specs.Hearing.{contents, new_contents, heard, heard_of, HasHeard}
 use Rattle.terminals.specs.Runs.{TakesAll, TakesSome}
 use Rattle.terminals.specs.Speaking.{Speaking, StepOf}
+use Rattle.terminals.specs.Watching.{Sees, seen_after}
+use Rattle.terminals.specs.declared.watching.Watched.{Watched}
 
 -- a deframer was fed a piece
 abbrev pub Feeds : DeframerState → List ℕ → DeframerState → Type 0
@@ -47,3 +50,8 @@ pub hears_some :
 hears_some steps piece framing fed after old new feeds is takes before has =
     let h = octets_taken before piece framing fed has feeds in
     (subst (λ f. HasHeard f (before ++ piece)) (sym is) h.0, subst (λ q. TakesSome steps old (heard q) new) h.1 takes)
+
+pub sees : (piece : List ℕ) (framing fed : DeframerState) (old new : Option Watched) → Feeds framing piece fed →
+    new ≡ seen_after old fed.queue → Sees framing piece old new
+sees piece framing fed old new feeds is before has =
+    is ∙ ap (seen_after old) (octets_taken before piece framing fed has feeds).1

@@ -7,6 +7,7 @@ pub mod Taking
 pub mod Few
 pub mod Sent
 pub mod Memory
+pub mod Seen
 pub mod Writable
 pub mod FrameSizes
 pub mod BurstSizes

@@ -1,5 +1,5 @@
 -- What a terminal holds beside its station's pages.
-use Rattle.std.proofs.Common.{◌≡◌, ◌≤◌, ◌∙◌, ℕ, Bool, List, [], length, drop, take, ap, arith, refl, subst, sym}
+use Rattle.std.proofs.Common.{◌≡◌, ◌≤◌, ◌∙◌, ℕ, Bool, List, [], length, drop, take, ap, arith, subst, sym}
 use Rattle.std.proofs.lemmas.List.{drop_all, length-take}
 use Rattle.hdlc.specs.Gaps.{unstuffed}
 use Rattle.hdlc.specs.Kept.{kept_of}
@@ -7,8 +7,6 @@ use Rattle.hdlc.specs.OpenGap.{unclosed}
 use Rattle.raster.specs.Octets.{octets_of}
 use Rattle.raster.specs.Packed.{bits_of}
 use Rattle.raster.specs.declared.packed.Order.TheVariants.{LsbFirst}
-use Rattle.signals.specs.declared.params.Caps.{Caps}
-use Rattle.signals.specs.declared.params.Params.{Params}
 use Rattle.stations.specs.AnswererStep.{Answerer, new_answerer}
 use Rattle.stations.specs.Limits.{OpenIsLimited, max_open_octets, open_octets}
 use Rattle.stations.specs.Runs.{answerer_after}

@@ -1,5 +1,5 @@
 -- The times that the waits of a station run from, and the wait that is over at a quiet line (T.30, 5.4.3.1).
-use Rattle.std.specs.Prelude.{ℕ, ◌≡◌, ◌≢◌, ◌⊎◌, ◌↔◌, ◌+◌, ◌≤◌, Bool, true, false, cond, max, nat_le, Option, Some, None}
+use Rattle.std.specs.Prelude.{ℕ, ◌≡◌, ◌≢◌, ◌⊎◌, ◌↔◌, ◌+◌, ◌≤◌, Bool, false, cond, max, nat_le, Option, Some, None}
 use Rattle.terminals.specs.declared.clock.Clock.{Clock}
 use Rattle.terminals.specs.declared.clock.Durations.{Durations}
 use Rattle.terminals.specs.declared.clock.LineState.{LineState}

@@ -10,4 +10,6 @@ pub mod Stations
 pub mod StationsAfter
 pub mod Stopping
 pub mod Timing
+pub mod Watching
+pub mod WatchingLaws
 pub mod Writable

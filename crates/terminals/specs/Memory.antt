@@ -1,5 +1,5 @@
 -- What a terminal holds beside its station's pages.
-use Rattle.std.specs.Prelude.{ℕ, ◌≡◌, ◌≤◌, ◌+◌, List, [], length}
+use Rattle.std.specs.Prelude.{ℕ, ◌≡◌, ◌≤◌, List, [], length}
 use Rattle.hdlc.specs.DeframerState.{DeframerState}
 use Rattle.partial_page.specs.Frames.{max_page_octets}
 use Rattle.signals.specs.declared.params.Caps.{Caps}

@@ -1,4 +1,4 @@
-//! Laws of what is heard, of where it leads, of waits, of DCN, of what can be written, and of what is held. Nothing runs.
+//! Laws of what is heard, of where it leads, of waits, of DCN, of what can be written, of what is held, and of what is watched. Nothing runs.
 
 ghost use Rattle.terminals.specs.BurstSizes.{AnswerersBurstsAreShort, CallersBurstsAreShort, FramesAreShort};
 ghost use Rattle.terminals.specs.Bursts.{AnswerersSendOne, CallersSendTwo};
@@ -7,6 +7,7 @@ ghost use Rattle.terminals.specs.Hearing.{CutsChangeNothing};
 ghost use Rattle.terminals.specs.Memory.{OneFrameIsKept, OpenPagesAreLimited};
 ghost use Rattle.terminals.specs.StationsAfter.{AnswererIsAfter, CallerIsAfter};
 ghost use Rattle.terminals.specs.Stopping.{AnswerersSendDcn, CallersSendDcn};
+ghost use Rattle.terminals.specs.WatchingLaws.{GapIsFirstJump, GapsByOctets, RefusedByOctets, SecondIsRefused};
 ghost use Rattle.terminals.specs.Writable.{AnswerersCanBeWritten, AnswerersSendWhole, CallersCanBeWritten, CallersSendWhole};
 ghost use Rattle.terminals.specs.Writable.{KeptMapsAreWhole, MapsAreWhole};
 
@@ -96,3 +97,19 @@ pub fn bursts_are_short()
     partial_page::laws::page_is_cut_into_full_frames();
     signals::laws::written_fits_a_frame();
 }
+
+/// Which DCS isn't allowed, and why, by its octets.
+pub fn refused_by_octets()
+    ensures { RefusedByOctets }
+{}
+
+/// A call is refused for the second DCS that isn't allowed, and for no other one.
+pub fn second_is_refused()
+    ensures { SecondIsRefused }
+{}
+
+/// Page numbers that jump, by octets; and the gap of a call is the first one that doesn't follow the number before it.
+pub fn gaps_are_jumps()
+    ensures octets { GapsByOctets }
+    ensures first { GapIsFirstJump }
+{}

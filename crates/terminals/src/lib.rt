@@ -12,6 +12,7 @@ mod station;
 mod stopping;
 mod terminal;
 mod timing;
+mod watching;
 
 pub use crate::clock::{Clock, Durations, LineState};
 pub use crate::fault::HearFault;
@@ -24,3 +25,4 @@ pub use crate::timing::{
     BETWEEN_CARRIERS_MILLIS, T1_MILLIS, T2_MILLIS, T4_MILLIS, T5_MILLIS, flags_after, flags_before,
     wait_millis,
 };
+pub use crate::watching::{PageNumbers, Refusal, Refused, Watched, page_of, refusal_of};

@@ -7,11 +7,13 @@ ghost use Rattle.terminals.specs.Runs.{TakesAll, TakesSome};
 ghost use Rattle.terminals.specs.Sending.{HasBurst, Sends};
 ghost use Rattle.terminals.specs.Speaking.{Takes, is_silent, spoken};
 ghost use Rattle.terminals.specs.Stopping.{hung_up, silenced, stopped};
+ghost use Rattle.terminals.specs.Watching.{seen_after};
 
 use crate::input::Input;
 use crate::sending::{SentBurst, pass, send};
 use crate::station::Station;
 use crate::stopping::Stoppable;
+use crate::watching::{Watched, see};
 use hdlc::Deframer;
 use stations::Turn;
 use std::alloc::{AllocError, Global};
@@ -146,14 +148,21 @@ impl<S: Stoppable> Speaker<S> {
     }
 }
 
-/// The station hears what each content that waits says. Returns false if memory was refused; some contents are lost.
-pub(crate) fn hear_waiting<S: Station>(deframer: &mut Deframer, speaker: &mut Speaker<S>) -> bool
+/// The station hears what each content that waits says, and what is watched of each is seen. Returns false if memory was refused; some
+/// contents are lost to the station.
+pub(crate) fn hear_waiting<S: Station>(
+    deframer: &mut Deframer,
+    speaker: &mut Speaker<S>,
+    watched: &mut Option<Watched>,
+) -> bool
     ensures all { result ≡ true → TakesAll S.steps speaker.old (heard deframer.old.queue) speaker.new }
     ensures some { TakesSome S.steps speaker.old (heard deframer.old.queue) speaker.new }
+    ensures seen { watched.new ≡ seen_after watched.old deframer.old.queue }
     ensures taken { deframer.new ≡ record deframer.old { queue = [] } }
 {
     let mut all = true;
     while let Some(content) = deframer.next() {
+        see(watched, content);
         all &= speaker.hear_content(content);
     }
     all

@@ -8,6 +8,7 @@ ghost use Rattle.terminals.specs.Sending.{HasBurst, Sends};
 ghost use Rattle.terminals.specs.Speaking.{Takes};
 ghost use Rattle.terminals.specs.Stations.{without_pages};
 ghost use Rattle.terminals.specs.Stopping.{IsShown, hung_up, silenced, stopped, with_pages_taken};
+ghost use Rattle.terminals.specs.Watching.{SeesIfTaken};
 
 use crate::fault::HearFault;
 use crate::input::Input;
@@ -15,6 +16,7 @@ use crate::sending::SentBurst;
 use crate::speaking::{Speaker, hear_waiting};
 use crate::station::Station;
 use crate::stopping::{Shown, Stoppable};
+use crate::watching::Watched;
 use hdlc::Deframer;
 use raster::Page;
 use stations::{Answerer, Caller, LimitedAnswerer, Turn, Wait};
@@ -79,10 +81,23 @@ impl<S: Station> Terminal<S> {
     pub fn hear(&mut self, octets: &[u8]) -> Result<(), HearFault>
         ensures { Hears S.steps self.old octets.now self.new result }
     {
+        let mut nothing = None;
+        self.hear_watching(octets, &mut nothing)
+    }
+
+    /// Hears octets as `hear` does; what is watched is seen in each good frame, also if the frame is lost to the station.
+    pub fn hear_watching(
+        &mut self,
+        octets: &[u8],
+        watched: &mut Option<Watched>,
+    ) -> Result<(), HearFault>
+        ensures hears { Hears S.steps self.old octets.now self.new result }
+        ensures sees { SeesIfTaken self.old.framing octets.now watched.old watched.new result }
+    {
         if let Err(_) = self.deframer.feed(octets) {
             return Err(HearFault::NothingTaken);
         }
-        if hear_waiting(&mut self.deframer, &mut self.speaker) {
+        if hear_waiting(&mut self.deframer, &mut self.speaker, watched) {
             return Ok(());
         }
         Err(HearFault::FrameLost)

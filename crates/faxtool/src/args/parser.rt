@@ -6,7 +6,7 @@ ghost use Rattle.faxtool.specs.Table.{app_in, rule_in, with_commands};
 ghost use Rattle.std.specs.Prelude.{◌≡◌, IfOk, None, false};
 
 use crate::args::fault_table::FAULTS;
-use crate::args::table::{Argument, Entry, commands, later_commands};
+use crate::args::table::{Argument, Entry, call_commands, commands, later_commands};
 use clap::builder::ValueParser;
 use clap::{Arg, Command};
 use std::alloc::{AllocError, Global};
@@ -80,18 +80,24 @@ fn with_entries<'a>(
 pub(crate) fn faxtool_command<'a>(alloc: Global) -> Result<Command<'a>, AllocError>
     ensures { IfOk result (λ command. IsFaxtool (app_of command)) }
 {
-    let first = with_entries(alloc, empty_command(alloc), commands())?;
+    let pages = with_entries(alloc, empty_command(alloc), commands())?;
+    let first = with_entries(alloc, pages, call_commands())?;
     with_entries(alloc, first, later_commands())
 }
 
 /// The command of this name, as the table of commands has it, if there is one.
 pub(crate) fn entry_named(name: &str) -> Option<&'static Entry<'static>> {
-    for entry in commands() {
-        if entry.name == name {
+    for entries in [commands(), call_commands(), later_commands()] {
+        if let Some(entry) = entry_in(entries, name) {
             return Some(entry);
         }
     }
-    for entry in later_commands() {
+    None
+}
+
+/// The command of this name among these, if it is there.
+fn entry_in(entries: &'static [Entry<'static>], name: &str) -> Option<&'static Entry<'static>> {
+    for entry in entries {
         if entry.name == name {
             return Some(entry);
         }

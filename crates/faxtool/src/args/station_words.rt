@@ -4,7 +4,7 @@ ghost use Rattle.std.specs.Str.{bytes_eq};
 ghost use Rattle.clap.specs.Words.{first_of, found_of, rows_of};
 ghost use Rattle.faxtool.specs.Jobs.{AreWaitsIn, HasNoCommand, IsCommandOf, caps_in, has_answerer, has_caller, limit_of, is_named, takes_t6};
 ghost use Rattle.faxtool.specs.Jobs.{AreLimitsIn, has_refusing, has_stops, is_octal, mode_named, mode_of, refuses_and_not};
-ghost use Rattle.faxtool.specs.Jobs.{refuses_in, rights_named, widest_named};
+ghost use Rattle.faxtool.specs.Jobs.{has_storing, holds_and_limits, refuses_in, rights_named, widest_named};
 
 use crate::args::unfit::Unfit;
 use crate::args::words::{
@@ -33,6 +33,8 @@ pub struct GivenWaits {
     pub hears: bool,
     /// True if it says its bursts by V.21 as the contents of their frames.
     pub frames: bool,
+    /// How late an answer may come in milliseconds, if given.
+    pub late: Option<u32>,
 }
 
 /// The limits of an answerer's call, if given.
@@ -94,9 +96,13 @@ fn answer_command(
     if refuses_and_not(matches) {
         return Ok(Err(Unfit::RefuseAndNot));
     }
+    if holds_and_limits(matches) {
+        return Ok(Err(Unfit::HoldAndLimit));
+    }
     Ok(Ok(Command::Answer(AnswerCommand {
         caps: caps_in(matches, coding),
         limit: limit_of(number_in(matches, "limit")),
+        holds: is_named(text_in(matches, "hold"), "true"),
         limits: limits_in(matches),
         refuses: refuses_in(matches),
         waits: waits_in(matches),
@@ -154,8 +160,15 @@ fn has_answerer(matches: &ArgMatches<'_>) -> bool
         || is_named(text_in(matches, "standard"), "true")
         || text_in(matches, "widest").is_some()
         || text_in(matches, "limit").is_some()
-        || text_in(matches, "mode").is_some()
+        || has_storing(matches)
         || has_stops(matches)
+}
+
+// Whether it was said how pages are stored.
+fn has_storing(matches: &ArgMatches<'_>) -> bool
+    ensures { result ≡ has_storing (rows_of (found_of matches.now)) }
+{
+    text_in(matches, "mode").is_some() || is_named(text_in(matches, "hold"), "true")
 }
 
 // Whether it was said when the call is stopped: a limit, or what a DCS that isn't allowed does.
@@ -180,6 +193,13 @@ fn refuses_and_not(matches: &ArgMatches<'_>) -> bool
     ensures { result ≡ refuses_and_not (rows_of (found_of matches.now)) }
 {
     is_named(text_in(matches, "refuse"), "true") && is_named(text_in(matches, "no-refuse"), "true")
+}
+
+// Whether pages are handed over, which are one at a time, and it was said how many wait.
+fn holds_and_limits(matches: &ArgMatches<'_>) -> bool
+    ensures { result ≡ holds_and_limits (rows_of (found_of matches.now)) }
+{
+    is_named(text_in(matches, "hold"), "true") && text_in(matches, "limit").is_some()
 }
 
 // Whether a call is stopped at the second DCS that isn't allowed: unless that is said otherwise.
@@ -269,6 +289,7 @@ fn waits_in(matches: &ArgMatches<'_>) -> GivenWaits
         t5: number_in(matches, "t5"),
         hears: is_named(text_in(matches, "hear"), "true"),
         frames: is_named(text_in(matches, "frames"), "true"),
+        late: number_in(matches, "late"),
     }
 }
 

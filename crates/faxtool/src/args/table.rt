@@ -1,6 +1,6 @@
 //! The program's commands with their options and files, as a table.
 ghost use Rattle.clap.specs.Words.{App};
-ghost use Rattle.faxtool.specs.Jobs.{BeginsFaxtool, IsFaxtool, empty_app};
+ghost use Rattle.faxtool.specs.Jobs.{BeginsFaxtool, HasPageCommands, IsFaxtool, empty_app};
 ghost use Rattle.faxtool.specs.Table.{with_commands};
 
 use clap::ArgAction;
@@ -100,6 +100,14 @@ const LINE_ORDER: Argument<'static> = Argument {
     ..ORDER
 };
 
+/// The folder that the pages of many files are written to.
+const EACH: Argument<'static> = Argument {
+    id: "each",
+    shown: &["DIR"],
+    help: "The folder that every page of each file is written to, as NAME-1.pbm and so on; without --code as identify says it of the file",
+    ..FILE_OPTION
+};
+
 const CODED_PAGE: Argument<'static> = Argument {
     id: "file",
     help: "The file of the coded page; - is standard input",
@@ -133,8 +141,14 @@ const CODE_ARGUMENTS: &[Argument<'static>] = &[
 const SHOW_ARGUMENTS: &[Argument<'static>] = &[CODE, WIDTH, ORDER, CODED_PAGE, EXPLAIN];
 
 const DECODE_ARGUMENTS: &[Argument<'static>] = &[
-    CODE,
-    WIDTH,
+    Argument {
+        required: false,
+        ..CODE
+    },
+    Argument {
+        required: false,
+        ..WIDTH
+    },
     ORDER,
     Argument {
         id: "fine",
@@ -163,7 +177,7 @@ const DECODE_ARGUMENTS: &[Argument<'static>] = &[
     },
     Argument {
         id: "json",
-        help: "Writes each line on standard error as an object of JSON, for programs",
+        help: "Writes each line on standard error, and with --each that of a file, as an object of JSON, for programs",
         ..FLAG
     },
     Argument {
@@ -173,11 +187,14 @@ const DECODE_ARGUMENTS: &[Argument<'static>] = &[
         help: "Decodes the Nth page of a file with several, one after another, and not the first",
         ..FILE_OPTION
     },
+    EACH,
     CODED_PAGE,
     Argument {
         id: "out",
         shown: &["OUT"],
-        help: "The file that the image is written to; - is standard output",
+        action: ArgAction::Append,
+        required: false,
+        help: "The file that the image is written to; - is standard output; with --each the further files of coded pages",
         ..FILE
     },
     EXPLAIN,
@@ -237,8 +254,14 @@ const FRAMES_ARGUMENTS: &[Argument<'static>] = &[
 
 const IDENTIFY_ARGUMENTS: &[Argument<'static>] = &[
     Argument {
+        id: "json",
+        help: "Prints a line for each file, as an object of JSON, for programs",
+        ..FLAG
+    },
+    Argument {
         id: "file",
-        help: "The file that is tried; - is standard input",
+        action: ArgAction::Append,
+        help: "The file that is tried; - is standard input; of several files one line each is printed",
         ..FILE
     },
     EXPLAIN,
@@ -454,6 +477,11 @@ const STATION_ARGUMENTS: &[Argument<'static>] = &[
         ..FLAG
     },
     Argument {
+        id: "hold",
+        help: "Hands each page over by a line `page FILE`, and confirms it once a line `kept T FILE` came (with --answer)",
+        ..FLAG
+    },
+    Argument {
         id: "frame",
         shown: &["N"],
         parser: Some(ValueParser::Names(&["256", "64"])),
@@ -503,6 +531,11 @@ const STATION_ARGUMENTS: &[Argument<'static>] = &[
         ..FLAG
     },
     Argument {
+        id: "late",
+        help: "Sends no answer that comes more than so many milliseconds late, by the system's clock and the times of the lines",
+        ..MILLIS
+    },
+    Argument {
         id: "trace",
         help: "The file that what is heard and said is written to, with its time",
         ..FILE_OPTION
@@ -534,7 +567,7 @@ const VERSION_ARGUMENTS: &[Argument<'static>] = &[Argument {
 }];
 
 /// The first commands, in the order of the help.
-static COMMANDS: [Entry<'static>; 5] = [
+static COMMANDS: [Entry<'static>; 3] = [
     Entry {
         name: "code",
         about: "Writes the code of an image into a file",
@@ -547,9 +580,13 @@ static COMMANDS: [Entry<'static>; 5] = [
     },
     Entry {
         name: "decode",
-        about: "Writes the first page in a file, or another one, as a PBM",
+        about: "Writes the first page in a file, or another one, as a PBM; or every page of many files",
         arguments: DECODE_ARGUMENTS,
     },
+];
+
+/// The commands after these. A list of all commands is more than the check can take in at once.
+static CALL_COMMANDS: [Entry<'static>; 2] = [
     Entry {
         name: "frames",
         about: "Lists the frames in a file of bits",
@@ -562,7 +599,7 @@ static COMMANDS: [Entry<'static>; 5] = [
     },
 ];
 
-/// The commands after these. A list of all of them is more than the check can take in at once.
+/// The last commands.
 static LATER_COMMANDS: [Entry<'static>; 3] = [
     Entry {
         name: "identify",
@@ -581,11 +618,18 @@ static LATER_COMMANDS: [Entry<'static>; 3] = [
     },
 ];
 
-/// The program's first commands.
+/// The program's first commands, those of pages.
 pub(crate) fn commands<'a>() -> &'a [Entry<'a>]
-    ensures { BeginsFaxtool (with_commands empty_app result.now) }
+    ensures { HasPageCommands (with_commands empty_app result.now) }
 {
     &COMMANDS
+}
+
+/// The commands after these: the list of frames, and calls.
+pub(crate) fn call_commands<'a>() -> &'a [Entry<'a>]
+    ensures { (app : App) → HasPageCommands app → BeginsFaxtool (with_commands app result.now) }
+{
+    &CALL_COMMANDS
 }
 
 /// The program's other commands.

@@ -6,6 +6,18 @@
 pub enum Unfit {
     /// There is no command, or a value that it needs isn't there; `clap` refuses that first.
     Missing,
+    /// `decode` of one page without `--code`.
+    NoCode,
+    /// `decode` of one page without `--width`.
+    NoWidth,
+    /// `decode` of one page without OUT.
+    NoOut,
+    /// `decode` of one page with several OUT.
+    ManyOuts,
+    /// `--each` with `--code` alone, or with `--width` alone.
+    HalfForm,
+    /// `--each`, and an option for one page.
+    EachAndOne,
     /// `--repair` and `--salvage`.
     RepairAndSalvage,
     /// `frames` without FILE and without a picture.
@@ -56,6 +68,8 @@ pub enum Unfit {
     NoMode,
     /// `--refuse` and `--no-refuse`.
     RefuseAndNot,
+    /// `--hold` and `--limit`.
+    HoldAndLimit,
     /// A caller with an option for an answerer.
     CallerAsAnswerer,
     /// A caller without IN.
@@ -69,6 +83,14 @@ impl Unfit {
     pub fn words(self) -> &'static str {
         match self {
             Unfit::Missing => "a value is missing",
+            Unfit::NoCode => "--code is missing, or --each, the folder of the pages of many files",
+            Unfit::NoWidth =>
+                "--width is missing, or --each, the folder of the pages of many files",
+            Unfit::NoOut => "OUT is missing, or --each, the folder of the pages of many files",
+            Unfit::ManyOuts => "one page goes to one OUT: for many files --each is missing",
+            Unfit::HalfForm => "--each needs --code and --width, or neither",
+            Unfit::EachAndOne =>
+                "--page and --verbose are for one page, and can't be used with --each",
             Unfit::RepairAndSalvage => "--repair and --salvage can't be used together",
             Unfit::NoCapture => "FILE is missing, or --diagram with --caller and --answerer",
             Unfit::NoPages => "--salvage needs --pages",
@@ -99,8 +121,10 @@ impl Unfit {
             Unfit::NoFolder => "--answer needs --out, the folder of the pages",
             Unfit::NoMode => "a mode is three octal digits, perhaps after a 0, as 0640",
             Unfit::RefuseAndNot => "--refuse and --no-refuse can't be used together",
+            Unfit::HoldAndLimit =>
+                "--hold takes one page at a time, and can't be used with --limit",
             Unfit::CallerAsAnswerer =>
-                "--out, --standard, --widest, --limit, --mode, --most-.. and --refuse are for a station with --answer",
+                "--out, --standard, --widest, --limit, --mode, --most-.., --refuse and --hold are for a station with --answer",
             Unfit::NoDocument => "--call needs IN, the file of the document",
             Unfit::DocumentStandard => "IN can't be standard input, where the lines come",
         }

@@ -12,6 +12,7 @@ ghost use Rattle.faxtool.specs.Jobs.{line_order_named, list_form, order_named, s
 ghost use Rattle.calls.specs.declared.losses.BadLine.{BadLine as LineValue};
 
 use crate::args::captures_words::{captures_command, has_captures};
+use crate::args::each_words::{each_command, has_more, several_command};
 use crate::args::parser::{command_alone, entry_named, faxtool_command};
 use crate::args::station_words::station_command;
 use crate::args::unfit::Unfit;
@@ -232,18 +233,24 @@ fn decode_command(
     ensures { let met = Some (codes "decode", rows_of (found_of matches.now)) in
         IfOk result (λ command. MatchResult command (IsCommandOf met) (λ unfit. HasNoCommand met)) }
 {
+    if text_in(matches, "each").is_some() {
+        return each_command(alloc, matches);
+    }
     let Some(coding) = coding_in(matches) else {
-        return Ok(Err(Unfit::Missing));
+        return Ok(Err(Unfit::NoCode));
     };
     let Some(width) = width_in(matches) else {
-        return Ok(Err(Unfit::Missing));
+        return Ok(Err(Unfit::NoWidth));
     };
     let Some(input) = text_in(matches, "file") else {
         return Ok(Err(Unfit::Missing));
     };
     let Some(output) = text_in(matches, "out") else {
-        return Ok(Err(Unfit::Missing));
+        return Ok(Err(Unfit::NoOut));
     };
+    if has_more(matches, "out") {
+        return Ok(Err(Unfit::ManyOuts));
+    }
     let options = decode_options(matches);
     if options.salvage && options.repair {
         return Ok(Err(Unfit::RepairAndSalvage));
@@ -271,7 +278,7 @@ pub(crate) fn page_of(given: Option<u32>) -> u32
 }
 
 // What is wanted of a page that is decoded.
-fn decode_options(matches: &ArgMatches<'_>) -> DecodeOptions
+pub(crate) fn decode_options(matches: &ArgMatches<'_>) -> DecodeOptions
     ensures { AreDecodeOptionsIn (rows_of (found_of matches.now)) result }
 {
     DecodeOptions {
@@ -333,6 +340,9 @@ fn identify_command(
     ensures { let met = Some (codes "identify", rows_of (found_of matches.now)) in
         IfOk result (λ command. MatchResult command (IsCommandOf met) (λ unfit. HasNoCommand met)) }
 {
+    if is_named(text_in(matches, "json"), "true") || has_more(matches, "file") {
+        return Ok(Ok(several_command(alloc, matches)?));
+    }
     let Some(input) = text_in(matches, "file") else {
         return Ok(Err(Unfit::Missing));
     };
@@ -603,7 +613,7 @@ fn coding_named(name: Option<&str>) -> Option<Coding>
     }
 }
 
-fn order_in(matches: &ArgMatches<'_>) -> Order
+pub(crate) fn order_in(matches: &ArgMatches<'_>) -> Order
     ensures { result ≡ order_named (first_of (codes "order") (rows_of (found_of matches.now))) }
 {
     order_named(text_in(matches, "order"))
@@ -642,7 +652,7 @@ pub(crate) fn text_in<'a>(matches: &ArgMatches<'a>, id: &str) -> Option<&'a str>
     matches.get_str(id)
 }
 
-fn width_in(matches: &ArgMatches<'_>) -> Option<u32>
+pub(crate) fn width_in(matches: &ArgMatches<'_>) -> Option<u32>
     ensures { let rows = rows_of (found_of matches.now) in
         MatchOption result ((width : ℕ) → IsWidthIn rows width → ⊥) (IsWidthIn rows) }
 {

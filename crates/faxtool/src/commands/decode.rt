@@ -5,6 +5,9 @@ ghost use Rattle.faxtool.specs.Runs.{IsAnswered};
 ghost use Rattle.raster.specs.Pixels.{IsWidth};
 ghost use Rattle.std.specs.Prelude.{IfErr, IfOk};
 
+pub(crate) mod each;
+mod ends;
+
 use crate::commands::{Completeness, NO_NAMES, Names, Runs};
 use crate::context::Context;
 use crate::files::apart::CommandFiles;

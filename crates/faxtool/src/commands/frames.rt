@@ -3,8 +3,7 @@
 pub(crate) mod two_captures;
 
 ghost use Rattle.faults.specs.Faults.{IsOutside};
-ghost use Rattle.captures.specs.PageNumbers.{after, page_missing};
-ghost use Rattle.std.specs.Prelude.{◌≡◌, IfErr, OnOk, false, max};
+ghost use Rattle.std.specs.Prelude.{◌≡◌, ◌+◌, IfErr, OnOk, false};
 
 use crate::commands::{Completeness, NO_NAMES, Names, Runs};
 use crate::context::{Context, Part};
@@ -219,12 +218,14 @@ impl FoundStore for Folder<'_, '_> {
     fn take(&mut self, found: Captured) -> Result<(), ToolFault> {
         self.is_empty = false;
         match found {
-            Captured::Page(page) => self.store(page, false),
-            Captured::Unread { .. }
+            Captured::Page { mark, page } => self.store(mark.page, page, false),
+            Captured::MissingPage(_)
+            | Captured::Unread { .. }
             | Captured::MissingFrame { .. }
             | Captured::MissingBlocks(_)
             | Captured::Unfinished
-            | Captured::BlockBeforeDcs(_) => self.name_missing(&found),
+            | Captured::BlockBeforeDcs(_)
+            | Captured::BlockAfterEnd { .. } => self.name_missing(&found),
         }
     }
 }
@@ -232,24 +233,24 @@ impl FoundStore for Folder<'_, '_> {
 impl FrontStore for Folder<'_, '_> {
     ghost use Rattle.faxtool.specs.Folders.{NotesFront};
 
-    ghost fronts = { λ old page new. NotesFront old.numbers new.numbers new.is_whole };
+    ghost fronts = { λ old number page new. NotesFront number new.numbers new.is_whole };
 
-    fn take_front(&mut self, page: Page) -> Result<(), ToolFault> {
+    fn take_front(&mut self, number: u8, page: Page) -> Result<(), ToolFault> {
         self.is_empty = false;
         self.is_whole = false;
-        self.store(page, true)
+        self.store(number, page, true)
     }
 }
 
 impl Folder<'_, '_> {
-    /// Writes a page, or the rows of one before a gap, into a new file with the first free number, and says so. A page without rows has no
-    /// file, as no code gives one.
-    fn store(&mut self, page: Page, is_front: bool) -> Result<(), ToolFault>
-        ensures number { OnOk result (self.new.numbers.page ≡ after self.old.numbers.page) }
+    /// Writes a page with this number in its PPS, or the rows of one before a gap, into a new file with the first free number, and says so.
+    /// A page without rows has no file, as no code gives one.
+    fn store(&mut self, number: u8, page: Page, is_front: bool) -> Result<(), ToolFault>
+        ensures number { OnOk result (self.new.numbers.page ≡ number + 1) }
         ensures whole { OnOk result (self.new.is_whole ≡ self.old.is_whole) }
         ensures fault { IfErr result IsOutside }
     {
-        let first = self.numbers.found();
+        let first = self.numbers.found(number);
         if page.rows().is_empty() {
             return Ok(());
         }
@@ -315,12 +316,11 @@ impl Folder<'_, '_> {
 
     /// Names what is missing of a page.
     fn name_missing(&mut self, found: &Captured) -> Result<(), ToolFault>
-        ensures number { OnOk result (self.new.numbers.page ≡ max self.old.numbers.page (page_missing found.now)) }
+        ensures number { OnOk result (self.new.numbers ≡ self.old.numbers) }
         ensures whole { OnOk result (self.new.is_whole ≡ false) }
         ensures fault { IfErr result IsOutside }
     {
         self.is_whole = false;
-        let _page = self.numbers.missing(found);
         self.tell_missing(found)
     }
 }

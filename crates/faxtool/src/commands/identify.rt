@@ -1,5 +1,7 @@
 //! The command `identify`.
 
+pub(crate) mod several;
+
 use crate::commands::{Completeness, NO_NAMES, Names, Runs};
 use crate::context::Context;
 use crate::files::apart::CommandFiles;

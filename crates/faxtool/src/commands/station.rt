@@ -2,6 +2,7 @@
 
 pub(crate) mod ending;
 pub(crate) mod folder;
+pub(crate) mod lateness;
 pub(crate) mod no_line;
 pub(crate) mod notes;
 pub(crate) mod records;
@@ -9,7 +10,7 @@ pub(crate) mod trace;
 
 ghost use Rattle.faults.specs.Faults.{IsOutside};
 ghost use Rattle.faxtool.specs.Runs.{IsHalt, IsNoDocument, SendsFrom, end_word, given_wait, stopped_word};
-ghost use Rattle.std.specs.Prelude.{◌≡◌, ◌<◌, ◌-◌, IfErr, IfOk, IfSome, List, drop, false, is_some, length, map, unwrap_or};
+ghost use Rattle.std.specs.Prelude.{◌≡◌, ◌<◌, ◌-◌, IfErr, IfOk, IfSome, List, Some, drop, false, length, map, option_map, unwrap_or};
 ghost use Rattle.raster.specs.Pages.{IsDocument, PagePixels};
 ghost use Rattle.raster.specs.Pbm.{AreImages};
 ghost use Rattle.raster.specs.PbmText.{with_fine};
@@ -19,10 +20,11 @@ ghost use Rattle.terminals.specs.Timing.{wait_millis};
 
 use crate::args::station_words::{GivenLimits, GivenWaits};
 use crate::commands::station::ending::end_station;
-use crate::commands::station::folder::{CallLimits, Folder};
+use crate::commands::station::folder::{CallLimits, Folder, StoppedBy};
+use crate::commands::station::lateness::Lateness;
 use crate::commands::station::no_line::{LastLine, NoLine, no_line};
 use crate::commands::station::notes::Notes;
-use crate::commands::station::records::write_confirmed;
+use crate::commands::station::records::{write_confirmed, write_confirmed_words};
 use crate::commands::station::trace::Trace;
 use crate::commands::{Completeness, NO_NAMES, Names, Runs};
 use crate::context::{Cause, Context, Part};
@@ -34,7 +36,7 @@ use crate::files::printed::{self, Printed};
 use crate::files::progress::Watch;
 use crate::files::{STANDARD, output};
 use calls::{CallOptions, end_word};
-use conversations::{Conversation, ConverseFault, Ending, Keeper, Refusal, Says, converse};
+use conversations::{Conversation, ConverseFault, Ending, Keeper, Refusal, Said, Says, converse};
 use faults::{FAILED, NO_MEMORY, ToolFault};
 use page_files::PageForm;
 use raster::laws::pbm_round_trip;
@@ -85,6 +87,10 @@ pub(crate) struct Talked {
     pub(crate) end: Option<CallEnd>,
     /// Why a second DCS wasn't allowed, if there was one.
     pub(crate) refused: Option<Refusal>,
+    /// Why the answerer's program stopped it, if it did.
+    pub(crate) stopped: Option<StoppedBy>,
+    /// Why a page's file couldn't be written, if that is so.
+    pub(crate) failed: Option<ErrorKind>,
     /// What the answerer lacks, if it wasn't compatible.
     pub(crate) missing: Option<Reason>,
     /// The pages that a caller counts as confirmed, or that an answerer has on disk.
@@ -150,16 +156,33 @@ struct Confirmed<'a> {
 }
 
 impl Keeper<StoppableCaller> for Confirmed<'_> {
-    ghost use Rattle.std.specs.Prelude.{◌≡◌, true};
+    ghost use Rattle.conversations.specs.Holding.{can_come};
+    ghost use Rattle.std.specs.Prelude.{◌≡◌, [], None, true};
     ghost use Rattle.stations.specs.CallerFields.{Represents};
     ghost use Rattle.stations.specs.CallerStep.{Caller as CallerTuple, confirmed};
 
-    ghost keeps = { λ old c new after kept. (after ≡ c) × (kept ≡ true)
+    ghost keeps = { λ old c said new after kept. (after ≡ c) × (kept ≡ true)
         × ((t : CallerTuple) → Represents c.terminal.speaking.station.station t → new ≡ record old { told = confirmed t }) };
+
+    ghost takes = { λ confirmed said. can_come None said };
+
+    ghost tells = { λ confirmed. [] };
 
     type Refused = ToolFault;
 
-    fn keep(&mut self, conversation: &mut Conversation<StoppableCaller>) -> Option<ToolFault> {
+    fn can_take(&self, said: &Said) -> bool {
+        !matches!(said, Said::Told { .. })
+    }
+
+    fn told(&self) -> &[u8] {
+        b""
+    }
+
+    fn keep(
+        &mut self,
+        conversation: &mut Conversation<StoppableCaller>,
+        _said: &Said,
+    ) -> Option<ToolFault> {
         let confirmed = conversation.terminal().station().station().confirmed();
         self.tell(conversation.clock().now, confirmed);
         self.told = confirmed;
@@ -168,15 +191,21 @@ impl Keeper<StoppableCaller> for Confirmed<'_> {
 }
 
 impl Confirmed<'_> {
-    /// Tells of each page that is confirmed and wasn't told, at a time, in a record.
+    /// Tells of each page that is confirmed and wasn't told, at a time.
     fn tell(&self, at: u64, confirmed: u64) {
-        if !self.records {
-            return;
-        }
         for before in self.told..confirmed {
-            let mut told = self.rt.stderr();
-            let _told = write_confirmed(self.rt.alloc(), at, before.saturating_add(1), &mut told);
+            self.tell_page(at, before.saturating_add(1));
         }
+    }
+
+    /// Tells that the page of this number is confirmed.
+    fn tell_page(&self, at: u64, number: u64) {
+        let mut told = self.rt.stderr();
+        let _told = if self.records {
+            write_confirmed(self.rt.alloc(), at, number, &mut told)
+        } else {
+            write_confirmed_words(at, number, &mut told)
+        };
     }
 }
 
@@ -269,6 +298,8 @@ pub struct AnswerCommand {
     pub caps: Caps,
     /// How many pages wait in memory at most, 1 to 1,000.
     pub limit: u32,
+    /// Whether its pages are handed over, and confirmed once a line says that they are kept.
+    pub holds: bool,
     /// What its call may have at most, if given.
     pub limits: GivenLimits,
     /// Whether its call is stopped at the second DCS that isn't allowed.
@@ -324,7 +355,7 @@ impl AnswerCommand {
     fn conversation(&self, alloc: Global) -> Conversation<LimitedAnswerer>
         ensures begun { result.begun ≡ false }
         ensures says { result.says ≡ record { hears = self.now.waits.hears; waits = self.now.waits.hears; frames = self.now.waits.frames } }
-        ensures refuses { is_some result.watch ≡ self.now.refuses }
+        ensures refuses { option_map (λ watch. watch.refuses) result.watch ≡ Some self.now.refuses }
     {
         let caps = Caps {
             receiver: true,
@@ -332,17 +363,19 @@ impl AnswerCommand {
             ..self.caps
         };
         let limits = Limits {
-            pages: u64::from(self.limit).max(1),
+            pages: if self.holds {
+                1
+            } else {
+                u64::from(self.limit).max(1)
+            },
             octets: u64::MAX,
         };
         let (station, first) = LimitedAnswerer::new(alloc, caps, limits);
         let terminal = Terminal::new(alloc, station, first);
         let conversation = Conversation::new_answerer(terminal, durations(self.waits));
-        let conversation = conversation.saying(says(self.waits));
-        if self.refuses {
-            return conversation.refusing(alloc, caps);
-        }
         conversation
+            .saying(says(self.waits))
+            .watching(alloc, caps, self.refuses)
     }
 
     /// Takes the lines. Errors: `Io` (8) if a file can't be opened, and that is noted; `NoMemory` (9).
@@ -353,9 +386,11 @@ impl AnswerCommand {
         let mut conversation = self.conversation(context.alloc());
         let limits = CallLimits::of(self.limits);
         let (name, records) = (self.out.as_str(), context.is_json());
-        let mut folder = Folder::new(context.rt(), name, self.rights, records, limits);
+        let folder = Folder::new(context.rt(), name, self.rights, records, limits);
+        let mut folder = folder.holding(self.holds);
         let trace = Trace::open(context, self.trace.as_deref(), self.frames)?;
-        let mut notes = Notes::new(context.rt(), records, trace);
+        let lateness = Lateness::new(context.rt(), self.waits.late);
+        let mut notes = Notes::new(context.rt(), records, trace, lateness);
         let halted = talk_out(context, &mut conversation, &mut folder, &mut notes)?;
         if let Some(kind) = folder.failed() {
             context.blame(Part::Output, kind);
@@ -364,6 +399,8 @@ impl AnswerCommand {
         Ok(Talked {
             end: conversation.end(),
             refused: conversation.refusal(),
+            stopped: folder.stopped(),
+            failed: folder.failed(),
             missing: None,
             pages: folder.stored(),
             whole: notes.noted().is_whole(progress.accepted),
@@ -533,7 +570,7 @@ impl DialCommand {
         let mut conversation = conversation.saying(says(self.waits));
         let (rt, records) = (context.rt(), context.is_json());
         let trace = Trace::open(context, self.trace.as_deref(), self.frames)?;
-        let mut notes = Notes::new(rt, records, trace);
+        let mut notes = Notes::new(rt, records, trace, Lateness::new(rt, self.waits.late));
         let mut confirmed = Confirmed {
             rt,
             records,
@@ -544,6 +581,8 @@ impl DialCommand {
         Ok(Talked {
             end: conversation.end(),
             refused: None,
+            stopped: None,
+            failed: None,
             missing: notes.noted().missing(self.wish(), self.options.fine),
             pages: progress.confirmed,
             whole: progress.confirmed == progress.pages,

@@ -51,6 +51,21 @@ impl fmt::Display for Told<'_> {
                 "{}; each row ends after {width} pixels: try --width {width}",
                 self.words
             ),
+            Some(Cause::EmptyRuns) => write!(
+                f,
+                "{}; runs of 0 pixels come before the row's EOL: decode --repair reads it",
+                self.words
+            ),
+            Some(Cause::NextPage(octet)) => write!(
+                f,
+                "{}; without EOFB nothing marks a page's end: another page may begin at octet {octet}",
+                self.words
+            ),
+            Some(Cause::NoEofb) => write!(
+                f,
+                "{}; the file doesn't end with EOFB: nothing marks a page's end then, and another page may begin before this bit",
+                self.words
+            ),
         }
     }
 }

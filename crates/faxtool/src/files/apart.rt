@@ -72,6 +72,12 @@ impl CommandFiles<'_> {
         self.add(role, name, true)
     }
 
+    /// Adds the file of the first page of a file that `--each` decodes into a folder. Errors: memory was refused.
+    pub fn writes_in(&mut self, folder: &str, base: &str) -> Result<(), AllocError> {
+        let name = format!(in self.rt.alloc(); "{folder}/{base}-1.pbm")?;
+        self.writes("a page of --each", name.as_str())
+    }
+
     /// Adds a file that is written, if one is named. Errors: memory was refused.
     pub fn may_write(&mut self, role: &'static str, name: Option<&str>) -> Result<(), AllocError> {
         match name {

@@ -30,7 +30,7 @@ const LOOKS: [usize; 3] = [1_048_576, 8_388_608, 67_108_864];
 /// line of 5 s, the longest of ITU-T T.4, has 168,000 bits at most.
 const FAR: u128 = 2_097_152;
 
-/// The widths in which `identify_engine` tries T.6.
+/// The widths in which `identify_engine` tries T.6, and T.4 that says none itself.
 const TRIED_WIDTHS: [u32; 7] = [1728, 2048, 2432, 1216, 864, 1700, 1654];
 
 /// The ways in which octets are read as a page.
@@ -159,20 +159,39 @@ fn is_no_page(alloc: Global, octets: &[u8], ways: Ways) -> Result<bool, AllocErr
 }
 
 /// Returns whether `identify` makes nothing of octets, however many follow: they don't begin with a row of T.4 and an EOL, since `decode
-/// --repair` takes rows of T.4 anywhere, and are refused in T.6 far before their end. Errors: memory was refused.
+/// --repair` takes rows of T.4 anywhere, and are refused in T.6 and T.4 far before their end. Errors: memory was refused.
 fn is_tried_in_vain(alloc: Global, octets: &[u8]) -> Result<bool, AllocError> {
     for order in [Order::MsbFirst, Order::LsbFirst] {
-        if own_width(octets, order).is_some() || !are_refused_early(alloc, octets, order)? {
+        if !is_order_in_vain(alloc, octets, order)? {
             return Ok(false);
         }
     }
     Ok(true)
 }
 
-fn are_refused_early(alloc: Global, octets: &[u8], order: Order) -> Result<bool, AllocError> {
+/// Returns the same of one order of bits. Errors: memory was refused.
+fn is_order_in_vain(alloc: Global, octets: &[u8], order: Order) -> Result<bool, AllocError> {
+    if own_width(octets, order).is_some() {
+        return Ok(false);
+    }
+    for coding in [Coding::T6, Coding::OneDim] {
+        if !are_refused_early(alloc, octets, coding, order)? {
+            return Ok(false);
+        }
+    }
+    Ok(true)
+}
+
+/// Returns whether octets are refused far before their end in this code in each width that is tried. Errors: memory was refused.
+fn are_refused_early(
+    alloc: Global,
+    octets: &[u8],
+    coding: Coding,
+    order: Order,
+) -> Result<bool, AllocError> {
     for width in TRIED_WIDTHS {
         let form = PageForm {
-            coding: Coding::T6,
+            coding,
             order,
             width,
             fine: false,

@@ -101,7 +101,7 @@ pub fn store_page(
     ensures fault { IfErr result (λ refused. IsOutside refused.fault) }
 {
     let mut made = make_in(rt, folder, rights)?;
-    let stored = fill_page(rt, folder, first, page, &mut made);
+    let stored = sync_page(rt, folder, first, page, &mut made);
     // it is the page's file by another name, or isn't whole
     made.remove(rt);
     let PageFile { name, number } = stored?;
@@ -114,6 +114,29 @@ pub fn store_page(
     }
 }
 
+/// Hands a page over: writes it as `store_page` does, and syncs neither the file nor the folder. If that fails, no file of it is left. Errors:
+/// `Io` (8), `NoMemory` (9).
+pub fn hand_page(
+    rt: &HostRuntime,
+    folder: &str,
+    rights: Rights,
+    first: u64,
+    page: &Page,
+) -> Result<u64, NotStored>
+    requires { 0 < length page.now.rows }
+    ensures number { IfOk result (λ number. first ≤ number) }
+    ensures fault { IfErr result (λ refused. IsOutside refused.fault) }
+{
+    let mut made = make_in(rt, folder, rights)?;
+    let handed = fill_page(rt, page, &mut made);
+    let named = match handed {
+        Ok(()) => name_page(rt, folder, first, &made).map_err(NotStored::from),
+        Err(refused) => Err(refused),
+    };
+    made.remove(rt);
+    Ok(named?.number)
+}
+
 /// The file of a page.
 #[derive(Drop)]
 struct PageFile {
@@ -121,8 +144,8 @@ struct PageFile {
     number: u64,
 }
 
-/// Writes a page into a part file, and gives that the first free name of a page from this number on.
-fn fill_page(
+/// Writes a page into a part file and syncs that, and gives it the first free name of a page from this number on.
+fn sync_page(
     rt: &HostRuntime,
     folder: &str,
     first: u64,
@@ -133,8 +156,18 @@ fn fill_page(
     ensures number { IfOk result (λ file. first ≤ file.number) }
     ensures fault { IfErr result (λ refused. IsOutside refused.fault) }
 {
+    fill_page(rt, page, made)?;
+    made.sync()?;
+    Ok(name_page(rt, folder, first, made)?)
+}
+
+/// Writes a page into a part file.
+fn fill_page(rt: &HostRuntime, page: &Page, made: &mut PartFile) -> Result<(), NotStored>
+    requires { 0 < length page.now.rows }
+    ensures { IfErr result (λ refused. IsOutside refused.fault) }
+{
     match write_images(rt.alloc(), slice::from_ref(page), made) {
-        Ok(()) => Ok(name_page(rt, folder, first, made)?),
+        Ok(()) => Ok(()),
         Err(fault) => {
             let kind = made.failed();
             Err(NotStored { fault, kind })
@@ -142,11 +175,10 @@ fn fill_page(
     }
 }
 
-/// Syncs a part file, and gives it the first free name of a page from this number on. Errors: the system's.
+/// Gives a part file the first free name of a page from this number on. Errors: the system's.
 fn name_page(rt: &HostRuntime, folder: &str, first: u64, made: &PartFile) -> io::Result<PageFile>
     ensures { IfOk result (λ file. first ≤ file.number) }
 {
-    made.sync()?;
     for number in first..=first.saturating_add(MOST_NUMBERS) {
         let name = format!(in rt.alloc(); "{folder}/page-{number}.pbm")?;
         if made.put_free(rt, name.as_str())? {

@@ -63,3 +63,14 @@ pub fn end_print(
     }
     Ok(ended?)
 }
+
+/// Prints octets at once. Errors: `Io` (8) if they can't be written, and that is noted; `NoMemory` (9).
+pub fn say(context: &mut Context<'_>, octets: &[u8]) -> Result<(), ToolFault>
+    ensures { IfErr result IsOutside }
+{
+    let mut writer = print(context)?;
+    let written = writer.write_all(octets);
+    end_print(context, writer, written.is_ok())?;
+    written?;
+    Ok(())
+}

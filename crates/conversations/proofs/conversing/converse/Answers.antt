@@ -1,5 +1,5 @@
 -- What the check asks of `converse`.
-use Rattle.std.proofs.Common.{◌≡◌, true, false, inl, refl, rules}
+use Rattle.std.proofs.Common.{◌≡◌, true, false, inl, inr, refl, rules}
 use Rattle.std.specs.Prelude.{Ok, is_none}
 use Rattle.conversations.proofs.TalkedLines.{one_more, stopped, told_so}
 use Rattle.conversations.proofs.conversing.converse.Goals as goal
@@ -16,7 +16,7 @@ returns-in-Ok-clause-ends g c =
           talk_state (g.R.Read.remaining c.loop-number.reader) c.loop-number.conversation c.loop-number.keeper
           (g.W.Write.contents c.loop-number.writer);
       answered = c.loop-number.invariant.answered;
-      ends = record { no_more = none.0; at_end = none.1; lost = c.in-Ok.ensures; keeper = refl; output = refl };
+      ends = record { no_more = none.0; at_end = none.1; lost = c.in-Ok.ensures.lost; keeper = refl; output = refl };
     }
 
 pub returns-in-Err-TooLong-clause-stops : goal.returns-in-Err-TooLong-clause-stops
@@ -96,3 +96,25 @@ loop-number-preserved g c =
     search rules in
     one_more _ _ _ _ c.loop-number.number c.deref.result.now (is_none c.in-Ok-answer.answered.unkept) c.in-Ok-answer.answered.over
     c.loop-number.invariant (record { read = read; answered = c.in-Ok-answer.ensures.ok }) (search rules) c.if-answered.false
+
+pub returns-in-Err-clause-stops : goal.returns-in-Err-clause-stops
+returns-in-Err-clause-stops g c = inr (inl (record {
+  lines = c.loop-number.invariant.lines;
+  last =
+      talk_state (g.R.Read.remaining c.loop-number.reader) c.loop-number.conversation c.loop-number.keeper
+      (g.W.Write.contents c.loop-number.writer);
+  answered = c.loop-number.invariant.answered;
+  refused = c.in-Err.ensures.refused;
+  keeper = refl;
+  output = refl;
+}))
+
+pub returns-in-Err-NoMemory-clause-stops : goal.returns-in-Err-NoMemory-clause-stops
+returns-in-Err-NoMemory-clause-stops g c = inl (record {
+  lines = c.loop-number.invariant.lines;
+  last =
+      talk_state (g.R.Read.remaining c.loop-number.reader) c.loop-number.conversation c.loop-number.keeper
+      (g.W.Write.contents c.loop-number.writer);
+  answered = c.loop-number.invariant.answered;
+  rest = refl;
+})

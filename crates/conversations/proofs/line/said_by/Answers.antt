@@ -2,7 +2,7 @@
 use Rattle.std.proofs.Common.{◌≡◌, ℕ, List, codes, rules}
 use Rattle.conversations.specs.Lines.{IsWordOf}
 use Rattle.conversations.specs.declared.line.Said.{Said}
-use Rattle.conversations.specs.declared.line.Said.TheVariants.{Quiet, Busy, Received, NotReady, Ready, Missed, Stop, End}
+use Rattle.conversations.specs.declared.line.Said.TheVariants.{Quiet, Busy, Received, NotReady, Ready, Missed, Told, Stop, End}
 use Rattle.conversations.proofs.line.said_by.Goals as goal
 
 no_word : (word : List ℕ) → (word ≡ codes "quiet" → ⊥) → (word ≡ codes "busy" → ⊥) → (word ≡ codes "not-ready" → ⊥)
@@ -13,6 +13,7 @@ no_word word quiet busy not_ready ready missed stop end (Received channel kind b
 no_word word quiet busy not_ready ready missed stop end NotReady h = not_ready h
 no_word word quiet busy not_ready ready missed stop end Ready h = ready h
 no_word word quiet busy not_ready ready missed stop end Missed h = missed h
+no_word word quiet busy not_ready ready missed stop end (Told fate file) h = h
 no_word word quiet busy not_ready ready missed stop end Stop h = stop h
 no_word word quiet busy not_ready ready missed stop end End h = end h
 

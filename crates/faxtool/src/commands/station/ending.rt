@@ -1,11 +1,12 @@
 //! How the call of a station ended, and how that is shown.
 
 ghost use Rattle.faults.specs.Faults.{IsOutside};
-ghost use Rattle.faxtool.specs.CallNotes.{has_left, missing_why, reason_words, refusal_words, stopped_why, why_words};
+ghost use Rattle.faxtool.specs.CallNotes.{end_why, has_left, missing_why, reason_words, refusal_words, stopped_why, why_words};
 ghost use Rattle.faxtool.specs.Runs.{IsHalt, ended_of};
 ghost use Rattle.std.specs.Prelude.{◌≡◌, IfErr, IfSome, option_map};
 
 use crate::commands::Completeness;
+use crate::commands::station::folder::StoppedBy;
 use crate::commands::station::no_line::NoLine;
 use crate::commands::station::records::{State, write_state};
 use crate::commands::station::{self, Halted, Talked};
@@ -74,13 +75,14 @@ fn reason_words(reason: Reason) -> &'static str
     }
 }
 
-/// Why a DCS wasn't allowed, of a call that was stopped.
-fn stopped_why(refused: Option<Refusal>) -> Option<&'static str>
-    ensures { option_map (λ why. why.now) result ≡ stopped_why refused }
+/// Why a DCS wasn't allowed, of a call that was stopped, or else why the program stopped it.
+fn stopped_why(refused: Option<Refusal>, by: Option<StoppedBy>) -> Option<&'static str>
+    ensures { option_map (λ why. why.now) result ≡ stopped_why refused by }
 {
-    match refused {
-        Some(why) => Some(refusal_words(why)),
-        None => None,
+    match (refused, by) {
+        (Some(why), _) => Some(refusal_words(why)),
+        (None, Some(by)) => Some(by.words()),
+        (None, None) => None,
     }
 }
 
@@ -94,12 +96,24 @@ fn missing_why(missing: Option<Reason>) -> Option<&'static str>
     }
 }
 
-/// Why the call ended so, in words, where more is known than its end.
+/// Why the call ended so, in words, or why a page's file couldn't be written.
 fn why_words(talked: &Talked) -> Option<&'static str>
-    ensures { option_map (λ why. why.now) result ≡ why_words talked.now.end talked.now.refused talked.now.missing }
+    ensures { option_map (λ why. why.now) result
+        ≡ why_words talked.now.failed (end_why talked.now.end talked.now.refused talked.now.stopped talked.now.missing) }
+{
+    match talked.failed {
+        Some(kind) => Some(faults::reason_words(Some(kind))),
+        None => end_why(talked),
+    }
+}
+
+/// Why the call ended so, in words, where more is known than its end.
+fn end_why(talked: &Talked) -> Option<&'static str>
+    ensures { option_map (λ why. why.now) result
+        ≡ end_why talked.now.end talked.now.refused talked.now.stopped talked.now.missing }
 {
     match talked.end {
-        Some(CallEnd::Stopped) => stopped_why(talked.refused),
+        Some(CallEnd::Stopped) => stopped_why(talked.refused, talked.stopped),
         Some(CallEnd::By(End::NotCompatible)) => missing_why(talked.missing),
         _ => None,
     }
@@ -119,6 +133,16 @@ fn record_state(context: &Context<'_>, talked: &Talked, calls: bool) {
     let _told = write_state(context.alloc(), &state, &mut context.rt().stderr());
 }
 
+/// Shows why a call is refused, or what the answerer lacks, if that is so.
+fn show_why(rt: &HostRuntime, talked: &Talked) {
+    if let (Some(CallEnd::Stopped), Some(refused)) = (talked.end, talked.refused) {
+        let _told = eprintln!(rt; "the call is refused: {}", refusal_words(refused));
+    }
+    if let (Some(CallEnd::By(End::NotCompatible)), Some(missing)) = (talked.end, talked.missing) {
+        let _told = eprintln!(rt; "not compatible: {}", reason_words(missing));
+    }
+}
+
 /// Shows how the call of a station ended; as a line, after one of why it is refused, if it is.
 fn show_end(context: &Context<'_>, talked: &Talked, calls: bool) {
     let rt = context.rt();
@@ -128,9 +152,7 @@ fn show_end(context: &Context<'_>, talked: &Talked, calls: bool) {
     {
         return;
     }
-    if let (Some(CallEnd::Stopped), Some(refused)) = (talked.end, talked.refused) {
-        let _told = eprintln!(rt; "the call is refused: {}", refusal_words(refused));
-    }
+    show_why(rt, talked);
     let counted = if calls { "confirmed" } else { "pages" };
     let _shown = eprintln!(rt; "end {word} {counted} {}", talked.pages);
 }

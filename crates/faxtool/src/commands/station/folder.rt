@@ -1,14 +1,23 @@
-//! The folder that the pages of an answerer go to, and the limits of its call.
+//! The folder that the pages of an answerer go to, by its own hand or another's, and the limits of its call.
 
-ghost use Rattle.faxtool.specs.Folders.{is_late, limits_of, most_of};
-ghost use Rattle.std.specs.Prelude.{◌≡◌, ◌+◌, nat_lt};
+ghost use Rattle.conversations.specs.Answering.{StoresAll};
+ghost use Rattle.conversations.specs.Holding.{HoldsPages};
+ghost use Rattle.faxtool.specs.Folders.{CountsHeld, HandsPage, KeepsBy, RefusesPage, StoresPage, held_name, is_full, is_late, limit_met};
+ghost use Rattle.faxtool.specs.CallNotes.{stopped_words};
+ghost use Rattle.faxtool.specs.Folders.{HasRoom, limits_of, most_of};
+ghost use Rattle.faxtool.specs.declared.commands.station.folder.StoppedBy.{StoppedBy as StoppedValue};
+ghost use Rattle.std.specs.Prelude.{◌≡◌, Bool, IfOk, None, Option, Some, false, is_none, string_bytes};
 
 use crate::args::station_words::GivenLimits;
-use crate::commands::station::records::{StoredPage, write_page};
+use crate::commands::station::records::{
+    StoredPage, write_gap, write_gap_words, write_page, write_page_words,
+};
 use crate::explain::notice_as;
-use crate::files::images::{image_octets, store_page};
+use crate::files::images::{hand_page, image_octets, store_page};
 use crate::files::output::Rights;
-use conversations::{Conversation, Keeper, PageStore, keep_pages};
+use conversations::{
+    Conversation, Fate, Keeper, PageHolder, PageStore, Said, can_come, hold_pages, keep_pages,
+};
 use faults::{FAILED, NO_MEMORY, ToolFault};
 use raster::Page;
 use signals::Params;
@@ -52,6 +61,61 @@ fn most_of(given: Option<u32>) -> u64
     }
 }
 
+/// Why an answerer's program stopped its call.
+#[derive(Clone, Copy, Debug, PartialEq, Eq)]
+pub(crate) enum StoppedBy {
+    /// A further page would have been more than `--most-pages`.
+    Pages,
+    /// A further page would have been more than `--most-octets`.
+    Octets,
+    /// The time of `--most-seconds` was over.
+    Seconds,
+    /// A page that was handed over is lost.
+    LostPage,
+}
+
+impl StoppedBy {
+    /// Why, in words.
+    pub(crate) fn words(self) -> &'static str
+        ensures { result.now ≡ stopped_words self }
+    {
+        match self {
+            StoppedBy::Pages => "a further page is dropped, and the call stopped: --most-pages",
+            StoppedBy::Octets => "a further page is dropped, and the call stopped: --most-octets",
+            StoppedBy::Seconds => "the call is stopped: --most-seconds",
+            StoppedBy::LostPage => "the call is stopped: a page that was handed over is lost",
+        }
+    }
+}
+
+/// What is stored of a call.
+#[derive(Clone, Copy, Debug, PartialEq, Eq)]
+pub(crate) struct Tally {
+    /// How many pages.
+    pub(crate) pages: u64,
+    /// The octets of their files.
+    pub(crate) octets: u64,
+    /// The number from which the next page's file has the first free one.
+    pub(crate) next: u64,
+}
+
+impl Tally {
+    /// Nothing is stored.
+    const NOTHING: Tally = Tally {
+        pages: 0,
+        octets: 0,
+        next: 1,
+    };
+}
+
+/// A page that was handed over, and isn't kept yet.
+#[derive(Drop)]
+struct HeldPage {
+    number: u64,
+    octets: u64,
+    name: String,
+}
+
 /// The folder that the pages of an answerer go to.
 #[derive(Drop)]
 pub(crate) struct Folder<'a> {
@@ -60,46 +124,36 @@ pub(crate) struct Folder<'a> {
     rights: Rights,
     records: bool,
     limits: CallLimits,
-    stored: u64,
-    octets: u64,
-    next: u64,
-    is_full: bool,
+    holds: bool,
+    held: Option<HeldPage>,
+    told: String,
+    tally: Tally,
+    stopped: Option<StoppedBy>,
     failed: Option<io::ErrorKind>,
+    has_gap: bool,
     // of the line after which pages are stored: its time, and how they were sent
     at: u64,
     params: Option<Params>,
 }
 
 impl PageStore for Folder<'_> {
-    ghost use Rattle.faxtool.specs.Folders.{StoresNext, StoresWithin};
+    ghost use Rattle.faxtool.specs.Folders.{RefusesPage, StoresPage};
     ghost use Rattle.std.specs.Prelude.{◌≡◌};
 
-    ghost stores = { λ old page new. StoresNext old.stored old.next new.stored new.next
-        × StoresWithin old.limits page new.stored old.octets new.octets × (new.limits ≡ old.limits) };
+    ghost stores = { λ old page new. StoresPage old.limits old.tally page new.tally × (new.limits ≡ old.limits) };
 
-    ghost refuses = { λ old page new. (new.stored ≡ old.stored) × (new.next ≡ old.next) × (new.octets ≡ old.octets)
-        × (new.limits ≡ old.limits) };
+    ghost refuses = { λ old page new. RefusesPage old.tally new.tally × (new.limits ≡ old.limits) };
 
     type Refused = ToolFault;
 
-    // The file is on disk then. A record says so, and standard error if it has another number than the page.
+    // The file is on disk then, and standard error says so.
     fn store(&mut self, page: Page) -> Result<(), ToolFault> {
-        if page.rows().is_empty() {
-            // no station stores such a page
-            return Err(FAILED);
-        }
-        let Ok(more) = image_octets(self.rt.alloc(), &page) else {
-            return Err(NO_MEMORY);
-        };
-        if self.stored >= self.limits.pages || self.is_too_much(more) {
-            self.is_full = true;
-            return Err(FAILED);
-        }
-        match store_page(self.rt, self.name, self.rights, self.next, &page) {
+        let more = self.room_for(&page)?;
+        match store_page(self.rt, self.name, self.rights, self.tally.next, &page) {
             Ok(written) => {
-                self.stored += 1;
-                self.octets += more;
-                self.next = written.saturating_add(1);
+                self.tally.pages += 1;
+                self.tally.octets += more;
+                self.tally.next = written.saturating_add(1);
                 self.tell_stored(written, &page);
                 Ok(())
             }
@@ -107,6 +161,58 @@ impl PageStore for Folder<'_> {
                 self.failed = refused.kind;
                 Err(refused.fault)
             }
+        }
+    }
+}
+
+impl PageHolder for Folder<'_> {
+    ghost use Rattle.faxtool.specs.Folders.{CountsHeld, HandsPage, RefusesPage, held_name};
+    ghost use Rattle.std.specs.Prelude.{◌≡◌, None, string_bytes};
+
+    ghost hands = { λ old page new. HandsPage old.limits old.tally page new.tally new.held (string_bytes new.told) × (new.limits ≡ old.limits) };
+
+    ghost refuses = { λ old page new. RefusesPage old.tally new.tally × (new.limits ≡ old.limits) };
+
+    ghost stores = { λ old page new. CountsHeld old.held old.tally new.tally × (new.held ≡ None) × (new.limits ≡ old.limits) };
+
+    ghost held = { λ folder. held_name folder.held };
+
+    type Refused = ToolFault;
+
+    // The file has its name then, and isn't synced: that is for whom it is handed to.
+    fn hand_over(&mut self, page: &Page) -> Result<(), ToolFault> {
+        let octets = self.room_for(page)?;
+        match hand_page(self.rt, self.name, self.rights, self.tally.next, page) {
+            Ok(number) => {
+                let name = format!(in self.rt.alloc(); "page-{number}.pbm")?;
+                self.told = format!(in self.rt.alloc(); "page {name}\n")?;
+                self.tally.next = number.saturating_add(1);
+                self.held = Some(HeldPage {
+                    number,
+                    octets,
+                    name,
+                });
+                Ok(())
+            }
+            Err(refused) => {
+                self.failed = refused.kind;
+                Err(refused.fault)
+            }
+        }
+    }
+
+    fn count(&mut self, page: &Page) {
+        if let Some(held) = self.held.take() {
+            self.tally.pages = self.tally.pages.saturating_add(1);
+            self.tally.octets = self.tally.octets.saturating_add(held.octets);
+            self.tell_stored(held.number, page);
+        }
+    }
+
+    fn held(&self) -> Option<&[u8]> {
+        match &self.held {
+            Some(held) => Some(held.name.as_bytes()),
+            None => None,
         }
     }
 }
@@ -120,7 +226,8 @@ impl<'a> Folder<'a> {
         records: bool,
         limits: CallLimits,
     ) -> Folder<'a>
-        ensures { (result.limits ≡ limits) × (result.stored ≡ 0) × (result.octets ≡ 0) × (result.next ≡ 1) }
+        ensures { (result.limits ≡ limits) × (result.tally ≡ record { pages = 0; octets = 0; next = 1 })
+            × (result.holds ≡ false) × (result.held ≡ None) }
     {
         Folder {
             rt,
@@ -128,21 +235,33 @@ impl<'a> Folder<'a> {
             rights,
             records,
             limits,
-            stored: 0,
-            octets: 0,
-            next: 1,
-            is_full: false,
+            holds: false,
+            held: None,
+            told: String::new(rt.alloc()),
+            tally: Tally::NOTHING,
+            stopped: None,
             failed: None,
+            has_gap: false,
             at: 0,
             params: None,
         }
     }
 
+    /// The folder, whose pages are handed over to others, or are stored by the program.
+    pub(crate) fn holding(self, holds: bool) -> Folder<'a>
+        ensures { (result.holds ≡ holds) × (result.limits ≡ self.entry.limits) × (result.tally ≡ self.entry.tally)
+            × (result.held ≡ self.entry.held) }
+    {
+        let mut folder = self;
+        folder.holds = holds;
+        folder
+    }
+
     /// How many pages were stored.
     pub(crate) fn stored(&self) -> u64
-        ensures { result ≡ self.now.stored }
+        ensures { result ≡ self.now.tally.pages }
     {
-        self.stored
+        self.tally.pages
     }
 
     /// Why a page's file couldn't be written, if that is so.
@@ -152,43 +271,117 @@ impl<'a> Folder<'a> {
         self.failed
     }
 
-    /// Whether so many octets more are more than the call may have.
-    fn is_too_much(&self, more: u64) -> bool
-        ensures { result ≡ nat_lt self.now.limits.octets (self.now.octets + more) }
+    /// Why the program stopped the call, if it did.
+    pub(crate) fn stopped(&self) -> Option<StoppedBy>
+        ensures { result ≡ self.now.stopped }
     {
-        self.octets > self.limits.octets || more > self.limits.octets - self.octets
+        self.stopped
     }
 
-    /// Tells that a page is in the file of this number: in a record, and if the page has another number.
-    fn tell_stored(&self, file: u64, page: &Page) {
-        if self.records {
-            let stored = StoredPage {
-                at: self.at,
-                number: self.stored,
-                file,
-                params: self.params,
-                page,
-            };
-            let _told = write_page(self.rt.alloc(), &stored, &mut self.rt.stderr());
+    /// The octets of a page's file, if the call may have that too. Errors: `Io` (8) if it may not, or the page has no row; `NoMemory` (9).
+    fn room_for(&mut self, page: &Page) -> Result<u64, ToolFault>
+        ensures room { IfOk result (λ octets. HasRoom self.old.limits self.old.tally page.now octets) }
+        ensures rest { (stopped : Option StoppedValue) × (self.new ≡ record self.old { stopped = stopped }) }
+    {
+        if page.rows().is_empty() {
+            // no station stores such a page
+            return Err(FAILED);
         }
-        if file != self.stored {
-            self.tell_other(file);
-        }
-    }
-
-    /// Tells on standard error that the last page's file has another number than the page.
-    fn tell_other(&self, written: u64) {
-        let number = self.stored;
-        let Ok(words) = format!(in self.rt.alloc(); "page {number} written as page-{written}.pbm")
-        else {
-            return;
+        let Ok(more) = image_octets(self.rt.alloc(), page) else {
+            return Err(NO_MEMORY);
         };
-        self.tell(words.as_str());
+        if let Some(limit) = self.limit_met(more) {
+            self.stopped = Some(limit);
+            return Err(FAILED);
+        }
+        Ok(more)
+    }
+
+    /// The limit that a page of so many octets would exceed, if it would.
+    fn limit_met(&self, more: u64) -> Option<StoppedBy>
+        ensures { result ≡ limit_met self.now.limits self.now.tally more }
+    {
+        if self.tally.pages >= self.limits.pages {
+            return Some(StoppedBy::Pages);
+        }
+        if self.tally.octets > self.limits.octets || more > self.limits.octets - self.tally.octets {
+            return Some(StoppedBy::Octets);
+        }
+        None
+    }
+
+    /// Whether a page was dropped since the call has all that it may have.
+    fn is_full(&self) -> bool
+        ensures { result ≡ is_full self.now.stopped }
+    {
+        matches!(self.stopped, Some(StoppedBy::Pages | StoppedBy::Octets))
+    }
+
+    /// Tells that a page is in the file of this number.
+    fn tell_stored(&self, file: u64, page: &Page) {
+        let stored = StoredPage {
+            at: self.at,
+            number: self.tally.pages,
+            file,
+            params: self.params,
+            page,
+        };
+        let mut told = self.rt.stderr();
+        let _told = if self.records {
+            write_page(self.rt.alloc(), &stored, &mut told)
+        } else {
+            write_page_words(&stored, &mut told)
+        };
     }
 
     /// Tells something on standard error.
     fn tell(&self, words: &str) {
         let _told = notice_as(self.rt, self.records, words);
+    }
+
+    /// Tells why the call is stopped, if it is.
+    fn tell_stopped(&self) {
+        if let Some(by) = self.stopped {
+            self.tell(by.words());
+        }
+    }
+
+    /// Notes and tells that a page is lost, if a line says so.
+    fn note_lost(&mut self, said: &Said)
+        ensures { (stopped : Option StoppedValue) × (self.new ≡ record self.old { stopped = stopped }) }
+    {
+        if let Said::Told {
+            fate: Fate::Lost,
+            ..
+        } = said
+        {
+            self.stop_for(StoppedBy::LostPage);
+        }
+    }
+
+    /// Notes why the call is stopped, and tells it.
+    fn stop_for(&mut self, by: StoppedBy)
+        ensures { self.new ≡ record self.old { stopped = Some by } }
+    {
+        self.stopped = Some(by);
+        self.tell_stopped();
+    }
+
+    /// Tells once that a page's number, from 0, didn't follow the one before it, if that is so.
+    fn tell_gap(&mut self, gap: Option<u8>)
+        ensures { (told : Bool) × (self.new ≡ record self.old { has_gap = told }) }
+    {
+        let (Some(page), false) = (gap, self.has_gap) else {
+            return;
+        };
+        self.has_gap = true;
+        let number = u64::from(page) + 1;
+        let mut told = self.rt.stderr();
+        let _told = if self.records {
+            write_gap(self.rt.alloc(), self.at, number, &mut told)
+        } else {
+            write_gap_words(self.at, number, &mut told)
+        };
     }
 
     /// Whether the time of a call that goes on is over, and the line is quiet, so that the other side can hear it hang up.
@@ -199,33 +392,86 @@ impl<'a> Folder<'a> {
         let end = conversation.terminal().station().end();
         clock.now >= self.limits.millis && clock.calm.is_some() && end.is_none()
     }
+
+    /// Stores the pages of the answerer, or does what a line says of the page that is held, or hands the next one over. Returns why a page is
+    /// refused, if one is.
+    fn keep_by(
+        &mut self,
+        conversation: &mut Conversation<LimitedAnswerer>,
+        said: &Said,
+    ) -> Option<ToolFault>
+        ensures { KeepsBy self.old.holds
+            (StoresAll (λ first page last. StoresPage first.limits first.tally page last.tally × (last.limits ≡ first.limits))
+            (λ first page last. RefusesPage first.tally last.tally × (last.limits ≡ first.limits))
+            conversation.old conversation.new self.old self.new (is_none result))
+            (HoldsPages
+            (λ first page last. HandsPage first.limits first.tally page last.tally last.held (string_bytes last.told) × (last.limits ≡ first.limits))
+            (λ first page last. RefusesPage first.tally last.tally × (last.limits ≡ first.limits))
+            (λ first page last. CountsHeld first.held first.tally last.tally × (last.held ≡ None) × (last.limits ≡ first.limits))
+            (held_name self.old.held) said.now conversation.old conversation.new self.old self.new (is_none result)) }
+    {
+        if self.holds {
+            return hold_pages(conversation, self, said);
+        }
+        keep_pages(conversation, self)
+    }
 }
 
 impl Keeper<LimitedAnswerer> for Folder<'_> {
-    ghost use Rattle.faxtool.specs.Folders.{KeepsWithin, StoresNext, StoresWithin, params_of};
-    ghost use Rattle.std.specs.Prelude.{◌≡◌};
+    ghost use Rattle.conversations.specs.Answering.{StoresAll};
+    ghost use Rattle.conversations.specs.Holding.{HoldsPages, can_come};
+    ghost use Rattle.faxtool.specs.Folders.{BeginsLine, CountsHeld, HandsPage, KeepsBy, KeepsWithin, RefusesPage, StoresPage, held_name, is_full};
+    ghost use Rattle.faxtool.specs.Folders.{params_of};
+    ghost use Rattle.faxtool.specs.declared.commands.station.folder.StoppedBy.{StoppedBy as StoppedValue};
+    ghost use Rattle.std.specs.Prelude.{◌≡◌, None, Option, string_bytes};
 
-    ghost keeps = { λ old c new after kept. KeepsWithin
-        (λ first page then. StoresNext first.stored first.next then.stored then.next
-        × StoresWithin first.limits page then.stored first.octets then.octets × (then.limits ≡ first.limits))
-        (λ first page then. (then.stored ≡ first.stored) × (then.next ≡ first.next) × (then.octets ≡ first.octets)
-        × (then.limits ≡ first.limits))
-        (λ folder. folder.is_full) new.limits.millis (record old { at = c.clock.now; params = params_of c }) c new after kept };
+    ghost keeps = { λ old c said new after kept. KeepsWithin
+        (λ before first. BeginsLine c.clock.now (params_of c) before first)
+        (λ first before last mid all. KeepsBy first.holds
+        (StoresAll (λ first page last. StoresPage first.limits first.tally page last.tally × (last.limits ≡ first.limits))
+        (λ first page last. RefusesPage first.tally last.tally × (last.limits ≡ first.limits)) before mid first last all)
+        (HoldsPages
+        (λ first page last. HandsPage first.limits first.tally page last.tally last.held (string_bytes last.told) × (last.limits ≡ first.limits))
+        (λ first page last. RefusesPage first.tally last.tally × (last.limits ≡ first.limits))
+        (λ first page last. CountsHeld first.held first.tally last.tally × (last.held ≡ None) × (last.limits ≡ first.limits))
+        (held_name first.held) said before mid first last all))
+        (λ kept last. (stopped : Option StoppedValue) × (last ≡ record kept { stopped = stopped }))
+        (λ folder. is_full folder.stopped) new.limits.millis old c new after kept };
+
+    ghost takes = { λ folder said. can_come (held_name folder.held) said };
+
+    ghost tells = { λ folder. string_bytes folder.told };
 
     type Refused = ToolFault;
 
-    fn keep(&mut self, conversation: &mut Conversation<LimitedAnswerer>) -> Option<ToolFault> {
+    fn can_take(&self, said: &Said) -> bool {
+        can_come(self, said)
+    }
+
+    fn told(&self) -> &[u8] {
+        self.told.as_bytes()
+    }
+
+    fn keep(
+        &mut self,
+        conversation: &mut Conversation<LimitedAnswerer>,
+        said: &Said,
+    ) -> Option<ToolFault> {
         self.at = conversation.clock().now;
         self.params = conversation.terminal().station().station().peer();
-        let refused = keep_pages(conversation, self);
-        if self.is_full {
-            self.tell("a page is dropped, and the call stopped: --most-pages or --most-octets");
+        self.told.clear();
+        self.tell_gap(conversation.gap());
+        let refused = self.keep_by(conversation, said);
+        if self.is_full() {
+            self.tell_stopped();
             return None;
         }
         if refused.is_none() && self.is_late(conversation) {
-            self.tell("the call is stopped: --most-seconds");
+            self.stop_for(StoppedBy::Seconds);
             conversation.hang_up();
+            return None;
         }
+        self.note_lost(said);
         refused
     }
 }

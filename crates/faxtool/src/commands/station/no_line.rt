@@ -3,7 +3,7 @@
 ghost use Rattle.std.specs.Prelude.{◌≡◌, ◌+◌, [], cond, false, min, nat_eq, IfOk, if◌then◌else◌, ◌-◌, ◌^◌};
 ghost use Rattle.faxtool.specs.Told.{KeepsOctet, begun_line, line_words};
 
-use conversations::{Channel, Kind, LineRefused, MOST_OCTETS, read_line};
+use conversations::{Channel, Kind, LineRefused, MOST_OCTETS, Said, TimedLine, read_line};
 use std::alloc::Global;
 use std::io::{BufRead, Read};
 use std::{fmt, io};
@@ -146,6 +146,10 @@ enum Wrong {
     Hex,
     /// What stands there is no content of a frame.
     Content,
+    /// There is no file after the time.
+    File,
+    /// The page of this file isn't held, or the time can't follow.
+    NotHeld,
     /// Its time is before that of the line before it, or too long after it.
     OutOfTime,
 }
@@ -164,6 +168,8 @@ impl Wrong {
             Wrong::Bits => "the number of bits is expected here, 1 to 7 digits",
             Wrong::Hex => "two hexadecimal digits are expected for each octet of the bits",
             Wrong::Content => "a frame's content of 3 to 300 octets is expected here",
+            Wrong::File => "a space and the name of a file are expected after the time",
+            Wrong::NotHeld => "no page of this name is held, or the time can't follow",
             Wrong::OutOfTime => "the time is before that of the line before, or too long after it",
         }
     }
@@ -198,6 +204,14 @@ impl<'a> Words<'a> {
             }
         }
         rest
+    }
+
+    /// Goes on after two words.
+    fn skip_two(&mut self) {
+        for _word in 0..2 {
+            let word = self.next_word();
+            self.skip(word);
+        }
     }
 
     /// Goes to the first word that is no content of a frame.
@@ -240,6 +254,15 @@ pub(crate) fn no_line(alloc: Global, line: &[u8]) -> NoLine {
     let mut words = Words { line, at: 0 };
     let wrong = match read_line(alloc, line) {
         Err(LineRefused::NoLine) => wrong_word(&mut words),
+        Ok(
+            TimedLine {
+                said: Said::Told { .. },
+                ..
+            },
+        ) => {
+            words.skip_two();
+            Wrong::NotHeld
+        }
         _ => {
             let word = words.next_word();
             words.skip(word);
@@ -256,14 +279,27 @@ pub(crate) fn no_line(alloc: Global, line: &[u8]) -> NoLine {
 fn wrong_word(words: &mut Words<'_>) -> Wrong {
     let word = words.next_word();
     let receives = matches!(word, b"rx");
+    let tells = matches!(word, b"kept" | b"lost");
     match word {
-        b"quiet" | b"busy" | b"not-ready" | b"ready" | b"missed" | b"stop" | b"end" | b"rx" => {}
+        b"quiet"
+        | b"busy"
+        | b"not-ready"
+        | b"ready"
+        | b"missed"
+        | b"stop"
+        | b"end"
+        | b"rx"
+        | b"kept"
+        | b"lost" => {}
         _ => return Wrong::Word,
     }
     words.skip(word);
     let time = words.next_word();
     if !are_digits(time, 15) {
         return Wrong::Time;
+    }
+    if tells {
+        return Wrong::File;
     }
     words.skip(time);
     if !receives {

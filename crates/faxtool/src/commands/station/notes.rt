@@ -5,8 +5,10 @@ ghost use Rattle.faxtool.specs.CallNotes.{noted_heard};
 ghost use Rattle.signals.specs.Reading.{read_content};
 ghost use Rattle.std.specs.Prelude.{◌≡◌, [], None, false};
 
-use crate::commands::station::records::write_heard;
+use crate::commands::station::lateness::Lateness;
+use crate::commands::station::records::{other_line, write_heard, write_heard_words};
 use crate::commands::station::trace::Trace;
+use crate::explain::notice_as;
 use conversations::{Channel, Follower, Kind, Said, TimedLine};
 use faults::ToolFault;
 use hdlc::Deframer;
@@ -120,15 +122,17 @@ struct Teller<'a> {
 }
 
 impl Teller<'_> {
-    /// Tells of a content that is no signal of ours, in a record.
+    /// Tells of a content that is no signal of ours.
     fn tell(self, content: &[u8]) {
-        if !self.records {
+        let Ok(Signal::Other(octet)) = read(content) else {
             return;
-        }
-        if let Ok(Signal::Other(octet)) = read(content) {
-            let fields = content.get(3..).unwrap_or(&[]);
-            let mut told = self.rt.stderr();
-            let _told = write_heard(self.rt.alloc(), self.at, octet, fields, &mut told);
+        };
+        let fields = content.get(3..).unwrap_or(&[]);
+        let (alloc, mut told) = (self.rt.alloc(), self.rt.stderr());
+        if self.records {
+            let _told = write_heard(alloc, self.at, octet, fields, &mut told);
+        } else if let Ok(line) = other_line(alloc, octet, fields) {
+            let _told = write_heard_words(self.at, content, &line, &mut told);
         }
     }
 }
@@ -164,6 +168,7 @@ pub(crate) struct Notes<'a> {
     rt: &'a HostRuntime,
     records: bool,
     trace: Trace<'a>,
+    lateness: Lateness<'a>,
     ear: Deframer,
     mouth: Deframer,
     noted: Noted,
@@ -173,7 +178,8 @@ impl Follower for Notes<'_> {
     type Failed = ToolFault;
 
     fn heard(&mut self, listens: Listening, line: &TimedLine) -> Result<(), ToolFault> {
-        self.trace.heard(listens, line)?;
+        self.lateness.note(line.at);
+        self.trace.heard(listens, line);
         if let Said::Received {
             channel: Channel::V21,
             kind: Kind::Frames,
@@ -186,8 +192,17 @@ impl Follower for Notes<'_> {
         Ok(())
     }
 
+    // Said on standard error, as nothing of the answer is sent.
+    fn is_late(&mut self, at: u64) -> bool {
+        let is_late = self.lateness.is_late(at);
+        if is_late {
+            self.tell_late(at);
+        }
+        is_late
+    }
+
     fn said(&mut self, at: u64, burst: &SentBurst) -> Result<(), ToolFault> {
-        self.trace.said(at, burst)?;
+        self.trace.said(at, burst);
         if let Carrier::V21 = burst.carrier {
             self.note_said(&burst.octets);
         }
@@ -197,17 +212,34 @@ impl Follower for Notes<'_> {
 
 impl<'a> Notes<'a> {
     /// What is noted of a call that hasn't begun. `records` if what is no signal of ours is told.
-    pub(crate) fn new(rt: &'a HostRuntime, records: bool, trace: Trace<'a>) -> Notes<'a>
+    pub(crate) fn new(
+        rt: &'a HostRuntime,
+        records: bool,
+        trace: Trace<'a>,
+        lateness: Lateness<'a>,
+    ) -> Notes<'a>
         ensures { result.noted ≡ record { pps = None; caps = None; confirms = false } }
     {
         Notes {
             rt,
             records,
             trace,
+            lateness,
             ear: Deframer::new(rt.alloc()),
             mouth: Deframer::new(rt.alloc()),
             noted: Noted::NOTHING,
         }
+    }
+
+    /// Tells that the answer to the line of a time isn't sent.
+    fn tell_late(&self, at: u64) {
+        let alloc = self.rt.alloc();
+        let Ok(words) = format!(in alloc;
+            "the answer to the line at {at} isn't sent: it comes too late"
+        ) else {
+            return;
+        };
+        let _told = notice_as(self.rt, self.records, words.as_str());
     }
 
     /// What was noted.

@@ -1,16 +1,17 @@
-//! What is told of a station's call while it runs and at its end, as JSON for programs.
+//! What is told of a station's call while it runs and at its end: in words, or as JSON for programs.
 
 ghost use Rattle.captures.specs.Missing.{lines_word};
 ghost use Rattle.captures.specs.Names.{code_name};
 ghost use Rattle.captures.specs.OtherWords.{other_words};
 ghost use Rattle.faults.specs.Faults.{IsOutside};
 ghost use Rattle.faults.specs.RecordLines.{record_line};
-ghost use Rattle.faxtool.specs.CallNotes.{bare, confirmed_record, heard_record, page_record, state_record};
+ghost use Rattle.faxtool.specs.CallNotes.{bare, confirmed_record, gap_record, heard_record, page_record, state_record};
+ghost use Rattle.faxtool.specs.CallNotes.{confirmed_words, gap_words, heard_words, page_words};
 ghost use Rattle.serde_json.specs.View.{view};
 ghost use Rattle.std.specs.Io.KnownBytes.{Appends};
 ghost use Rattle.std.specs.Prelude.{◌≡◌, IfErr, IfOk, OnOk, option_map};
 
-use captures::{signal_record, write_signal};
+use captures::{ContentText, signal_record, write_signal};
 use conversations::Channel;
 use faults::{FAILED, ToolFault, write_record};
 use raster::{Coding, Page};
@@ -88,6 +89,13 @@ fn confirmed_record(alloc: Global, at: u64, number: u64) -> Result<Value, AllocE
     json!(in alloc; {"at": at, "confirmed": number})
 }
 
+/// The number, from 1, of a page whose PPS doesn't follow the one before it.
+fn gap_record(alloc: Global, at: u64, page: u64) -> Result<Value, AllocError>
+    ensures { IfOk result (λ value. view value ≡ gap_record at page) }
+{
+    json!(in alloc; {"at": at, "gap": page})
+}
+
 /// A frame that is no signal of ours, by its control field and its words.
 fn heard_record(alloc: Global, at: u64, octet: u8, words: &str) -> Result<Value, AllocError>
     ensures { IfOk result (λ value. view value ≡ heard_record at octet words.now) }
@@ -150,6 +158,85 @@ pub(crate) fn write_page<W: Write>(
     write_record(alloc, &record, writer)
 }
 
+/// Writes a page that is in a file as a line of words: the time, the page, its file, its size, and how it was sent. Errors: as `write_page`.
+pub(crate) fn write_page_words<W: Write>(
+    stored: &StoredPage<'_>,
+    writer: &mut W,
+) -> Result<(), ToolFault>
+    ensures line { OnOk result (Appends (W.contents writer.old) (W.contents writer.new)
+        (page_words stored.now.at stored.now.number stored.now.file stored.now.params stored.now.page.now)) }
+    ensures fault { IfErr result IsOutside }
+{
+    let (at, number, file) = (stored.at, stored.number, stored.file);
+    let (width, height) = (stored.page.width(), stored.page.rows().len());
+    let lines = lines_word(stored.page.fine());
+    write!(
+        writer,
+        "{at} page {number} in page-{file}.pbm: {width} x {height}, {lines}"
+    )?;
+    if let Some(params) = stored.params {
+        let code = code_name(params.coding);
+        let speed = Channel::Message(params.speed).name();
+        write!(writer, ", {code}, {speed}")?;
+    }
+    writer.write_all(b"\n")?;
+    Ok(())
+}
+
+/// Writes that a caller counts the page of this number, from 1, as confirmed at a time, as a line of words. Errors: as `write_page`.
+pub(crate) fn write_confirmed_words<W: Write>(
+    at: u64,
+    number: u64,
+    writer: &mut W,
+) -> Result<(), ToolFault>
+    ensures line { OnOk result (Appends (W.contents writer.old) (W.contents writer.new) (confirmed_words at number)) }
+    ensures fault { IfErr result IsOutside }
+{
+    write!(writer, "{at} page {number} confirmed\n")?;
+    Ok(())
+}
+
+/// Writes that a page number, from 1, doesn't follow the one before it, as a line of words. Errors: as `write_page`.
+pub(crate) fn write_gap_words<W: Write>(at: u64, page: u64, writer: &mut W) -> Result<(), ToolFault>
+    ensures line { OnOk result (Appends (W.contents writer.old) (W.contents writer.new) (gap_words at page)) }
+    ensures fault { IfErr result IsOutside }
+{
+    write!(writer, "{at} gap before page {page}: one may be missing\n")?;
+    Ok(())
+}
+
+/// Writes a content that is no signal of ours, heard at a time, as a line of words: its name and digits, as `other_line` has them, or what it
+/// says. Errors: as `write_page`.
+pub(crate) fn write_heard_words<W: Write>(
+    at: u64,
+    content: &[u8],
+    line: &[u8],
+    writer: &mut W,
+) -> Result<(), ToolFault>
+    ensures line { OnOk result (Appends (W.contents writer.old) (W.contents writer.new) (heard_words at content.now (bare line.now))) }
+    ensures fault { IfErr result IsOutside }
+{
+    let words = bare(line);
+    write!(writer, "{at} heard ")?;
+    if words.is_empty() {
+        write!(writer, "{}", ContentText(content))?;
+    } else {
+        writer.write_all(words)?;
+    }
+    writer.write_all(b"\n")?;
+    Ok(())
+}
+
+/// The line of words of a frame that is no signal of ours; empty if it has no name. Errors: `NoMemory` (9), `Io` (8).
+pub(crate) fn other_line(alloc: Global, octet: u8, fields: &[u8]) -> Result<Vec<u8>, ToolFault>
+    ensures line { IfOk result (λ line. line.items ≡ other_words octet fields.now) }
+    ensures fault { IfErr result IsOutside }
+{
+    let mut line = Vec::new(alloc);
+    write_signal(&Signal::Other(octet), fields, &mut line)?;
+    Ok(line)
+}
+
 /// Writes the record of a page that a caller counts as confirmed at a time, by its number from 1, as one line. Errors: as `write_page`.
 pub(crate) fn write_confirmed<W: Write>(
     alloc: Global,
@@ -161,6 +248,20 @@ pub(crate) fn write_confirmed<W: Write>(
     ensures fault { IfErr result IsOutside }
 {
     let record = confirmed_record(alloc, at, number)?;
+    write_record(alloc, &record, writer)
+}
+
+/// Writes the record of a page number, from 1, that doesn't follow the one before it, as one line. Errors: as `write_page`.
+pub(crate) fn write_gap<W: Write>(
+    alloc: Global,
+    at: u64,
+    page: u64,
+    writer: &mut W,
+) -> Result<(), ToolFault>
+    ensures line { OnOk result (Appends (W.contents writer.old) (W.contents writer.new) (record_line (gap_record at page))) }
+    ensures fault { IfErr result IsOutside }
+{
+    let record = gap_record(alloc, at, page)?;
     write_record(alloc, &record, writer)
 }
 
@@ -177,8 +278,7 @@ pub(crate) fn write_heard<W: Write>(
         (record_line (heard_record at octet (bare (other_words octet fields.now))))) }
     ensures fault { IfErr result IsOutside }
 {
-    let mut line = Vec::new(alloc);
-    write_signal(&Signal::Other(octet), fields, &mut line)?;
+    let line = other_line(alloc, octet, fields)?;
     let Ok(words) = str::from_utf8(bare(&line)) else {
         return Err(FAILED);
     };

@@ -9,7 +9,7 @@ ghost use Rattle.std.specs.Prelude.{◌≡◌, ◌||◌, IfErr, None, OnOk, cond
 use crate::context::{Context, Part};
 use crate::explain::notice_as;
 use captures::{ContentText, write_traced, write_traced_check};
-use conversations::{Follower, Heard, Kind, Said, TimedLine, heard_as};
+use conversations::{Heard, Kind, Said, TimedLine, heard_as};
 use faults::ToolFault;
 use hdlc::Deframer;
 use signals::{Signal, read};
@@ -37,23 +37,19 @@ struct TraceFile {
     said: Deframer,
 }
 
-impl Follower for Trace<'_> {
-    type Failed = ToolFault;
-
-    fn heard(&mut self, listens: Listening, line: &TimedLine) -> Result<(), ToolFault> {
+impl<'a> Trace<'a> {
+    /// Writes what a line brings to a station that listens so, if there is a trace.
+    pub(crate) fn heard(&mut self, listens: Listening, line: &TimedLine) {
         let written = self.write_heard(listens, line);
         self.end_after(written);
-        Ok(())
     }
 
-    fn said(&mut self, at: u64, burst: &SentBurst) -> Result<(), ToolFault> {
+    /// Writes a burst that is sent in answer to the line of this time, if there is a trace.
+    pub(crate) fn said(&mut self, at: u64, burst: &SentBurst) {
         let written = self.write_said(at, burst);
         self.end_after(written);
-        Ok(())
     }
-}
 
-impl<'a> Trace<'a> {
     /// The trace that goes to a file, after what is there; or none. It has a line for each frame of a block, or one for all that follow each
     /// other. Errors: `Io` (8) if the file can't be opened, and that is noted; `NoMemory` (9).
     pub(crate) fn open(

@@ -8,15 +8,7 @@ unfolding with_arguments with_commands
 returns c = record {
   codings = _;
   orders = _;
-  sizes = _;
-  modems = _;
-  ends = _;
-  names = record {
-    takes_codings = (_, refl, refl);
-    takes_sizes = (_, refl, refl);
-    takes_modems = (_, refl, refl);
-  };
+  takes_codings = (_, refl, refl);
   takes_orders = (_, refl, refl);
-  takes_ends = (_, refl, refl);
   commands = refl;
 }

@@ -1,5 +1,4 @@
-use Rattle.std.proofs.Common.{refl, subst}
-use Rattle.stations.specs.CallerFields.{Represents}
+use Rattle.std.proofs.Common.{refl}
 use Rattle.terminals.specs.Hearing.{plain_input}
 use Rattle.terminals.proofs.CutOff.{caller_stepped}
 use Rattle.stations.specs.Inputs.{caller_input}

@@ -1,0 +1,141 @@
+//! The words of the commands for many files: `decode --each`, and `identify` of several files.
+ghost use Rattle.std.specs.Prelude.{◌≡◌, ◌++◌, ◌||◌, IfOk, MatchResult, OnOk, Some, codes, is_some, map, option_map, string_bytes, true};
+ghost use Rattle.clap.specs.Words.{all_of, first_of, found_of, rows_of};
+ghost use Rattle.faxtool.specs.Jobs.{HasNoCommand, IsCommandOf, IsFormIn, has_half_form, has_more, has_one, is_named, texts_of};
+
+use crate::args::unfit::Unfit;
+use crate::args::words::{coding_in, decode_options, is_named, order_in, text_in, width_in};
+use crate::commands::Command;
+use crate::commands::decode::each::EachCommand;
+use crate::commands::identify::several::SeveralCommand;
+use clap::ArgMatches;
+use page_files::PageForm;
+use std::alloc::{AllocError, Global};
+
+// The values of an argument.
+fn texts_in<'b, 'a>(matches: &'b ArgMatches<'a>, id: &str) -> Option<&'b [&'a str]>
+    ensures { option_map (λ texts. map (λ text. text.now) texts.now) result ≡ all_of id.now (rows_of (found_of matches.now)) }
+{
+    matches.get_strs(id)
+}
+
+/// Returns whether an argument has more than one value.
+pub(crate) fn has_more(matches: &ArgMatches<'_>, id: &str) -> bool
+    ensures { result ≡ has_more id.now (rows_of (found_of matches.now)) }
+{
+    match texts_in(matches, id) {
+        Some(texts) => texts.len() > 1,
+        None => false,
+    }
+}
+
+/// Appends copies of texts to names.
+fn add_texts(alloc: Global, texts: &[&str], names: &mut Vec<String>) -> Result<(), AllocError>
+    ensures { OnOk result (map string_bytes names.new.items ≡ map string_bytes names.old.items ++ map (λ text. text.now) texts.now) }
+{
+    for text in texts {
+        let name = String::from_str(alloc, text)?;
+        if names.push(name).is_err() {
+            return Err(AllocError);
+        }
+    }
+    Ok(())
+}
+
+/// Appends the values of an argument to names.
+fn add_names(
+    alloc: Global,
+    matches: &ArgMatches<'_>,
+    id: &str,
+    names: &mut Vec<String>,
+) -> Result<(), AllocError>
+    ensures { OnOk result (map string_bytes names.new.items
+        ≡ map string_bytes names.old.items ++ texts_of id.now (rows_of (found_of matches.now))) }
+{
+    match texts_in(matches, id) {
+        Some(texts) => add_texts(alloc, texts, names),
+        None => Ok(()),
+    }
+}
+
+// Whether an option for one page was given.
+fn has_one(matches: &ArgMatches<'_>) -> bool
+    ensures { result ≡ has_one (rows_of (found_of matches.now)) }
+{
+    text_in(matches, "page").is_some() || is_named(text_in(matches, "verbose"), "true")
+}
+
+// Whether one of the code and the width was given, and not the other.
+fn has_half_form(matches: &ArgMatches<'_>) -> bool
+    ensures { result ≡ has_half_form (rows_of (found_of matches.now)) }
+{
+    if text_in(matches, "code").is_some() {
+        text_in(matches, "width").is_none()
+    } else {
+        text_in(matches, "width").is_some()
+    }
+}
+
+// How all pages are read, if that is given.
+fn form_in(matches: &ArgMatches<'_>) -> Option<PageForm>
+    ensures { IsFormIn (rows_of (found_of matches.now)) result }
+{
+    let coding = coding_in(matches)?;
+    let width = width_in(matches)?;
+    Some(PageForm {
+        coding,
+        order: order_in(matches),
+        width,
+        fine: is_named(text_in(matches, "fine"), "true"),
+    })
+}
+
+/// Returns the command that decodes every page of many files, if its options go together.
+pub(crate) fn each_command(
+    alloc: Global,
+    matches: &ArgMatches<'_>,
+) -> Result<Result<Command, Unfit>, AllocError>
+    requires { is_some (first_of (codes "each") (rows_of (found_of matches.now))) ≡ true }
+    ensures { let met = Some (codes "decode", rows_of (found_of matches.now)) in
+        IfOk result (λ command. MatchResult command (IsCommandOf met) (λ unfit. HasNoCommand met)) }
+{
+    let Some(folder) = text_in(matches, "each") else {
+        return Ok(Err(Unfit::Missing));
+    };
+    let options = decode_options(matches);
+    if options.salvage && options.repair {
+        return Ok(Err(Unfit::RepairAndSalvage));
+    }
+    if has_one(matches) {
+        return Ok(Err(Unfit::EachAndOne));
+    }
+    if has_half_form(matches) {
+        return Ok(Err(Unfit::HalfForm));
+    }
+    let mut files = Vec::new(alloc);
+    add_names(alloc, matches, "file", &mut files)?;
+    add_names(alloc, matches, "out", &mut files)?;
+    Ok(Ok(Command::Each(EachCommand {
+        form: form_in(matches),
+        options,
+        folder: String::from_str(alloc, folder)?,
+        files,
+    })))
+}
+
+/// Returns the command that prints what each of several files is.
+pub(crate) fn several_command(
+    alloc: Global,
+    matches: &ArgMatches<'_>,
+) -> Result<Command, AllocError>
+    requires { let rows = rows_of (found_of matches.now) in
+        (is_named (codes "true") (first_of (codes "json") rows) || has_more (codes "file") rows) ≡ true }
+    ensures { IfOk result (IsCommandOf (Some (codes "identify", rows_of (found_of matches.now)))) }
+{
+    let mut files = Vec::new(alloc);
+    add_names(alloc, matches, "file", &mut files)?;
+    Ok(Command::Several(SeveralCommand {
+        records: is_named(text_in(matches, "json"), "true"),
+        files,
+    }))
+}

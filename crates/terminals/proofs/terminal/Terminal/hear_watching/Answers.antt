@@ -1,0 +1,28 @@
+use Rattle.terminals.proofs.Fed.{hears_all, hears_some, sees}
+use Rattle.terminals.proofs.terminal.Terminal.hear_watching.Goals as goal
+
+pub returns-then-hear_waiting-clause-hears : goal.returns-then-hear_waiting-clause-hears
+returns-then-hear_waiting-clause-hears g c =
+    rw (← c.self.view_is)
+    (hears_all g.S.Station.steps c.args.octets.now c.self.inside.deframer c.feed.new.self c.hear_waiting.new.deframer
+    c.self.inside.speaker c.hear_waiting.new.speaker c.in_default.ensures.ok c.hear_waiting.ensures.taken
+    (c.hear_waiting.ensures.all c.if-hear_waiting.true))
+
+pub returns-clause-hears : goal.returns-clause-hears
+returns-clause-hears g c =
+    rw (← c.self.view_is)
+    (hears_some g.S.Station.steps c.args.octets.now c.self.inside.deframer c.feed.new.self c.hear_waiting.new.deframer
+    c.self.inside.speaker c.hear_waiting.new.speaker c.in_default.ensures.ok c.hear_waiting.ensures.taken
+    c.hear_waiting.ensures.some)
+
+pub returns-then-hear_waiting-clause-sees : goal.returns-then-hear_waiting-clause-sees
+returns-then-hear_waiting-clause-sees g c =
+    rw (← c.self.view_is)
+    (sees c.args.octets.now c.self.inside.deframer c.feed.new.self c.args.watched.now c.hear_waiting.new.watched
+    c.in_default.ensures.ok c.hear_waiting.ensures.seen)
+
+pub returns-clause-sees : goal.returns-clause-sees
+returns-clause-sees g c =
+    rw (← c.self.view_is)
+    (sees c.args.octets.now c.self.inside.deframer c.feed.new.self c.args.watched.now c.hear_waiting.new.watched
+    c.in_default.ensures.ok c.hear_waiting.ensures.seen)
