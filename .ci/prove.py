@@ -5,9 +5,9 @@
 
 `rt ci` over the whole repository gives each proof one processor while others are ready, and edits the rest, so the longest chain of
 crates takes as long as one processor needs for it. Here three runs of `rt ci` go side by side: one has the longest chain, crate by crate,
-one the crates beside it, and one, at a low priority, the edits and tests of what is proved. Each is over a copy with the crates that are
-wanted, and keeps what passes: the gate's own `rt ci`, over the whole checkout, takes it from there. Prints the minutes and processor
-minutes of each. Ends with status 1, and with what `rt ci` said, if something fails."""
+one the crates beside it, and one, at a low priority, the edits and tests of what is proved, in which the others help once they are done.
+Each is over a copy with the crates that are wanted, and keeps what passes: the gate's own `rt ci`, over the whole checkout, takes it from
+there. Prints the minutes and processor minutes of each. Ends with status 1, and with what `rt ci` said, if something fails."""
 import os
 import re
 import shutil
@@ -69,7 +69,7 @@ class Run:
     """The crates, which of them are proved, and which failed."""
 
     def __init__(self, crates):
-        self.crates, self.proved, self.failed = crates, set(), []
+        self.crates, self.proved, self.failed, self.to_try = crates, set(), [], []
         self.of_proof = {name for name in crates if not OF_TESTS.fullmatch(name)}
         self.changed = threading.Condition()
 
@@ -108,10 +108,16 @@ class Run:
         for name in names:
             if self.wait_for(set()):
                 self.ended(name, self.prove(name))
+        self.try_all()
 
-    def try_all(self, names):
+    def next_try(self):
+        """The next crate whose edits and tests are to be tried, which is left no more; None if there is none."""
+        with self.changed:
+            return self.to_try.pop(0) if self.to_try else None
+
+    def try_all(self):
         """Tries the edits and the tests of crates once they are proved, with what the proofs leave of the processors."""
-        for name in names:
+        while name := self.next_try():
             if not self.wait_for(below(self.crates, name) & self.of_proof):
                 return
             if not self.prove(name, True, 10):
@@ -126,10 +132,11 @@ def main():
     beside = [name for name in crates if name in run.of_proof and name not in chain]
     print(f"prove: the longest chain is {' '.join(chain)}", flush=True)
     with_edits = [name for name in crates if any((TOP / "crates" / name / "must-fail").glob("*.edit"))]
+    run.to_try = with_edits + of_tests
     lanes = [
         threading.Thread(target=run.prove_all, args=(chain,)),
         threading.Thread(target=run.prove_all, args=(beside,)),
-        threading.Thread(target=run.try_all, args=(with_edits + of_tests,)),
+        threading.Thread(target=run.try_all),
     ]
     for lane in lanes:
         lane.start()
