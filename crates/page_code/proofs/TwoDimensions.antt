@@ -19,6 +19,7 @@ pub mod QuickModes
 pub mod BothLines
 pub mod ModeTable
 pub mod RowsOn
+pub mod WhiteRows
 pub mod PageEnds
 pub mod ReadsItsCode
 pub mod ZeroBits

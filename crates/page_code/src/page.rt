@@ -1,5 +1,6 @@
 //! Pages where only memory can be refused.
 
+ghost use Rattle.page_code.specs.TwoDimensions.Positions.{white_line};
 ghost use Rattle.raster.specs.Octets.{AreOctets};
 ghost use Rattle.raster.specs.Pages.{max_rows};
 ghost use Rattle.raster.specs.Pixels.{IsWidth};
@@ -45,4 +46,15 @@ pub(crate) fn push_row(page: &mut Page, row: Row) -> Result<(), AllocError>
         Err(RasterFault::NoMemory) => Err(AllocError),
         Err(_) => unreachable!(),
     }
+}
+
+/// Appends a white row, if there is room for it. Errs only if memory is refused.
+#[inline(always)]
+pub(crate) fn push_white(alloc: Global, page: &mut Page) -> Result<(), AllocError>
+    requires width { IsWidth page.old.width }
+    requires room { length page.old.rows < max_rows }
+    ensures { OnOk result (page.new ≡ record page.old { rows = page.old.rows ++ white_line page.old.width ∷ [] }) }
+{
+    let white = Row::from_changes(alloc, &[], page.width())?;
+    push_row(page, white)
 }

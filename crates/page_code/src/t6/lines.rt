@@ -3,7 +3,7 @@
 ghost use Rattle.page_code.specs.TwoDimensions.Fronts.{PageSoFar, after_mode};
 ghost use Rattle.page_code.specs.TwoDimensions.Lines.{BothLines};
 ghost use Rattle.page_code.specs.TwoDimensions.Modes.{runs_added};
-ghost use Rattle.page_code.specs.TwoDimensions.Positions.{a0_of, line_begin};
+ghost use Rattle.page_code.specs.TwoDimensions.Positions.{a0_of, line_begin, white_line};
 ghost use Rattle.page_code.specs.TwoDimensions.Reading.{LeadsOn, StepsAlong};
 ghost use Rattle.raster.specs.Pixels.{IsWidth, max_width};
 ghost use Rattle.run_tables.specs.Reading.{rest_of};
@@ -94,6 +94,14 @@ impl Lines {
         ensures range { IsWidth result }
     {
         self.width
+    }
+
+    /// Whether the reference line is white.
+    #[inline(always)]
+    pub(crate) fn follow_white(&self) -> bool
+        ensures { OnTrue result (self.now.reference ≡ white_line (length self.now.reference)) }
+    {
+        self.known == 3
     }
 
     /// a0, which is after the coding line's pixels so far.

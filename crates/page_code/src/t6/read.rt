@@ -1,6 +1,6 @@
 //! Reading of a page in the two-dimensional code (ITU-T T.6, 2.2).
 
-ghost use Rattle.page_code.specs.RowsSoFar.{IsReadTo, ReadsOn};
+ghost use Rattle.page_code.specs.RowsSoFar.{IsFurther, IsReadTo, ReadsOn};
 ghost use Rattle.page_code.specs.TwoDimensions.Fronts.{mode_word, mode_codes};
 ghost use Rattle.page_code.specs.TwoDimensions.Changes.{AreHeld};
 ghost use Rattle.page_code.specs.TwoDimensions.Lines.{FitsLists, StepsBy, line_of};
@@ -15,11 +15,11 @@ ghost use Rattle.raster.specs.declared.row.Color.{Color};
 ghost use Rattle.run_tables.specs.Reading.{rest_of};
 ghost use Rattle.run_tables.specs.Texts.{all_zero, begins, is_cut};
 ghost use Rattle.std.specs.Bool.{OnFalse, OnTrue};
-ghost use Rattle.std.specs.Prelude.{◌≡◌, ◌≤◌, ◌<◌, ◌+◌, [], List, IfNone, IfOk, IfSome, OnErr, false, length, true};
+ghost use Rattle.std.specs.Prelude.{◌≡◌, ◌≤◌, ◌<◌, ◌+◌, [], List, IfNone, IfOk, IfSome, OnErr, OnOk, false, length, true};
 
 pub(crate) mod one_row;
 
-use crate::page::{Progress, push_row};
+use crate::page::{Progress, push_row, push_white};
 use crate::t6::front::{Front, left_of_b1, right_of_b1, to_a1, under_b1, under_b2};
 use crate::t6::lines::Lines;
 use crate::t6::mode::{EOFB, EOFB_NUMBER, ModeCode, Shift};
@@ -64,15 +64,17 @@ fn is_at_eofb(reader: &BitReader) -> bool
 fn only_zeros(reader: &BitReader) -> bool
     ensures { result ≡ all_zero (rest_of reader.now) }
 {
-    let first = reader.peek_57() >> 7;
-    if first != 0 {
-        return false;
-    }
     let mut ahead = reader.look_ahead();
-    while let Some(bit) = ahead.bit() {
-        if bit {
+    while ahead.has_57() {
+        let next = ahead.peek_57() >> 7;
+        if next != 0 {
             return false;
         }
+        ahead.skip(57);
+    }
+    let last = ahead.peek_57() >> 7;
+    if last != 0 {
+        return false;
     }
     true
 }
@@ -373,6 +375,42 @@ fn lines_after(alloc: Global, page: &Page) -> Result<Lines, AllocError>
     Lines::after(alloc, &rows[rows.len() - 1])
 }
 
+/// Reads on past rows that V0 alone writes, a 1 bit each: white rows after a white one, as many as the next 57
+/// bits begin with.
+#[inline(always)]
+fn white_rows(
+    alloc: Global,
+    lines: &Lines,
+    reader: &mut BitReader,
+    to: &mut Progress,
+) -> Result<(), AllocError>
+    requires width { IsWidth to.old.page.width }
+    requires place { reader.old.place ≡ to.old.place }
+    requires reference { lines.now.reference ≡ reference_at (white_line to.old.page.width) to.old.page.rows (length to.old.page.rows) }
+    requires read { IsReadTo Coding.T6 to.old.page.width reader.old.bits to.old.page.rows to.old.place }
+    ensures further { OnOk result (IsFurther Coding.T6 reader.old.bits to.old to.new) }
+    ensures reader { OnOk result (reader.new ≡ record reader.old { place = to.new.place }) }
+    ensures reference { OnOk result (lines.now.reference ≡ reference_at (white_line to.new.page.width) to.new.page.rows (length to.new.page.rows)) }
+    ensures more { OnOk result (length to.old.page.rows ≤ length to.new.page.rows) }
+{
+    let white = lines.follow_white();
+    let enough = reader.has_57();
+    if !white || !enough {
+        return Ok(());
+    }
+    let room = MAX_ROWS - to.page.rows().len();
+    let mut word = reader.peek_57();
+    let mut used: usize = 0;
+    while word >> 63 == 1 && used < 57 && used < room {
+        push_white(alloc, &mut to.page)?;
+        word = word << 1;
+        used += 1;
+    }
+    reader.skip(used);
+    to.place = reader.place();
+    Ok(())
+}
+
 /// Reads on in the order of the octets, as `read_on`.
 fn read_in_order(
     alloc: Global,
@@ -387,6 +425,7 @@ fn read_in_order(
     let mut lines = lines_after(alloc, &to.page)?;
     let mut reader = BitReader::at(octets, order, to.place);
     loop {
+        white_rows(alloc, &lines, &mut reader, to)?;
         match start_at(&reader, to.page.rows().len()) {
             Start::Row => {}
             Start::End => return Ok(to.place + EOFB.len() as u128),

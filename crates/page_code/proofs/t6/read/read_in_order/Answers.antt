@@ -8,6 +8,7 @@ use Rattle.page_code.specs.RowsSoFar.{IsReadTo}
 use Rattle.page_code.specs.TwoDimensions.Positions.{white_line}
 use Rattle.page_code.proofs.TwoDimensions.RowsOn.{ends_on, read_within, refuses_on, row_read, row_refused}
 use Rattle.page_code.proofs.TwoDimensions.StepsOn.{last_added}
+use Rattle.page_code.proofs.TwoDimensions.WhiteRows.{further_on}
 use Rattle.page_code.proofs.t6.read.read_in_order.Goals as goal
 
 -- a reader of these bits, at this place
@@ -23,51 +24,71 @@ at-reader-requires c = read_within c.args.to.now.page.width c.args.order c.args.
 
 pub overflow_add-result : goal.overflow_add-result
 overflow_add-result c =
-    let within : c.loop-lines.to.place ≤ 8 * length c.args.octets.now = read_within c.loop-lines.to.page.width c.args.order
-    c.args.octets.now c.loop-lines.to.page.rows c.loop-lines.to.place c.loop-lines.invariant.read in
+    let on = further_on (bits_of c.args.order c.args.octets.now) c.args.to.now c.loop-lines.to c.white_rows.new.to c.loop-lines.reader
+    c.white_rows.new.reader c.loop-lines.invariant.width c.loop-lines.invariant.fine c.loop-lines.invariant.reader
+    c.in_ok-white_rows.ensures.further c.in_ok-white_rows.ensures.reader in
+    let within : c.white_rows.new.to.place ≤ 8 * length c.args.octets.now = read_within c.white_rows.new.to.page.width c.args.order
+    c.args.octets.now c.white_rows.new.to.page.rows c.white_rows.new.to.place on.0.read in
     search rules
 
 pub returns-in-End : goal.returns-in-End
-returns-in-End c = ends_on (bits_of c.args.order c.args.octets.now) c.args.to.now c.loop-lines.to c.loop-lines.invariant.width
-    c.loop-lines.invariant.fine c.loop-lines.invariant.read c.rows.ensures.page c.loop-lines.reader c.loop-lines.invariant.reader
-    (c.loop-lines.to.place + 24) (rw c.rows.ensures.rows at c.in-End.ensures) refl
+returns-in-End c =
+    let on = further_on (bits_of c.args.order c.args.octets.now) c.args.to.now c.loop-lines.to c.white_rows.new.to c.loop-lines.reader
+    c.white_rows.new.reader c.loop-lines.invariant.width c.loop-lines.invariant.fine c.loop-lines.invariant.reader
+    c.in_ok-white_rows.ensures.further c.in_ok-white_rows.ensures.reader in
+    ends_on (bits_of c.args.order c.args.octets.now) c.args.to.now c.white_rows.new.to on.0.width
+    on.0.fine on.0.read c.rows.ensures.page c.white_rows.new.reader on.1
+    (c.white_rows.new.to.place + 24) (rw c.rows.ensures.rows at c.in-End.ensures) refl
 
 pub returns-in-Refused : goal.returns-in-Refused
-returns-in-Refused c = rw c.new.ensures (refuses_on (bits_of c.args.order c.args.octets.now) c.args.to.now c.loop-lines.to
-    c.loop-lines.invariant.width c.loop-lines.invariant.fine c.loop-lines.invariant.read c.rows.ensures.page c.loop-lines.reader
-    c.loop-lines.invariant.reader c.in-Refused.kind (rw c.rows.ensures.rows at c.in-Refused.ensures))
+returns-in-Refused c =
+    let on = further_on (bits_of c.args.order c.args.octets.now) c.args.to.now c.loop-lines.to c.white_rows.new.to c.loop-lines.reader
+    c.white_rows.new.reader c.loop-lines.invariant.width c.loop-lines.invariant.fine c.loop-lines.invariant.reader
+    c.in_ok-white_rows.ensures.further c.in_ok-white_rows.ensures.reader in
+    rw c.new.ensures (refuses_on (bits_of c.args.order c.args.octets.now) c.args.to.now c.white_rows.new.to
+    on.0.width on.0.fine on.0.read c.rows.ensures.page c.white_rows.new.reader
+    on.1 c.in-Refused.kind (rw c.rows.ensures.rows at c.in-Refused.ensures))
 
 pub returns-in_err-row : goal.returns-in_err-row
 returns-in_err-row c =
+    let on = further_on (bits_of c.args.order c.args.octets.now) c.args.to.now c.loop-lines.to c.white_rows.new.to c.loop-lines.reader
+    c.white_rows.new.reader c.loop-lines.invariant.width c.loop-lines.invariant.fine c.loop-lines.invariant.reader
+    c.in_ok-white_rows.ensures.further c.in_ok-white_rows.ensures.reader in
     let p = err_from_is_err_and c.from_residual-in_err-row.result c.from_residual-in_err-row.ensures.1 in
-    rw (p.1, p.2) (row_refused (bits_of c.args.order c.args.octets.now) c.args.to.now c.loop-lines.to c.loop-lines.invariant.width
-    c.loop-lines.invariant.fine c.loop-lines.invariant.read c.rows.ensures.page c.loop-lines.reader c.loop-lines.invariant.reader
-    (white_line c.loop-lines.to.page.width) refl (rw c.rows.ensures.rows at c.in-Row.ensures) c.read_row.new.reader c.in_err-row.field-0.0
-    (rw c.loop-lines.invariant.reference at c.in_err-row.ensures.reads))
+    rw (p.1, p.2) (row_refused (bits_of c.args.order c.args.octets.now) c.args.to.now c.white_rows.new.to on.0.width
+    on.0.fine on.0.read c.rows.ensures.page c.white_rows.new.reader on.1
+    (white_line c.white_rows.new.to.page.width) refl (rw c.rows.ensures.rows at c.in-Row.ensures) c.read_row.new.reader c.in_err-row.field-0.0
+    (rw c.in_ok-white_rows.ensures.reference at c.in_err-row.ensures.reads))
 
 pub push_row-requires-clause-wide : goal.push_row-requires-clause-wide
 push_row-requires-clause-wide c =
-    (row_read (bits_of c.args.order c.args.octets.now) c.args.to.now c.loop-lines.to c.loop-lines.invariant.width
-    c.loop-lines.invariant.fine c.loop-lines.invariant.read c.rows.ensures.page c.loop-lines.reader c.loop-lines.invariant.reader
-    (white_line c.loop-lines.to.page.width) refl (rw c.rows.ensures.rows at c.in-Row.ensures) c.read_row.new.reader c.in_ok-row.row
-    (rw c.loop-lines.invariant.reference at c.in_ok-row.ensures.reads)).0
+    let on = further_on (bits_of c.args.order c.args.octets.now) c.args.to.now c.loop-lines.to c.white_rows.new.to c.loop-lines.reader
+    c.white_rows.new.reader c.loop-lines.invariant.width c.loop-lines.invariant.fine c.loop-lines.invariant.reader
+    c.in_ok-white_rows.ensures.further c.in_ok-white_rows.ensures.reader in
+    (row_read (bits_of c.args.order c.args.octets.now) c.args.to.now c.white_rows.new.to on.0.width
+    on.0.fine on.0.read c.rows.ensures.page c.white_rows.new.reader on.1
+    (white_line c.white_rows.new.to.page.width) refl (rw c.rows.ensures.rows at c.in-Row.ensures) c.read_row.new.reader c.in_ok-row.row
+    (rw c.in_ok-white_rows.ensures.reference at c.in_ok-row.ensures.reads)).0
 
 pub loop-lines-preserved : goal.loop-lines-preserved
 loop-lines-preserved c =
+    let on = further_on (bits_of c.args.order c.args.octets.now) c.args.to.now c.loop-lines.to c.white_rows.new.to c.loop-lines.reader
+    c.white_rows.new.reader c.loop-lines.invariant.width c.loop-lines.invariant.fine c.loop-lines.invariant.reader
+    c.in_ok-white_rows.ensures.further c.in_ok-white_rows.ensures.reader in
     let pushed = c.in_ok-push_row.ensures in
     let bits = bits_of c.args.order c.args.octets.now in
-    let more = (row_read bits c.args.to.now c.loop-lines.to c.loop-lines.invariant.width
-    c.loop-lines.invariant.fine c.loop-lines.invariant.read c.rows.ensures.page c.loop-lines.reader c.loop-lines.invariant.reader
-    (white_line c.loop-lines.to.page.width) refl (rw c.rows.ensures.rows at c.in-Row.ensures) c.read_row.new.reader c.in_ok-row.row
-    (rw c.loop-lines.invariant.reference at c.in_ok-row.ensures.reads)).1 in
+    let more = (row_read bits c.args.to.now c.white_rows.new.to on.0.width
+    on.0.fine on.0.read c.rows.ensures.page c.white_rows.new.reader on.1
+    (white_line c.white_rows.new.to.page.width) refl (rw c.rows.ensures.rows at c.in-Row.ensures) c.read_row.new.reader c.in_ok-row.row
+    (rw c.in_ok-white_rows.ensures.reference at c.in_ok-row.ensures.reads)).1 in
     record {
-      width = ap (λ (p : PagePixels). p.width) pushed ∙ c.loop-lines.invariant.width;
-      fine = ap (λ (p : PagePixels). p.fine) pushed ∙ c.loop-lines.invariant.fine;
+      width = ap (λ (p : PagePixels). p.width) pushed ∙ on.0.width;
+      fine = ap (λ (p : PagePixels). p.fine) pushed ∙ on.0.fine;
       read = rw c.place-to.ensures.place (subst (λ (p : PagePixels). IsReadTo T6 p.width bits p.rows c.read_row.new.reader.place) (sym
           pushed) more);
       reader = same_reading c.read_row.new.reader _ _ (c.in_ok-row.ensures.reads.1 ∙ ap (λ (r : Reading). r.bits)
-          c.loop-lines.invariant.reader)
+          on.1)
           (sym c.place-to.ensures.place);
-      reference = c.in_ok-row.ensures.next ∙ rw pushed (sym (last_added (white_line c.loop-lines.to.page.width) c.in_ok-row.row
-          c.loop-lines.to.page.rows));
+      reference = c.in_ok-row.ensures.next ∙ rw pushed (sym (last_added (white_line c.white_rows.new.to.page.width) c.in_ok-row.row
+          c.white_rows.new.to.page.rows));
     }
