@@ -20,6 +20,7 @@ pub mod BothLines
 pub mod ModeTable
 pub mod RowsOn
 pub mod WhiteRows
+pub mod Stuck
 pub mod PageEnds
 pub mod ReadsItsCode
 pub mod ZeroBits

@@ -8,6 +8,7 @@ ghost use Rattle.page_code.specs.TurnedCodes.{AreTurned, IsTurnedCode};
 ghost use Rattle.raster.specs.Packed.{bits_of};
 ghost use Rattle.raster.specs.Pixels.{IsWidth};
 ghost use Rattle.run_tables.specs.declared.fault.CodeFaultKind.TheVariants.{NoMemory};
+ghost use Rattle.std.specs.Bool.{OnTrue};
 ghost use Rattle.std.specs.Prelude.{◌≡◌, ◌≢◌, [], List, ℕ, IfErr, IfOk, OnErr, OnOk, length};
 
 use crate::page::Progress;
@@ -90,6 +91,18 @@ impl Model for PageReader {
     ghost invariant = { λ reader. IsWidth reader.progress.page.width };
 }
 
+/// Whether the next bits show that no more rows can be read, whatever comes after them.
+#[inline(always)]
+fn is_stuck(coding: Coding, octets: &[u8], order: Order, to: &Progress) -> bool
+    requires { IsReadTo coding to.now.page.width (bits_of order octets.now) to.now.page.rows to.now.place }
+    ensures { OnTrue result (AreRowsSoFar coding to.now.page.width (bits_of order octets.now) (length to.now.page.rows)) }
+{
+    match coding {
+        Coding::OneDim => false,
+        Coding::T6 => t6::read::is_stuck(octets, order, to),
+    }
+}
+
 /// Reads on, up to the page's end or a refusal. Errs only if memory is refused.
 pub(crate) fn read_further(
     alloc: Global,
@@ -103,6 +116,10 @@ pub(crate) fn read_further(
     ensures { OnOk result (IsFurther coding (bits_of order octets.now) to.old to.new
         × AreRowsSoFar coding to.new.page.width (bits_of order octets.now) (length to.new.page.rows)) }
 {
+    let stuck = is_stuck(coding, octets, order, to);
+    if stuck {
+        return Ok(());
+    }
     match read_rows_on(alloc, coding, octets, order, to) {
         Ok(_) => Ok(()),
         Err(fault) => {

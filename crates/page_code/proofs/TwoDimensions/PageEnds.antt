@@ -1,22 +1,20 @@
 -- Where the rows of a page end, and whether another one may be there.
-use Rattle.std.proofs.Common.{ℕ, zero, suc, ◌≡◌, ◌+◌, ◌-◌, ◌<◌, ◌≤◌, Bool, true, false, List, [], ◌∷◌, ◌++◌, length, drop, replicate, Some, None}
+use Rattle.std.proofs.Common.{ℕ, suc, ◌≡◌, ◌-◌, ◌<◌, ◌≤◌, Bool, false, List, [], ◌∷◌, ◌++◌, length, replicate, Some, None}
 use Rattle.std.proofs.Common.{inl, inr, refl, ap, sym, ◌∙◌, subst, arith, append_assoc}
-use Rattle.std.specs.Prelude.{codes, slice_index_or}
-use Rattle.std.proofs.lemmas.Bool.{false≢true}
+use Rattle.std.specs.Prelude.{codes}
 use Rattle.raster.specs.declared.row.Color.{Color}
 use Rattle.raster.specs.declared.row.Color.TheVariants.{White}
 use Rattle.run_tables.specs.Codes.{text}
 use Rattle.page_code.specs.OneDimension.Fronts.{zeros_before}
-use Rattle.page_code.specs.OneDimension.Pages.{AreZeros, eol_word}
-use Rattle.page_code.specs.TwoDimensions.Modes.{Mode, SpellsLine, SpellsRow, eofb, mode_words}
+use Rattle.page_code.specs.OneDimension.Pages.{eol_word}
+use Rattle.page_code.specs.TwoDimensions.Modes.{Mode, SpellsLine, SpellsRow, mode_words}
 use Rattle.page_code.specs.TwoDimensions.Modes.Mode.{pass, vertical, horizontal}
 use Rattle.raster.specs.declared.coding.Coding.TheVariants.{T6}
 use Rattle.page_code.specs.declared.page.Progress.{Progress}
 use Rattle.page_code.specs.RowsSoFar.{IsFurther, IsReadTo, between_rows}
 use Rattle.page_code.specs.TwoDimensions.Fronts.{PageStep, page_begin, page_item_word}
 use Rattle.page_code.specs.TwoDimensions.PageEnds.{HoldsRowsTo, NoRowBegins, PageEndsMean}
-use Rattle.page_code.specs.TwoDimensions.Positions.{CodingLine, line_begin}
-use Rattle.page_code.specs.declared.t6.mode.Shift.{Shift}
+use Rattle.page_code.specs.TwoDimensions.Positions.{line_begin}
 use Rattle.page_code.specs.declared.t6.mode.Shift.TheVariants.{V0, VR1, VR2, VR3, VL1, VL2, VL3}
 use Rattle.page_code.proofs.FrontEnds.{leads_within}
 use Rattle.page_code.proofs.TwoDimensions.RowsOn.{spelled_to}

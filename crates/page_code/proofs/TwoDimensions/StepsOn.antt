@@ -1,11 +1,10 @@
 -- Reading a T.6 page by its parts: mode codes, runs, modes and rows.
-use Rattle.std.proofs.Common.{ℕ, suc, ◌≡◌, ◌+◌, ◌-◌, ◌<◌, ◌≤◌, ◌⊎◌, inl, inr, Bool, true, false, ◌&&◌, not, List, [], ◌∷◌, ◌++◌, length}
-use Rattle.std.proofs.Common.{drop, replicate, Some, None, refl, ap, subst, sym, ◌∙◌, arith, cond, length-append, drop-cons, add-one}
-use Rattle.std.specs.Prelude.{Option, Contains, Result, Ok, Err, slice_get, slice_index_or}
+use Rattle.std.proofs.Common.{ℕ, ◌≡◌, ◌+◌, ◌-◌, ◌<◌, ◌≤◌, ◌⊎◌, inl, inr, Bool, true, false, List, [], ◌∷◌, ◌++◌, length}
+use Rattle.std.proofs.Common.{drop, replicate, Some, None, refl, ap, subst, sym, ◌∙◌, arith, cond, length-append}
+use Rattle.std.specs.Prelude.{Option, Contains, Result, Ok, Err, slice_index_or}
 use Rattle.std.specs.Option.{option_map}
 use Rattle.std.proofs.lemmas.Bool.{lt-ltb, le-ltb, ne_eqb, cases_eq}
 use Rattle.std.proofs.lemmas.List.{drop-drop, length-drop, length-replicate, append-nil}
-use Rattle.std.proofs.lemmas.Option.{slice_get_cases}
 use Rattle.raster.specs.declared.row.Color.{Color}
 use Rattle.raster.specs.Pixels.{other}
 use Rattle.raster.specs.Changes.{IsNextChange}
@@ -16,7 +15,7 @@ use Rattle.run_tables.specs.declared.reader.Among.TheVariants.{AllCodes, Termina
 use Rattle.run_tables.specs.Codes.{code_word}
 use Rattle.run_tables.specs.CodeReading.{first_runs, PicksCode, BeginsRun, RefusesCodeWithin, ReadsRunWithin}
 use Rattle.run_tables.specs.Reading.{Reading, rest_of}
-use Rattle.run_tables.specs.Texts.{begins, all_zero, pick, is_cut}
+use Rattle.run_tables.specs.Texts.{begins, pick, is_cut}
 use Rattle.run_tables.specs.Fronts.Look.{refuse}
 use Rattle.run_tables.specs.RowFronts.{codes_after, allowed, amount, judged}
 use Rattle.run_tables.specs.RowFronts.{item_word as run_item_word}
@@ -66,45 +65,6 @@ none_cut x at whole h = rw (
   h 7 (omega arith),
   h 8 (omega arith),
 ) refl
-
--- Only 0 bits
-
-at_bit : (bits : List Bool) (p : ℕ) (bit : Bool) → Some bit ≡ slice_get bits p → (p < length bits) × (drop p bits ≡ bit ∷ drop (p + 1) bits)
-at_bit bits p bit e = elim (slice_get_cases bits p).1 [
-  | inl w ↦
-      let same : w.0 ≡ bit = (let both : Some bit ≡ Some w.0 = e ∙ w.2 in cc) in (
-        w.1,
-        drop-cons bits p w.0 w.1 ∙ (ap (λ (b : Bool). b ∷ drop (suc p) bits) (w.3 ∙ same) ∙
-            ap (λ (n : ℕ). bit ∷ drop n bits) (sym (add-one p))),
-      )
-  | inr w ↦ (let both : Some bit ≡ None = e ∙ w.1 in cc)
-]
-
-pub zero_next : (old new : Reading) (bit : Bool) → Some bit ≡ slice_get old.bits old.place
-    → new ≡ record { bits = old.bits; place = old.place + 1 } → bit ≡ false → all_zero (rest_of new) ≡ all_zero (rest_of old)
-zero_next old new bit e passed zero = ap (λ (r : Reading). all_zero (rest_of r)) passed ∙
-    sym (ap all_zero ((at_bit old.bits old.place bit e).1) ∙ ap (λ (b : Bool). not b && all_zero (drop (old.place + 1) old.bits)) zero)
-
-pub zero_less : (old new : Reading) (bit : Bool) → Some bit ≡ slice_get old.bits old.place
-    → new ≡ record { bits = old.bits; place = old.place + 1 } → length new.bits - new.place < length old.bits - old.place
-zero_less old new bit e passed = subst (λ (r : Reading). length r.bits - r.place < length old.bits - old.place) (sym passed) (omega (
-  arith,
-  (at_bit old.bits old.place bit e).0,
-))
-
-pub one_next : (old : Reading) (bit : Bool) → Some bit ≡ slice_get old.bits old.place → bit ≡ true → all_zero (rest_of old) ≡ false
-one_next old bit e one = ap all_zero ((at_bit old.bits old.place bit e).1) ∙
-    ap (λ (b : Bool). not b && all_zero (drop (old.place + 1) old.bits)) one
-
-pub none_next : (old : Reading) → None ≡ slice_get old.bits old.place → all_zero (rest_of old) ≡ true
-none_next old e = elim (slice_get_cases old.bits old.place).1 [
-  | inl w ↦ (let both : None ≡ Some w.0 = e ∙ w.2 in cc)
-  | inr w ↦ empty (rest_of old) (omega (arith, w.0, length-drop old.place old.bits))
-]
-  where
-    empty : (l : List Bool) → length l ≡ 0 → all_zero l ≡ true
-    empty [] h = refl
-    empty (x ∷ l) h = absurd (omega arith)
 
 -- Runs
 

@@ -1,5 +1,5 @@
 -- White rows after a white one, each written by V0 alone.
-use Rattle.std.proofs.Common.{ℕ, zero, suc, ◌≡◌, ◌≢◌, ◌+◌, ◌-◌, ◌*◌, ◌/◌, ◌%◌, ◌^◌, ◌<◌, ◌≤◌, Bool, true, false, List, [], ◌∷◌, ◌++◌, length, drop, nat_eq}
+use Rattle.std.proofs.Common.{ℕ, zero, suc, ◌≡◌, ◌+◌, ◌-◌, ◌*◌, ◌/◌, ◌%◌, ◌^◌, ◌<◌, Bool, true, false, List, [], ◌∷◌, ◌++◌, length, drop, nat_eq}
 use Rattle.std.proofs.Common.{refl, ap, sym, ◌∙◌, subst, arith, replicate}
 use Rattle.std.specs.Prelude.{Ok, slice_index_or}
 use Rattle.std.specs.Int.{bit_at}
@@ -16,8 +16,8 @@ use Rattle.page_code.specs.declared.t6.mode.ModeCode.TheVariants.{Vertical}
 use Rattle.page_code.specs.declared.t6.mode.Shift.TheVariants.{V0}
 use Rattle.page_code.specs.declared.page.Progress.{Progress}
 use Rattle.page_code.specs.RowsSoFar.{IsFurther, IsReadTo, LeadsTo, between_rows}
-use Rattle.page_code.specs.TwoDimensions.Positions.{CodingLine, line_begin, white_line, b1_of, filled_to}
-use Rattle.page_code.specs.TwoDimensions.Fronts.{PageItem, page_item_word, PageSoFar, PageState, PageStep, page_begin, row_added, after_mode}
+use Rattle.page_code.specs.TwoDimensions.Positions.{line_begin, white_line, b1_of}
+use Rattle.page_code.specs.TwoDimensions.Fronts.{page_item_word, PageSoFar, PageStep, page_begin, row_added, after_mode}
 use Rattle.page_code.specs.TwoDimensions.Fronts.PageItem.{mode_item}
 use Rattle.page_code.specs.TwoDimensions.Fronts.PageState.{between}
 use Rattle.page_code.specs.TwoDimensions.Writing.{reference_at}
@@ -84,10 +84,10 @@ white_on width bits rows place room white kept one =
       rows = rows ++ white_line width ∷ [];
       reference = reference_at (white_line width) (rows ++ white_line width ∷ []) (length (rows ++ white_line width ∷ []));
     }) = ap (λ (r : List Color). record { rows = rows ++ white_line width ∷ []; reference = r })
-        (sym (last_added (white_line width) (white_line width) rows)) in
+    (sym (last_added (white_line width) (white_line width) rows)) in
     let leads : after_mode width page line_begin (Vertical V0) ≡ Ok (between (row_added page (white_line width))) =
-        subst (λ (r : List Color). after_mode width (record { rows = rows; reference = r }) line_begin (Vertical V0)
-        ≡ Ok (between (row_added (record { rows = rows; reference = r }) (white_line width)))) (sym white) (white_mode width rows) in
+    subst (λ (r : List Color). after_mode width (record { rows = rows; reference = r }) line_begin (Vertical V0)
+    ≡ Ok (between (row_added (record { rows = rows; reference = r }) (white_line width)))) (sym white) (white_mode width rows) in
     subst (λ (p : PageSoFar). LeadsTo page_item_word (PageStep width) (page_begin width) (between p) bits (place + 1)) end
     (leads_on page_item_word (PageStep width) (page_begin width) (between_rows width rows) bits place kept
     (between (row_added page (white_line width))) (mode_item (Vertical V0) ∷ []) (drop (place + 1) bits) (place + 1)

@@ -72,11 +72,11 @@ zeros_before (suc n) (true ∷ x) zeros = absurd (false≢true (sym (zeros 0 (om
 zeros_before (suc n) (false ∷ x) zeros = zeros_before n x (λ k h. zeros (suc k) (omega (arith, h)))
 
 -- 57 bits that a number has are all 0
-zeros_of : (x : List Bool) (word : ℕ) → AreFirst 57 x word → word / 2 ^ 7 ≡ 0 → (k : ℕ) → k < 57 → slice_index_or x k false ≡ false
+pub zeros_of : (x : List Bool) (word : ℕ) → AreFirst 57 x word → word / 2 ^ 7 ≡ 0 → (k : ℕ) → k < 57 → slice_index_or x k false ≡ false
 zeros_of x word first none k h =
     let there : 63 - k ≡ 7 + (56 - k) = omega (arith, h) in
     let zero_bit : bit_at word (63 - k) ≡ 0 =
-        ap (bit_at word) there ∙ (sym (bit_at_shr word 7 (56 - k)) ∙ (ap (λ (w : ℕ). bit_at w (56 - k)) none ∙ bit_at-zero (56 - k))) in
+    ap (bit_at word) there ∙ (sym (bit_at_shr word 7 (56 - k)) ∙ (ap (λ (w : ℕ). bit_at w (56 - k)) none ∙ bit_at-zero (56 - k))) in
     sym (first k h) ∙ ap (λ (b : ℕ). nat_eq b 1) zero_bit
 
 -- after 57 bits of 0, the bits are all 0 if and only if they were

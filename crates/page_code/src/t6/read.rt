@@ -1,6 +1,6 @@
 //! Reading of a page in the two-dimensional code (ITU-T T.6, 2.2).
 
-ghost use Rattle.page_code.specs.RowsSoFar.{IsFurther, IsReadTo, ReadsOn};
+ghost use Rattle.page_code.specs.RowsSoFar.{AreRowsSoFar, IsFurther, IsReadTo, ReadsOn};
 ghost use Rattle.page_code.specs.TwoDimensions.Fronts.{mode_word, mode_codes};
 ghost use Rattle.page_code.specs.TwoDimensions.Changes.{AreHeld};
 ghost use Rattle.page_code.specs.TwoDimensions.Lines.{FitsLists, StepsBy, line_of};
@@ -93,6 +93,25 @@ fn begins_row(reader: &BitReader) -> bool
     }
     let first = reader.peek_57() >> 53;
     if first == 0 {
+        return false;
+    }
+    true
+}
+
+/// Whether the next 57 bits after the rows read so far are all 0: then no row begins there and no EOFB, whatever
+/// comes after them. So zeros that come in pieces aren't looked through again at each.
+pub(crate) fn is_stuck(octets: &[u8], order: Order, to: &Progress) -> bool
+    requires { IsReadTo Coding.T6 to.now.page.width (bits_of order octets.now) to.now.page.rows to.now.place }
+    ensures { OnTrue result (AreRowsSoFar Coding.T6 to.now.page.width (bits_of order octets.now) (length to.now.page.rows)) }
+{
+    let _rows = to.page.rows(); // shows the proof that there are 20,000 at most
+    let reader = BitReader::at(octets, order, to.place);
+    let enough = reader.has_57();
+    if !enough {
+        return false;
+    }
+    let next = reader.peek_57() >> 7;
+    if next != 0 {
         return false;
     }
     true

@@ -1,7 +1,6 @@
 -- What the check asks of `row_end`.
-use Rattle.std.proofs.Common.{◌+◌, ◌*◌, ◌≡◌, ◌≤◌, Bool, List, ℕ, arith, length, drop, refl, subst}
+use Rattle.std.proofs.Common.{◌≡◌, ◌≤◌, Bool, List, ℕ, arith, length, drop, subst}
 use Rattle.raster.specs.Packed.{bits_of}
-use Rattle.raster.proofs.PackedLemmas.{length-bits_in}
 use Rattle.raster.specs.Words.{number_bits}
 use Rattle.run_tables.specs.Reading.{Reading, rest_of}
 use Rattle.run_tables.specs.Texts.{begins}

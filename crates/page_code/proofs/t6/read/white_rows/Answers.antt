@@ -1,12 +1,8 @@
-use Rattle.std.proofs.Common.{ℕ, ◌≡◌, ◌+◌, ◌++◌, ◌∷◌, [], ◌-◌, ap, arith, refl, subst, sym, ◌∙◌, drop, length}
-use Rattle.std.proofs.lemmas.List.{drop-drop, length_push}
-use Rattle.raster.specs.Pages.{PagePixels}
+use Rattle.std.proofs.Common.{ℕ, ◌≡◌, ◌+◌, ◌++◌, ◌∷◌, [], ap, arith, refl, subst, length}
+use Rattle.std.proofs.lemmas.List.{length_push}
 use Rattle.raster.specs.declared.coding.Coding.TheVariants.{T6}
-use Rattle.run_tables.specs.Reading.{rest_of}
-use Rattle.run_tables.proofs.NumberLemmas.{front_moved}
 use Rattle.page_code.specs.RowsSoFar.{IsReadTo}
 use Rattle.page_code.specs.TwoDimensions.Positions.{white_line}
-use Rattle.page_code.specs.TwoDimensions.Writing.{reference_at}
 use Rattle.page_code.proofs.TwoDimensions.WhiteRows.{one_next, white_last, white_on, word_moved}
 use Rattle.page_code.proofs.t6.read.white_rows.Goals as goal
 
@@ -18,7 +14,7 @@ loop-word-preserved c =
     let reader = c.args.reader.now in
     let one = one_next reader c.loop-word.used c.loop-word.word now.word c.loop-word-test.true c.if-used-lt57.true in
     let more = white_on page.width reader.bits page.rows (reader.place + c.loop-word.used)
-        (omega (arith, now.rows, c.if-used-room.true, c.rows.ensures.page.few, ap length c.rows.ensures.rows)) now.white now.read one in
+    (omega (arith, now.rows, c.if-used-room.true, c.rows.ensures.page.few, ap length c.rows.ensures.rows)) now.white now.read one in
     let there : reader.place + c.loop-word.used + 1 ≡ reader.place + (c.loop-word.used + 1) = omega arith in
     rw pushed (record {
       width = now.width;
