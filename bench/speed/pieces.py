@@ -1,0 +1,66 @@
+#!/usr/bin/env python3
+"""Counts the instructions of reading a row that doesn't end, which comes in pieces: does work grow with the octets alone?
+
+    bench/speed/pieces.py [PIECE]
+
+Pieces have PIECE octets, 256 if no number is given. Of only 0 bits in T.6, runs of no pixels in T.4 and fill in T.4, read by a `PageReader`,
+as a station does, and by a `RowReader`, prints the instructions for each octet of 16, 32 and 64 KiB, counted by valgrind's callgrind. Ends
+with status 1 if the ones that must grow in proportion don't: they take more than 1.1 times as many an octet. Builds bench/speed/pieces
+without proof, so the figures are above those of proved crates, or LIBRARY names its libpieces.a. Needs cc and valgrind."""
+
+import os
+import re
+import subprocess
+import sys
+import tempfile
+
+HERE = os.path.dirname(os.path.abspath(__file__))
+TOP = os.path.dirname(os.path.dirname(HERE))
+SIZES = [16, 32, 64]
+LINEAR = {("zeros", "page")}
+
+
+def build_library(folder):
+    copy = os.path.join(folder, "copy")
+    os.mkdir(copy)
+    subprocess.run(["cp", "-r", *(os.path.join(TOP, name) for name in ("crates", "crates.txt", "HANDLES")), copy], check=True)
+    crate = os.path.join(copy, "crates", "pieces")
+    os.makedirs(os.path.join(crate, "src"))
+    with open(os.path.join(HERE, "pieces", "libraries.txt")) as file:
+        libraries = file.read().strip()
+    with open(os.path.join(copy, "crates.txt"), "a") as file:
+        file.write(f"pieces staticlib: {libraries}\n")
+    subprocess.run(["cp", os.path.join(HERE, "pieces", "lib.txt"), os.path.join(crate, "src", "pieces.rt")], check=True)
+    with open(os.path.join(crate, "src", "lib.rt"), "w") as file:
+        file.write("//! Octets of a page that come in pieces.\n#![tactic(auto)]\n\nmod pieces;\n")
+    library = os.path.join(folder, "libpieces.a")
+    words = [os.path.join(TOP, "packaging", "build_unproved.sh"), crate, library, "--library"]
+    subprocess.run(words, check=True, stdout=subprocess.DEVNULL)
+    return library
+
+
+def counted(program, *words):
+    call = ["valgrind", "--tool=callgrind", "--toggle-collect=counted", "--callgrind-out-file=/dev/null", program, *words]
+    said = subprocess.run(call, check=True, capture_output=True, text=True)
+    return int(re.search(r"Collected : (\d+)", said.stderr).group(1))
+
+
+def main():
+    piece = sys.argv[1] if len(sys.argv) > 1 else "256"
+    grows = False
+    with tempfile.TemporaryDirectory() as folder:
+        library = os.environ.get("LIBRARY") or build_library(folder)
+        program = os.path.join(folder, "main")
+        memory = os.path.join(os.environ.get("KIT", "/opt/rattle"), "c", "liblibc_c.a")
+        words = ["-std=gnu11", "-O1", "-Wall", "-Wextra", os.path.join(HERE, "pieces", "main.c"), library, memory, "-o", program]
+        subprocess.run([os.environ.get("CC", "cc"), *words], check=True)
+        for row in ("zeros", "runs", "fill"):
+            for reader in ("page", "rows"):
+                each = [counted(program, row, reader, str(size), piece) / (1024 * size) for size in SIZES]
+                bad = (row, reader) in LINEAR and each[-1] > 1.1 * each[0]
+                grows = grows or bad
+                print(f"{row}, {reader}: {', '.join(f'{count:.1f}' for count in each)}{' !' if bad else ''}", flush=True)
+    return 1 if grows else 0
+
+
+sys.exit(main())

@@ -1,0 +1,39 @@
+/* main zeros|runs|fill page|rows KIB PIECE: reads so many KiB of a row that doesn't end, in pieces of PIECE octets: only 0 bits in T.6; in
+ * T.4 runs of no pixels; in T.4 fill before an EOL. Ends with status 1 where there is a row. */
+#include <stdint.h>
+#include <stdio.h>
+#include <stdlib.h>
+#include <string.h>
+
+uint64_t pieces_page(const uint8_t *, size_t, uint64_t, uint32_t);
+uint64_t pieces_rows(const uint8_t *, size_t, uint64_t, uint32_t);
+
+static uint8_t octets[1 << 22];
+
+/* An EOL, and runs of 0 pixels, white and black in turn. */
+static void put_runs(size_t size)
+{
+    static const char eol[] = "000000000001", white[] = "00110101", black[] = "0000110111";
+    size_t bit = 0;
+    const char *word = eol, *next = eol;
+    while (bit < 8 * size) {
+        if (*next == 0) next = word = word == white ? black : white;
+        if (*next++ == '1') octets[bit / 8] |= 128 >> bit % 8;
+        bit++;
+    }
+}
+
+__attribute__((noinline)) static uint64_t counted(int by_row, size_t size, uint64_t piece, uint32_t coding)
+{
+    return by_row ? pieces_rows(octets, size, piece, coding) : pieces_page(octets, size, piece, coding);
+}
+
+int main(int count, char **words)
+{
+    if (count != 5) return 2;
+    size_t size = 1024 * (size_t)atoi(words[3]);
+    if (size > sizeof octets) return 2;
+    int runs = !strcmp(words[1], "runs"), zeros = !strcmp(words[1], "zeros");
+    if (runs) put_runs(size);
+    return counted(!strcmp(words[2], "rows"), size, (uint64_t)atoi(words[4]), zeros ? 2 : 1) != 1;
+}
