@@ -105,6 +105,13 @@ impl StoppableCaller {
     {
         &self.station
     }
+
+    /// Returns the caller itself; what cut its call off is given up.
+    pub fn into_station(self) -> Caller
+        ensures { result ≡ self.station }
+    {
+        self.station
+    }
 }
 
 /// An answerer whose call can be stopped, or lost with its line.

@@ -25,7 +25,7 @@ over_wait now since length shown wait h =
       | inr early ↦ (let e : None ≡ Some wait = rw early at h in absurd cc)
     ]
 
-longer_passed : (longer : Option Wait) (c : Clock) (d : Durations) (wait : Wait) → longer_over longer c d ≡ Some wait →
+pub longer_passed : (longer : Option Wait) (c : Clock) (d : Durations) (wait : Wait) → longer_over longer c d ≡ Some wait →
     (longer ≡ Some wait) × HasPassed c.now (longer_runs_from c wait) (duration d wait)
 longer_passed None c d wait h = absurd (cc)
 longer_passed (Some shown) c d wait h =

@@ -1,5 +1,7 @@
 pub mod After
 pub mod Clocks
+pub mod ClockLaws
+pub mod InputsTaken
 pub mod Cutting
 pub mod Fed
 pub mod CutOff
@@ -8,6 +10,7 @@ pub mod Few
 pub mod Sent
 pub mod Memory
 pub mod Seen
+pub mod Saying
 pub mod Writable
 pub mod FrameSizes
 pub mod BurstSizes

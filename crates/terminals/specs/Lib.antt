@@ -1,9 +1,12 @@
 pub mod BurstSizes
 pub mod Bursts
+pub mod ClockLaws
 pub mod Clocks
 pub mod Hearing
+pub mod InputsTaken
 pub mod Memory
 pub mod Runs
+pub mod Saying
 pub mod Sending
 pub mod Speaking
 pub mod Stations

@@ -2,14 +2,20 @@
 
 ghost use Rattle.terminals.specs.BurstSizes.{AnswerersBurstsAreShort, CallersBurstsAreShort, FramesAreShort};
 ghost use Rattle.terminals.specs.Bursts.{AnswerersSendOne, CallersSendTwo};
+ghost use Rattle.terminals.specs.ClockLaws.{FlagsLast, OverHavePassedAlways, PassedAreOverAlways, T1RunsFromHeardAlways, T5RunsFromFirstAlways, WaitsLast};
 ghost use Rattle.terminals.specs.Clocks.{CalmIsQuiet, CarriersHold, WaitsAreNamed, WaitsPass};
 ghost use Rattle.terminals.specs.Hearing.{CutsChangeNothing};
+ghost use Rattle.terminals.specs.InputsTaken.{AnswerersTake, CallersTake};
 ghost use Rattle.terminals.specs.Memory.{OneFrameIsKept, OpenPagesAreLimited};
+ghost use Rattle.terminals.specs.Saying.{AnswerersHangUp, AnswerersLose, AnswerersStop, CallersHangUp, CallersLose, CallersStop};
+ghost use Rattle.terminals.specs.Saying.{TurnsAreLeft, WaitsAreShown};
 ghost use Rattle.terminals.specs.StationsAfter.{AnswererIsAfter, CallerIsAfter};
 ghost use Rattle.terminals.specs.Stopping.{AnswerersSendDcn, CallersSendDcn};
 ghost use Rattle.terminals.specs.WatchingLaws.{GapIsFirstJump, GapsByOctets, RefusedByOctets, SecondIsRefused};
 ghost use Rattle.terminals.specs.Writable.{AnswerersCanBeWritten, AnswerersSendWhole, CallersCanBeWritten, CallersSendWhole};
 ghost use Rattle.terminals.specs.Writable.{KeptMapsAreWhole, MapsAreWhole};
+
+use crate::station::Station;
 
 /// Octets that come in two pieces are heard as the same octets in one piece.
 pub fn cuts_change_nothing()
@@ -30,6 +36,33 @@ pub fn waits_pass()
     ensures { WaitsPass }
 {}
 
+/// A wait that is shown is over at each line by which its duration has passed, or the longer one beside it is; and at no earlier one. T5
+/// runs from the line after which it is first shown, T1 from what was heard last, T2 and T4 from the first quiet line.
+pub fn passed_are_over()
+    ensures over { PassedAreOverAlways }
+    ensures only { OverHavePassedAlways }
+    ensures t5 { T5RunsFromFirstAlways }
+    ensures t1 { T1RunsFromHeardAlways }
+{}
+
+/// How long waits and flags last, by the limits of T.30.
+pub fn durations_are_t30s()
+    ensures waits { WaitsLast }
+    ensures flags { FlagsLast }
+{}
+
+/// What each station makes of each input: it hears each signal, the end of a wait that runs does what the table says, and that of another
+/// one changes nothing.
+pub fn inputs_are_taken()
+    ensures caller { CallersTake }
+    ensures answerer { AnswerersTake }
+{}
+
+/// The waits of its state are shown of a call that goes on, and none of one that has ended in any way.
+pub fn waits_are_shown()
+    ensures { WaitsAreShown }
+{}
+
 /// The time that `wait` names is the first one at which a wait is over, if nothing comes before; if none is named, none is over at any
 /// time.
 pub fn waits_are_named()
@@ -46,6 +79,23 @@ pub fn carriers_hold()
 pub fn dcn_goes_alone()
     ensures caller { CallersSendDcn }
     ensures answerer { AnswerersSendDcn }
+{}
+
+/// When the program hangs up, or stops a call that runs, DCN alone is left to be sent, whatever was kept; when the line is gone, nothing is.
+/// A call that has ended isn't changed by a stop.
+pub fn dcn_is_left()
+    ensures caller_hangs_up { CallersHangUp }
+    ensures answerer_hangs_up { AnswerersHangUp }
+    ensures caller_stops { CallersStop }
+    ensures answerer_stops { AnswerersStop }
+    ensures caller_loses { CallersLose }
+    ensures answerer_loses { AnswerersLose }
+{}
+
+/// After an input all bursts of the station's turn are left to be sent, whatever was taken of the turn before; after a silent turn, those
+/// that were left before.
+pub fn turns_are_left<S: Station>()
+    ensures { TurnsAreLeft S S.steps S.lends }
 {}
 
 /// A turn of a caller has two bursts at most, and one of an answerer one.

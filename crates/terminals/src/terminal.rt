@@ -67,6 +67,13 @@ impl<S: Station> Terminal<S> {
         &self.speaker.station
     }
 
+    /// Returns the station itself; what was heard, and the turn that is kept, are given up.
+    pub fn into_station(self) -> S
+        ensures { result ≡ self.speaking.station }
+    {
+        self.speaker.station
+    }
+
     /// Returns how many good frames the octets heard so far had; the count stops at 2^64 - 1.
     pub fn good_frames(&self) -> u64
         ensures { (octets : List ℕ) → HasHeard self.now.framing octets → result ≡ good_frames octets }
