@@ -111,6 +111,13 @@ through() {
 through "$work/a4.pbm" "$a4" decode /dev/stdin /dev/stdout mmr msb 1728
 through "$a4" "$work/a4.pbm" encode /dev/stdin /dev/stdout mmr msb
 through "$work/a4.pbm" "$work/a4.pbm" raster /dev/stdin /dev/stdout
+"$work/frames" "$data/line.bits" > "$work/wanted"
+through "$work/wanted" "$data/line.bits" frames /dev/stdin
+"$work/signals" "$data/line.bits" > "$work/wanted"
+through "$work/wanted" "$data/line.bits" signals /dev/stdin
+# shellcheck disable=SC2002
+cat "$work/a4.pbm" | timeout 600 "$work/call" /dev/stdin "$work/stored.pbm" 3 | cat > "$work/output"
+is_same "$work/stored.pbm" "$work/a4.pbm" "call through pipes"
 
 # raster of the narrowest page and of the widest one
 for width in 1 512 513 2431 2432; do

@@ -97,7 +97,7 @@ static g3_status call(uint32_t which, void *a, void *b)
     case 34: return g3_terminal_state(a, below(50) ? &shown : NULL);
     case 35: return g3_terminal_take_page(a, b);
     case 36: return g3_page_new(a, 1728, below(2));
-    case 37: return g3_wait_millis(below(7)) > 60000;
+    case 37: return g3_wait_millis(below(7)) > 60000 ? UINT32_MAX : G3_OK;
     case 38: /* contents of signals, and of what isn't one */
         if (below(8)) buffer[0] = 255, buffer[1] = 3, buffer[2] = heads[below(12)];
         return g3_signal_read(octets, length, below(50) ? &signal : NULL);
@@ -129,6 +129,9 @@ static g3_status call(uint32_t which, void *a, void *b)
     case 57: return g3_terminal_due(a, number);
     case 58: return g3_terminal_hold(a, b);
     case 59: return g3_terminal_most_seconds(a, below(4) ? below(2000) : 0);
+    case 60: /* texts, of any number */
+        return g3_carrier_rate(below(12)) <= 14400 && g3_carrier_name(below(12)) != NULL && g3_end_text(below(20)) != NULL
+            && g3_status_text(below(120)) != NULL ? G3_OK : UINT32_MAX;
     default: g3_page_free(a); return G3_OK;
     }
 }
@@ -140,7 +143,7 @@ int main(int argc, char **argv)
     for (int calls = argc == 2 ? atoi(argv[1]) : 0; calls > 0; calls--) {
         uint32_t first = below(8), second = (first + 1 + below(7)) % 8;
         if (below(20) == 0) refused = grown + 1 + below(4);
-        g3_status status = call(below(63), below(50) ? &handles[first] : NULL, below(50) ? &handles[second] : NULL);
+        g3_status status = call(below(64), below(50) ? &handles[first] : NULL, below(50) ? &handles[second] : NULL);
         int is_known = status <= G3_TOO_MANY_CODED_ROWS || (status >= G3_BAD_ADDRESS && status <= G3_SHORT_FIELD)
             || status == G3_NOT_CALLABLE || status == G3_NOT_COMPATIBLE || status == G3_FRAME_LOST
             || (status >= G3_EMPTY_HANDLE && status <= G3_BAD_SIZE);

@@ -21,6 +21,8 @@ static void pages(void)
     IS(G3_EMPTY_HANDLE, g3_page_size(&a, &size));
     IS(G3_EMPTY_HANDLE, g3_octets_data(&code, &data, &n));
     IS(G3_EMPTY_HANDLE, g3_octets_data(NULL, &data, &n));
+    IS(G3_EMPTY_HANDLE, g3_octets_len(&code, &n));
+    IS(G3_EMPTY_HANDLE, g3_octets_len(NULL, &n));
     IS(G3_EMPTY_HANDLE, g3_page_push_row(NULL, octets, 216));
     IS(G3_BAD_WIDTH, g3_page_new(&a, 0, 1));
     IS(G3_BAD_WIDTH, g3_page_new(&a, 2433, 1));
@@ -52,6 +54,8 @@ static void pages(void)
     IS(G3_BAD_LENGTH, g3_octets_data(&code, NULL, &n));
     IS(G3_BAD_LENGTH, g3_octets_data(&code, &data, NULL));
     IS(G3_OTHER_HANDLE, g3_octets_data((g3_octets *)&a, &data, &n));
+    IS(G3_OTHER_HANDLE, g3_octets_len((g3_octets *)&a, &n));
+    IS(G3_BAD_LENGTH, g3_octets_len(&code, NULL));
     IS(1, data == octets); /* it is as it was */
     IS(G3_OK, g3_octets_data(&code, &data, &length));
     IS(1, length == n && g3_octets_copy(&code, octets, sizeof octets, &n) == G3_NO_ROOM);

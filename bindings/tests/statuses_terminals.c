@@ -72,8 +72,16 @@ static void terminals(void)
     IS(G3_END_LINE_LOST, state.end);
     IS(0, state.wait);
     IS(G3_OTHER_HANDLE, g3_page_write_pbm((g3_page *)&t, &o));
+    IS(G3_OK, g3_terminal_hang_up(&t)); /* DCN is left, also of a call that has ended */
+    IS(G3_OK, g3_terminal_next_burst(&t, &o, &burst));
+    IS(1, burst.carrier == G3_V21 && burst.check == 0 && burst.last == 1);
+    IS(G3_OTHER_HANDLE, g3_terminal_hang_up((g3_terminal *)&o));
+    g3_octets_free(&o);
+    IS(G3_NOTHING, g3_terminal_next_burst(&t, &o, &burst));
     g3_terminal_free(&t); g3_terminal_free(&t); g3_terminal_free(NULL);
     IS(G3_EMPTY_HANDLE, g3_terminal_stop(&t));
+    IS(G3_EMPTY_HANDLE, g3_terminal_hang_up(&t));
+    IS(G3_EMPTY_HANDLE, g3_terminal_hang_up(NULL));
 }
 
 /* The clock of an answerer: T2 runs from the first quiet tick, a carrier ends it, and DIS is sent again when it is over. */

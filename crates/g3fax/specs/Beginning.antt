@@ -109,13 +109,17 @@ AnswersDocument None status = status ≡ nothing_there
 AnswersDocument (Some pages) status =
     (AreCallable pages × (status ≡ ok)) ⊎ ((¬ AreCallable pages) × (status ≡ not_callable))
 
+-- the status for a caller of a document: the document's, or 9 in place of 0
+abbrev pub AnswersCaller : Option (List PagePixels) → ℕ → Type 0
+AnswersCaller document status = AnswersDocument document status ⊎ (AnswersDocument document ok × (status ≡ no_memory))
+
 -- The document of a handle moves into the terminal of a new caller, which fills an empty handle. 102 if that isn't empty; 104 if the number
 -- of the modems, the code or the frame's size is unknown; 100 and 101 for the document's handle; 106 if it has no page, 26 if a call can't
--- have the width of a page. By any status above 0 both stay.
+-- have the width of a page; else 0, or 9. By any status above 0 both stay.
 pub record MakesCaller (wish : G3Wish) (old : Option Kept) (document left : Option Kept) (status : ℕ) (new : Option Kept) : Type 0 where
   pub done : status ≡ ok → (old ≡ None) × (left ≡ None) × HasDocument (λ pages. HasCaller (λ calling.
       IfSome (wish_of wish) (λ given. IsNewCaller (pages_of pages) given calling)) new) document
   pub kept : status ≢ ok → (new ≡ old) × (left ≡ document)
   pub full : old ≢ None → status ≡ full_handle
   pub no_wish : old ≡ None → wish_of wish ≡ None → status ≡ bad_choice
-  pub answers : old ≡ None → wish_of wish ≢ None → OfDocument (λ pages. AnswersDocument pages status) document status
+  pub answers : old ≡ None → wish_of wish ≢ None → OfDocument (λ pages. AnswersCaller pages status) document status

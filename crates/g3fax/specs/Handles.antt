@@ -46,7 +46,7 @@ abbrev pub HasDeframer : (DeframerState → Type 0) → Option Kept → Type 0
 HasDeframer Holds None = ⊥
 HasDeframer Holds (Some (Octets octets)) = ⊥
 HasDeframer Holds (Some (Page page)) = ⊥
-HasDeframer Holds (Some (Deframer state)) = Holds state
+HasDeframer Holds (Some (Deframer state)) = Holds state.value
 HasDeframer Holds (Some (Document pages)) = ⊥
 HasDeframer Holds (Some (Caller terminal)) = ⊥
 HasDeframer Holds (Some (Answerer answering)) = ⊥
@@ -72,7 +72,7 @@ HasCaller Holds (Some (Octets octets)) = ⊥
 HasCaller Holds (Some (Page page)) = ⊥
 HasCaller Holds (Some (Deframer state)) = ⊥
 HasCaller Holds (Some (Document pages)) = ⊥
-HasCaller Holds (Some (Caller calling)) = Holds calling
+HasCaller Holds (Some (Caller calling)) = Holds calling.value
 HasCaller Holds (Some (Answerer answering)) = ⊥
 HasCaller Holds (Some (RowCoder coder)) = ⊥
 HasCaller Holds (Some (RowReader reader)) = ⊥
@@ -98,7 +98,7 @@ HasRowCoder Holds (Some (Deframer state)) = ⊥
 HasRowCoder Holds (Some (Document pages)) = ⊥
 HasRowCoder Holds (Some (Caller terminal)) = ⊥
 HasRowCoder Holds (Some (Answerer answering)) = ⊥
-HasRowCoder Holds (Some (RowCoder coder)) = Holds coder
+HasRowCoder Holds (Some (RowCoder coder)) = Holds coder.value
 HasRowCoder Holds (Some (RowReader reader)) = ⊥
 
 -- a handle of a reader of rows for which this holds
@@ -111,7 +111,7 @@ HasRowReader Holds (Some (Document pages)) = ⊥
 HasRowReader Holds (Some (Caller terminal)) = ⊥
 HasRowReader Holds (Some (Answerer answering)) = ⊥
 HasRowReader Holds (Some (RowCoder coder)) = ⊥
-HasRowReader Holds (Some (RowReader reader)) = Holds reader
+HasRowReader Holds (Some (RowReader reader)) = Holds reader.value
 
 -- the status for a handle that should have octets: `Answers` if it has, 100 if it is empty, 101 if it has something else
 abbrev pub OfOctets : (List ℕ → Type 0) → Option Kept → ℕ → Type 0
@@ -154,7 +154,7 @@ abbrev pub OfDeframer : (DeframerState → Type 0) → Option Kept → ℕ → T
 OfDeframer Answers None status = status ≡ empty_handle
 OfDeframer Answers (Some (Octets octets)) status = status ≡ other_handle
 OfDeframer Answers (Some (Page page)) status = status ≡ other_handle
-OfDeframer Answers (Some (Deframer state)) status = Answers state
+OfDeframer Answers (Some (Deframer state)) status = Answers state.value
 OfDeframer Answers (Some (Document pages)) status = status ≡ other_handle
 OfDeframer Answers (Some (Caller terminal)) status = status ≡ other_handle
 OfDeframer Answers (Some (Answerer answering)) status = status ≡ other_handle
@@ -201,7 +201,7 @@ OnDeframer Makes (Some (Page page)) new status = (status ≡ other_handle) × (n
 OnDeframer Makes (Some (Deframer old)) None status = ⊥
 OnDeframer Makes (Some (Deframer old)) (Some (Octets octets)) status = ⊥
 OnDeframer Makes (Some (Deframer old)) (Some (Page page)) status = ⊥
-OnDeframer Makes (Some (Deframer old)) (Some (Deframer new)) status = Makes old new
+OnDeframer Makes (Some (Deframer old)) (Some (Deframer new)) status = Makes old.value new.value
 OnDeframer Makes (Some (Deframer old)) (Some (Document pages)) status = ⊥
 OnDeframer Makes (Some (Deframer old)) (Some (Caller terminal)) status = ⊥
 OnDeframer Makes (Some (Deframer old)) (Some (Answerer answering)) status = ⊥
@@ -270,7 +270,7 @@ OnRowCoder Makes (Some (RowCoder old)) (Some (Deframer state)) status = ⊥
 OnRowCoder Makes (Some (RowCoder old)) (Some (Document pages)) status = ⊥
 OnRowCoder Makes (Some (RowCoder old)) (Some (Caller terminal)) status = ⊥
 OnRowCoder Makes (Some (RowCoder old)) (Some (Answerer answering)) status = ⊥
-OnRowCoder Makes (Some (RowCoder old)) (Some (RowCoder new)) status = Makes old new
+OnRowCoder Makes (Some (RowCoder old)) (Some (RowCoder new)) status = Makes old.value new.value
 OnRowCoder Makes (Some (RowCoder old)) (Some (RowReader reader)) status = ⊥
 OnRowCoder Makes (Some (RowReader reader)) new status = (status ≡ other_handle) × (new ≡ Some (RowReader reader))
 
@@ -292,7 +292,7 @@ OnRowReader Makes (Some (RowReader old)) (Some (Document pages)) status = ⊥
 OnRowReader Makes (Some (RowReader old)) (Some (Caller terminal)) status = ⊥
 OnRowReader Makes (Some (RowReader old)) (Some (Answerer answering)) status = ⊥
 OnRowReader Makes (Some (RowReader old)) (Some (RowCoder coder)) status = ⊥
-OnRowReader Makes (Some (RowReader old)) (Some (RowReader new)) status = Makes old new
+OnRowReader Makes (Some (RowReader old)) (Some (RowReader new)) status = Makes old.value new.value
 
 -- the status for a handle that should have a terminal: the first relation for a caller's, the second for an answerer's; 100 if it is empty,
 -- 101 if it has something else
@@ -302,7 +302,7 @@ OfTerminal Calls Answers (Some (Octets octets)) status = status ≡ other_handle
 OfTerminal Calls Answers (Some (Page page)) status = status ≡ other_handle
 OfTerminal Calls Answers (Some (Deframer state)) status = status ≡ other_handle
 OfTerminal Calls Answers (Some (Document pages)) status = status ≡ other_handle
-OfTerminal Calls Answers (Some (Caller calling)) status = Calls calling.terminal
+OfTerminal Calls Answers (Some (Caller calling)) status = Calls calling.value.terminal
 OfTerminal Calls Answers (Some (Answerer answering)) status = Answers answering.value
 OfTerminal Calls Answers (Some (RowCoder coder)) status = status ≡ other_handle
 OfTerminal Calls Answers (Some (RowReader reader)) status = status ≡ other_handle
@@ -321,7 +321,7 @@ OnStation Calls Answers (Some (Caller old)) (Some (Octets octets)) status = ⊥
 OnStation Calls Answers (Some (Caller old)) (Some (Page page)) status = ⊥
 OnStation Calls Answers (Some (Caller old)) (Some (Deframer state)) status = ⊥
 OnStation Calls Answers (Some (Caller old)) (Some (Document pages)) status = ⊥
-OnStation Calls Answers (Some (Caller old)) (Some (Caller new)) status = Calls old new
+OnStation Calls Answers (Some (Caller old)) (Some (Caller new)) status = Calls old.value new.value
 OnStation Calls Answers (Some (Caller old)) (Some (Answerer answering)) status = ⊥
 OnStation Calls Answers (Some (Caller old)) (Some (RowCoder coder)) status = ⊥
 OnStation Calls Answers (Some (Caller old)) (Some (RowReader reader)) status = ⊥
@@ -363,7 +363,7 @@ OfTimed Calls Answers (Some (Octets octets)) status = status ≡ other_handle
 OfTimed Calls Answers (Some (Page page)) status = status ≡ other_handle
 OfTimed Calls Answers (Some (Deframer state)) status = status ≡ other_handle
 OfTimed Calls Answers (Some (Document pages)) status = status ≡ other_handle
-OfTimed Calls Answers (Some (Caller calling)) status = Calls calling.terminal calling.timing
+OfTimed Calls Answers (Some (Caller calling)) status = Calls calling.value.terminal calling.value.timing
 OfTimed Calls Answers (Some (Answerer answering)) status = Answers answering.value.terminal answering.value.timing
 OfTimed Calls Answers (Some (RowCoder coder)) status = status ≡ other_handle
 OfTimed Calls Answers (Some (RowReader reader)) status = status ≡ other_handle

@@ -52,17 +52,19 @@ pub record EndsRows (coder : RowCoding) (before : Option Kept) (status : ℕ) (a
   pub no_rows : before ≡ None → coder.count ≡ 0 → (status ≡ 4) ⊎ (status ≡ no_memory)
   pub only : before ≡ None → 0 < coder.count → (status ≡ ok) ⊎ (status ≡ no_memory)
 
+-- the last octets of the page's code fill an empty handle, if the value is a coder; 101 if it is something else, and nothing is filled
+abbrev pub EndsKept : Kept → Option Kept → ℕ → Option Kept → Type 0
+EndsKept (Octets octets) before status after = (status ≡ other_handle) × (after ≡ before)
+EndsKept (Page page) before status after = (status ≡ other_handle) × (after ≡ before)
+EndsKept (Deframer state) before status after = (status ≡ other_handle) × (after ≡ before)
+EndsKept (Document pages) before status after = (status ≡ other_handle) × (after ≡ before)
+EndsKept (Caller calling) before status after = (status ≡ other_handle) × (after ≡ before)
+EndsKept (Answerer answering) before status after = (status ≡ other_handle) × (after ≡ before)
+EndsKept (RowReader reader) before status after = (status ≡ other_handle) × (after ≡ before)
+EndsKept (RowCoder coder) before status after = EndsRows coder.value before status after
+
 -- The last octets of the page's code fill an empty handle, and the coder leaves its own. 100 if that is empty, 101 if it has something
 -- else, 4 only if no row was pushed. By any status above 0 both handles stay.
 abbrev pub EndsCoder : Option Kept → Option Kept → Option Kept → ℕ → Option Kept → Type 0
 EndsCoder None left before status after = (status ≡ empty_handle) × (left ≡ None) × (after ≡ before)
-EndsCoder (Some (Octets octets)) left before status after = (status ≡ other_handle) × (left ≡ Some (Octets octets)) × (after ≡ before)
-EndsCoder (Some (Page page)) left before status after = (status ≡ other_handle) × (left ≡ Some (Page page)) × (after ≡ before)
-EndsCoder (Some (Deframer state)) left before status after = (status ≡ other_handle) × (left ≡ Some (Deframer state)) × (after ≡ before)
-EndsCoder (Some (Document pages)) left before status after = (status ≡ other_handle) × (left ≡ Some (Document pages)) × (after ≡ before)
-EndsCoder (Some (Caller terminal)) left before status after = (status ≡ other_handle) × (left ≡ Some (Caller terminal)) × (after ≡ before)
-EndsCoder (Some (Answerer answering)) left before status after = (status ≡ other_handle) × (left ≡ Some (Answerer answering))
-    × (after ≡ before)
-EndsCoder (Some (RowReader reader)) left before status after = (status ≡ other_handle) × (left ≡ Some (RowReader reader)) × (after ≡ before)
-EndsCoder (Some (RowCoder coder)) left before status after =
-    EndsRows coder before status after × IsMoved status (Some (RowCoder coder)) left
+EndsCoder (Some value) left before status after = EndsKept value before status after × IsMoved status (Some value) left

@@ -1,6 +1,6 @@
 //! Terminals of callers and answerers made, for C.
 
-ghost use Rattle.g3fax.specs.Beginning.{AnswersDocument, IsNewAnswerer, IsNewCaller, MakesAnswerer, MakesCaller};
+ghost use Rattle.g3fax.specs.Beginning.{AnswersCaller, AnswersDocument, IsNewAnswerer, IsNewCaller, MakesAnswerer, MakesCaller};
 ghost use Rattle.g3fax.specs.Beginning.{caps_of, modems_of, small_of, wish_of};
 ghost use Rattle.g3fax.specs.Documents.{pages_of};
 ghost use Rattle.signals.specs.Agreement.{width_of_pixels};
@@ -176,11 +176,26 @@ fn test_document(document: &Option<Document>) -> u32
     }
 }
 
+/// Returns the terminal of a caller in a box of its own. Errors: memory is refused; the document of the caller.
+fn boxed(alloc: Global, calling: Calling) -> Result<Box<Calling>, Document>
+    ensures ok { IfOk result (λ boxed. boxed.value ≡ calling) }
+    ensures err { IfErr result (λ document. document ≡ calling.terminal.speaking.station.station.document) }
+{
+    match Box::new(alloc, calling) {
+        Ok(boxed) => Ok(boxed),
+        Err(refused) => {
+            let station = refused.value.terminal.into_station().into_station();
+            let (document, _confirmed) = station.into_document();
+            Err(document)
+        }
+    }
+}
+
 /// Returns the terminal of a new caller of a document. Errors: there is none; then the document stays.
-fn calling(alloc: Global, document: &mut Option<Document>, wish: Wish) -> Result<Calling, u32>
-    ensures ok { IfOk result (λ calling. IsNewCaller (pages_of document.old) wish calling) }
+fn calling(alloc: Global, document: &mut Option<Document>, wish: Wish) -> Result<Box<Calling>, u32>
+    ensures ok { IfOk result (λ calling. IsNewCaller (pages_of document.old) wish calling.value) }
     ensures made { IfOk result (λ calling. AnswersDocument document.old 0) }
-    ensures err { IfErr result (λ status. (document.new ≡ document.old) × AnswersDocument document.old status) }
+    ensures err { IfErr result (λ status. (document.new ≡ document.old) × AnswersCaller document.old status) }
     ensures no { IfErr result (λ status. 0 < status) }
 {
     let status = test_document(document);
@@ -190,19 +205,24 @@ fn calling(alloc: Global, document: &mut Option<Document>, wish: Wish) -> Result
     let Some(pages) = document.take() else {
         return Err(NOTHING);
     };
-    match Caller::new(alloc, pages, wish) {
-        Ok(caller) => Ok(Calling {
-            terminal: Terminal::new(alloc, StoppableCaller::new(caller), Turn::Silent),
-            timing: Timing::new(),
-        }),
-        Err(_) => Err(NOT_CALLABLE),
+    let Ok(caller) = Caller::new(alloc, pages, wish) else {
+        return Err(NOT_CALLABLE);
+    };
+    let terminal = Terminal::new(alloc, StoppableCaller::new(caller), Turn::Silent);
+    let timing = Timing::new();
+    match boxed(alloc, Calling { terminal, timing }) {
+        Ok(made) => Ok(made),
+        Err(pages) => {
+            *document = Some(pages);
+            Err(NO_MEMORY)
+        }
     }
 }
 
 /// Makes the terminal of a caller in an empty handle. The document moves in, and its handle is empty then. Returns `G3_FULL_HANDLE` (102);
 /// `G3_BAD_CHOICE` (104) if the number of the modems, the code or the frame's size is unknown; `G3_EMPTY_HANDLE` (100) or `G3_OTHER_HANDLE`
 /// (101) for the document's handle; `G3_NOTHING` (106) if it has no page; `G3_NOT_CALLABLE` (26) if a page isn't 1,728, 2,048 or 2,432
-/// pixels wide. Takes no memory.
+/// pixels wide; or `G3_NO_MEMORY` (9). Whatever it returns above 0, both handles stay as they are.
 #[unsafe(no_mangle)]
 pub extern "C" fn g3_core_caller_new(
     alloc: Global,
@@ -226,8 +246,8 @@ pub extern "C" fn g3_core_caller_new(
         _ => Err(OTHER_HANDLE),
     };
     match made {
-        Ok(calling) => {
-            *kept = Kept::Caller(calling);
+        Ok(boxed) => {
+            *kept = Kept::Caller(boxed);
             out.put(kept);
             OK
         }

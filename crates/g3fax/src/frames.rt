@@ -39,7 +39,13 @@ pub struct G3Counts {
 pub extern "C" fn g3_core_deframer_new(alloc: Global, out: &mut G3Handle) -> u32
     ensures { Fills (HasDeframer (λ state. IsAfter state [] 0)) out.old.value result out.new.value }
 {
-    out.fill(alloc, Kept::Deframer(Deframer::new(alloc)))
+    if out.is_full(alloc) {
+        return FULL_HANDLE;
+    }
+    match Box::new(alloc, Deframer::new(alloc)) {
+        Ok(boxed) => out.fill(alloc, Kept::Deframer(boxed)),
+        Err(_) => NO_MEMORY,
+    }
 }
 
 /// Takes the bits of octets.
@@ -62,7 +68,7 @@ pub extern "C" fn g3_core_deframer_feed(
 ) -> u32
     ensures { OnDeframer (λ old new. Feeds octets.now old new result) deframer.old.value deframer.new.value result }
 {
-    opened!(alloc, deframer, Deframer, deframer => feed(deframer, octets))
+    opened!(alloc, deframer, Deframer, deframer => feed(&mut **deframer, octets))
 }
 
 /// Copies the oldest content that waits.
@@ -93,7 +99,7 @@ pub extern "C" fn g3_core_deframer_next(
         result }
 {
     // room for the longest content, so that none is lost to a small buffer
-    opened!(alloc, deframer, Deframer, deframer => next(deframer, buffer, count))
+    opened!(alloc, deframer, Deframer, deframer => next(&mut **deframer, buffer, count))
 }
 
 /// Tells the counts of a deframer.
@@ -123,7 +129,7 @@ pub extern "C" fn g3_core_deframer_counts(
     ensures kept { deframer.new.value ≡ deframer.old.value }
     ensures untold { result ≢ 0 → counts.new ≡ counts.old }
 {
-    opened!(alloc, deframer, Deframer, deframer => tell_counts(deframer, counts))
+    opened!(alloc, deframer, Deframer, deframer => tell_counts(&**deframer, counts))
 }
 
 /// The octets of a frame, and how many bits it has.

@@ -15,6 +15,7 @@ use std::marker::Model;
 use std::{mem, ptr};
 
 /// A value of a handle.
+// What is large is in a box of its own, so that the box of a handle is small, whatever it has.
 #[derive(Drop)]
 pub enum Kept {
     /// Octets that a call has made.
@@ -22,18 +23,17 @@ pub enum Kept {
     /// A page.
     Page(Page),
     /// A deframer.
-    Deframer(Deframer),
+    Deframer(Box<Deframer>),
     /// The pages of a call; None before the first.
     Document(Option<Document>),
     /// The terminal of a caller, with its clock.
-    Caller(Calling),
-    /// The terminal of an answerer, with its clock, and with pages that were taken out of it. It is by far the largest value: in a box of
-    /// its own, so that the box of each other handle is half as large.
+    Caller(Box<Calling>),
+    /// The terminal of an answerer, with its clock, and with pages that were taken out of it.
     Answerer(Box<Answering>),
     /// A coder of a page row by row.
-    RowCoder(RowCoder),
+    RowCoder(Box<RowCoder>),
     /// A reader of a page row by row.
-    RowReader(RowReader),
+    RowReader(Box<RowReader>),
 }
 
 /// A handle: null, or a pointer to a value that the handle owns. C begins it as null.
@@ -189,7 +189,10 @@ macro_rules! opened_station {
             None => crate::status::EMPTY_HANDLE,
             Some(mut kept) => {
                 let status = match &mut *kept {
-                    crate::handle::Kept::Caller($calling) => $calls,
+                    crate::handle::Kept::Caller(boxed) => {
+                        let $calling = &mut **boxed;
+                        $calls
+                    }
                     crate::handle::Kept::Answerer(boxed) => {
                         let $answering = &mut **boxed;
                         $answers

@@ -2,7 +2,7 @@
 
 ghost use Rattle.g3fax.specs.Codes.{coding_of, order_of};
 ghost use Rattle.g3fax.specs.Handles.{OnRowCoder};
-ghost use Rattle.g3fax.specs.RowCoders.{EndsCoder, EndsRows, HandsOutRows, MakesCoder, PushesCoded};
+ghost use Rattle.g3fax.specs.RowCoders.{EndsCoder, EndsKept, EndsRows, HandsOutRows, MakesCoder, PushesCoded};
 ghost use Rattle.std.specs.Prelude.{◌≡◌, ◌≢◌};
 
 use crate::codes::{G3Code, coding_of, order_of};
@@ -31,8 +31,11 @@ fn new_coder(alloc: Global, code: &G3Code, out: &mut G3Handle) -> u32
     if code.width == 0 || code.width > MAX_WIDTH {
         return BAD_WIDTH;
     }
-    match RowCoder::new(alloc, coding, order, code.width) {
-        Ok(coder) => out.fill(alloc, Kept::RowCoder(coder)),
+    let Ok(coder) = RowCoder::new(alloc, coding, order, code.width) else {
+        return NO_MEMORY;
+    };
+    match Box::new(alloc, coder) {
+        Ok(boxed) => out.fill(alloc, Kept::RowCoder(boxed)),
         Err(_) => NO_MEMORY,
     }
 }
@@ -78,7 +81,7 @@ pub extern "C" fn g3_core_row_coder_push_row(
 ) -> u32
     ensures { OnRowCoder (λ old new. PushesCoded octets.now old new result) coder.old.value coder.new.value result }
 {
-    opened!(alloc, coder, RowCoder, coder => push_coded(alloc, coder, octets))
+    opened!(alloc, coder, RowCoder, coder => push_coded(alloc, &mut **coder, octets))
 }
 
 /// Moves the octets that are whole so far into an empty handle.
@@ -111,7 +114,7 @@ pub extern "C" fn g3_core_row_coder_take(
     ensures takes { OnRowCoder (λ old new. HandsOutRows old new out.old.value result out.new.value) coder.old.value coder.new.value result }
     ensures out { result ≢ 0 → out.new.value ≡ out.old.value }
 {
-    opened!(alloc, coder, RowCoder, coder => take_octets(alloc, coder, out))
+    opened!(alloc, coder, RowCoder, coder => take_octets(alloc, &mut **coder, out))
 }
 
 /// Fills an empty handle with the last octets of a page's code.
@@ -136,6 +139,17 @@ fn end_rows(alloc: Global, coder: &mut RowCoder, out: &mut G3Handle) -> u32
     }
 }
 
+/// Fills an empty handle with the last octets of a page's code, if the value is a coder.
+fn end_kept(alloc: Global, kept: &mut Kept, out: &mut G3Handle) -> u32
+    ensures ends { EndsKept kept.old out.old.value result out.new.value }
+    ensures kept { result ≢ 0 → kept.new ≡ kept.old }
+{
+    match kept {
+        Kept::RowCoder(rows) => end_rows(alloc, &mut **rows, out),
+        _ => OTHER_HANDLE,
+    }
+}
+
 /// Moves the last octets of the code into an empty handle: what wasn't moved out, RTC or EOFB, and 0 bits that fill the last octet. The
 /// coder's handle is empty then. Returns `G3_FULL_HANDLE` (102), `G3_NO_ROWS` (4) if no row was pushed, or `G3_NO_MEMORY` (9); then nothing
 /// is lost.
@@ -147,17 +161,12 @@ pub extern "C" fn g3_core_row_coder_finish(
 ) -> u32
     ensures { EndsCoder coder.old.value coder.new.value out.old.value result out.new.value }
 {
-    match coder.take(alloc) {
-        None => EMPTY_HANDLE,
-        Some(mut kept) => {
-            let status = match &mut *kept {
-                Kept::RowCoder(rows) => end_rows(alloc, rows, out),
-                _ => OTHER_HANDLE,
-            };
-            if status != OK {
-                coder.put(kept);
-            }
-            status
-        }
+    let Some(mut kept) = coder.take(alloc) else {
+        return EMPTY_HANDLE;
+    };
+    let status = end_kept(alloc, &mut *kept, out);
+    if status != OK {
+        coder.put(kept);
     }
+    status
 }

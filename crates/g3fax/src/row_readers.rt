@@ -28,8 +28,11 @@ fn new_reader(alloc: Global, code: &G3Code, out: &mut G3Handle) -> u32
     if code.width == 0 || code.width > MAX_WIDTH {
         return BAD_WIDTH;
     }
-    match RowReader::new(alloc, coding, order, code.width) {
-        Ok(reader) => out.fill(alloc, Kept::RowReader(reader)),
+    let Ok(reader) = RowReader::new(alloc, coding, order, code.width) else {
+        return NO_MEMORY;
+    };
+    match Box::new(alloc, reader) {
+        Ok(boxed) => out.fill(alloc, Kept::RowReader(boxed)),
         Err(_) => NO_MEMORY,
     }
 }
@@ -67,7 +70,7 @@ pub extern "C" fn g3_core_row_reader_feed(
 ) -> u32
     ensures { OnRowReader (λ old new. FeedsRows octets.now old new taken.new result) reader.old.value reader.new.value result }
 {
-    opened!(alloc, reader, RowReader, reader => feed(reader, octets, taken))
+    opened!(alloc, reader, RowReader, reader => feed(&mut **reader, octets, taken))
 }
 
 /// Copies the next row, or tells where the octets so far end or are refused.
@@ -107,5 +110,5 @@ pub extern "C" fn g3_core_row_reader_next(
     ensures { OnRowReader (λ old new. GivesRow old new buffer.old buffer.new count.new place.new result) reader.old.value reader.new.value
         result }
 {
-    opened!(alloc, reader, RowReader, reader => next(reader, buffer, count, place))
+    opened!(alloc, reader, RowReader, reader => next(&mut **reader, buffer, count, place))
 }
