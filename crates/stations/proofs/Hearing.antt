@@ -9,15 +9,15 @@ use Rattle.signals.specs.declared.params.Speed.{Speed}
 use Rattle.signals.specs.declared.signal.PageEnd.{PageEnd}
 use Rattle.signals.specs.declared.signal.PageEnd.TheVariants.{Null, Mps, Eom, Eop}
 use Rattle.partial_page.specs.Assembling.{all_there, last_counted, within_frame_size}
-use Rattle.stations.specs.AnswererStep.{Answerer, AnswererAnswer, accepts, answerer_silent, answerer_step, answerer_table, answers_pps}
+use Rattle.stations.specs.AnswererStep.{Answerer, AnswererAnswer, accepts, answerer_silent, answerer_step, answerer_table}
 use Rattle.stations.specs.AnswererStep.{answers_repeated, is_repeated, stores, takes_block, unless_answerer_ended}
 use Rattle.stations.specs.Blocks.{Block}
-use Rattle.stations.specs.CallerStep.{Caller, CallerAnswer, answers_mcf, blocks_of, caller_step, caller_table, goes_on_or_waits}
+use Rattle.stations.specs.CallerStep.{Caller, CallerAnswer, answers_mcf, blocks_of, caller_table, goes_on_or_waits}
 use Rattle.stations.specs.EndsMean.{IsAccepted}
 use Rattle.stations.specs.Inputs.{AnswererInput, hears, listens, trains, t2, t1, is_busy}
 use Rattle.stations.specs.Layers.{is_good_training, within_page_limit}
 use Rattle.stations.specs.Listening.{answerer_listens, ends_group, heard_after_block, is_v21_first, listens_after, listens_for, put_v21_first}
-use Rattle.stations.specs.Listening.{unless_through, AnswerersHear, CallerSpeaks, ComesFirst, PagesComeWhereHeard, RepliesLeaveEars}
+use Rattle.stations.specs.Listening.{unless_through, AnswerersHear, ComesFirst, PagesComeWhereHeard, RepliesLeaveEars}
 use Rattle.stations.specs.Listening.{RepliesTellWhatIsFirst, SilenceLeavesWhatIsFirst}
 use Rattle.stations.specs.TurnsMean.{AnswererSends}
 use Rattle.stations.specs.declared.listening.Listening.{Listening}
@@ -32,7 +32,7 @@ use Rattle.stations.specs.declared.turn.Turn.TheVariants.{Silent, Cfr as SendCfr
 use Rattle.stations.proofs.AnswerersEnds.{repeated_is, table_step}
 use Rattle.stations.proofs.AnswerersTurns.{answerers_always_answer, answerers_turns_mean}
 use Rattle.stations.proofs.CallersEnds.{table_step as caller_table_step}
-use Rattle.stations.proofs.MarksTell.{Stops, none_after}
+use Rattle.stations.proofs.MarksTell.{none_after}
 
 either : {A : Type 0} (P : A → Type 0) (b : Bool) (x y : A) → (b ≡ true → P x) → (b ≡ false → P y) → P (cond b x y)
 either P true x y f g = f refl

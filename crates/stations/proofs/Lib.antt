@@ -32,3 +32,4 @@ pub mod LimitedPlain
 pub mod LimitedServing
 pub mod FrontOctets
 pub mod BlocksDue
+pub mod Rows

@@ -1,21 +1,19 @@
 -- What a page is read as, whole stores, and the map of missing frames.
-use Rattle.std.proofs.Common.{◌≡◌, ◌≢◌, ℕ, zero, suc, ◌*◌, ◌≤◌, ◌<◌, ◌↔◌, Bool, true, false, List, [], ◌∷◌, map, length, replicate, Some}
-use Rattle.std.proofs.Common.{None, Result, Ok, Err, refl, ap, sym, subst, cond, ◌∙◌, arith, nat_le, append-nil, inl, inr}
-use Rattle.std.specs.List.{range_with_len, list_all}
-use Rattle.std.proofs.lemmas.Bool.{and_parts, leb-true, le-leb, lt-leb, cases_eq}
-use Rattle.std.proofs.lemmas.List.FromFn.{length-map-range_with_len, get_or-map-range_with_len, fill_by_all}
+use Rattle.std.proofs.Common.{◌≡◌, ◌≢◌, ℕ, ◌≤◌, ◌<◌, ◌↔◌, Bool, true, false, List, [], ◌∷◌, length, replicate, Some}
+use Rattle.std.proofs.Common.{None, Result, Ok, Err, refl, ap, sym, subst, cond, ◌∙◌, arith, nat_le}
+use Rattle.std.specs.List.{list_all}
+use Rattle.std.proofs.lemmas.Bool.{leb-true, le-leb, lt-leb}
 use Rattle.raster.specs.Pages.{PagePixels}
-use Rattle.raster.specs.Packed.{bits_of, bits_in, bit_in}
+use Rattle.raster.specs.Packed.{bits_of}
 use Rattle.raster.specs.Pixels.{IsWidth}
 use Rattle.raster.specs.declared.packed.Order.TheVariants.{LsbFirst}
 use Rattle.raster.specs.declared.row.Color.{Color}
 use Rattle.run_tables.specs.declared.fault.CodeFaultKind.{CodeFaultKind}
-use Rattle.partial_page.specs.Store.{IsWhole, IsMissingMap, is_marked, no_frames}
+use Rattle.partial_page.specs.Store.{no_frames}
 use Rattle.signals.specs.Agreement.{pixels_of}
 use Rattle.signals.specs.declared.params.PageWidth.{PageWidth}
 use Rattle.signals.specs.declared.params.PageWidth.TheVariants.{W1728, W2048, W2432}
 use Rattle.signals.specs.declared.params.Params.{Params}
-use Rattle.raster.specs.Octets.{AreOctets}
 use Rattle.page_code.specs.Codings.{read_rows, ReadsIn, ReadsExactly}
 use Rattle.stations.specs.Laws.{ReadsByGrammar}
 use Rattle.stations.specs.Layers.{IsPageOf, within_page_limit, page_of, page_read}
@@ -24,8 +22,7 @@ use Rattle.signals.specs.declared.signal.PageEnd.{PageEnd}
 use Rattle.signals.specs.declared.signal.PageEnd.TheVariants.{Null, Mps, Eom, Eop}
 use Rattle.signals.specs.declared.mark.Mark.{Mark}
 use Rattle.stations.specs.AnswererStep.{Answerer, takes_block, stores, is_clear}
-use Rattle.partial_page.specs.Assembling.{Frames, is_whole, all_there, ppr_map}
-use Rattle.raster.proofs.OctetLemmas.{packed_is}
+use Rattle.partial_page.specs.Assembling.{Frames}
 
 pub width_callable : (width : PageWidth) → IsWidth (pixels_of width)
 width_callable W1728 = (omega arith, omega arith)

@@ -1,7 +1,7 @@
 -- The answering station: a tuple and its one step.
-use Rattle.std.specs.Prelude.{◌≡◌, ◌⊎◌, Result, Ok, Err, ℕ, zero, suc, ◌+◌, Bool, true, false, cond, not, ◌&&◌, List, [], ◌∷◌, ◌++◌, map}
-use Rattle.std.specs.Prelude.{slice_set, Option, Some, None, is_some, nat_eq, max}
-use Rattle.std.specs.List.{range_with_len, list_all}
+use Rattle.std.specs.Prelude.{◌≡◌, ◌⊎◌, Result, Ok, Err, ℕ, ◌+◌, Bool, true, false, cond, not, ◌&&◌, List, [], ◌∷◌, ◌++◌, map}
+use Rattle.std.specs.Prelude.{slice_set, Option, Some, None, is_some}
+use Rattle.std.specs.List.{list_all}
 use Rattle.raster.specs.Pages.{PagePixels}
 use Rattle.signals.specs.Agreement.{allowed}
 use Rattle.signals.specs.Signals.{dis, dcs, cfr, ftt, fcd, pps, ppr, mcf, rnr, rr, dcn}
@@ -9,8 +9,7 @@ use Rattle.signals.specs.declared.params.Caps.{Caps}
 use Rattle.signals.specs.declared.params.Params.{Params}
 use Rattle.signals.specs.declared.signal.PageEnd.{PageEnd}
 use Rattle.signals.specs.declared.signal.PageEnd.TheVariants.{Null, Mps, Eom, Eop}
-use Rattle.partial_page.specs.Store.{no_frames, has_frame, is_marked, joined_frames}
-use Rattle.raster.specs.Octets.{packed}
+use Rattle.partial_page.specs.Store.{no_frames, joined_frames}
 use Rattle.stations.specs.Layers.{is_good_training, page_read, within_page_limit}
 use Rattle.partial_page.specs.Assembling.{Asked, Frames, all_there, last_counted, ppr_map, within_frame_size}
 use Rattle.signals.specs.Marks.{same_mark}

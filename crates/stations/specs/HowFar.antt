@@ -1,5 +1,5 @@
 -- How far a station is with its call.
-use Rattle.std.specs.Prelude.{ℕ, suc, ◌+◌, List, [], ◌∷◌, length, Option, Some, None, slice_get}
+use Rattle.std.specs.Prelude.{ℕ, suc, ◌+◌, [], ◌∷◌, length, Option, Some, None, slice_get}
 use Rattle.std.specs.Option.{option_map}
 use Rattle.raster.specs.Pages.{PagePixels}
 use Rattle.signals.specs.declared.params.Params.{Params}

@@ -18,7 +18,7 @@ use Rattle.signals.specs.declared.params.Caps.{Caps}
 use Rattle.signals.specs.declared.params.PageWidth.{PageWidth}
 use Rattle.signals.specs.declared.params.Params.{Params}
 use Rattle.signals.specs.declared.params.Wish.{Wish}
-use Rattle.partial_page.specs.Frames.{frame_size, cut, max_page_octets}
+use Rattle.partial_page.specs.Frames.{cut, max_page_octets}
 
 -- a document is its pages in order
 abbrev pub Document : Type 0

@@ -30,3 +30,4 @@ pub mod Stopping
 pub mod Limiting
 pub mod LimitedRuns
 pub mod LimitedServing
+pub mod Rows

@@ -1,5 +1,5 @@
 -- What a station listens for, and what it knows of the other one.
-use Rattle.std.specs.Prelude.{ℕ, suc, ◌≡◌, ◌≢◌, ◌⊎◌, Bool, true, false, cond, nat_lt, List, Option, Some, None, is_some, slice_get}
+use Rattle.std.specs.Prelude.{ℕ, ◌≡◌, ◌≢◌, ◌⊎◌, Bool, true, false, cond, nat_lt, List, Option, Some, None, is_some, slice_get}
 use Rattle.signals.specs.Signals.{fcd, mcf, pps, rnr}
 use Rattle.signals.specs.declared.params.Caps.{Caps}
 use Rattle.signals.specs.declared.params.Params.{Params}

@@ -1,8 +1,7 @@
 -- What is answered, by the turns and by the inputs, not by the states.
-use Rattle.std.specs.Prelude.{ℕ, suc, ◌≡◌, ◌≢◌, ◌<◌, ◌⊎◌, Contains, true, false, List, [], ◌∷◌, length, Some, None, IsSome, slice_get}
+use Rattle.std.specs.Prelude.{ℕ, suc, ◌≡◌, ◌≢◌, ◌⊎◌, Contains, true, false, List, [], ◌∷◌, Some, None, IsSome, slice_get}
 use Rattle.signals.specs.Agreement.{allowed}
 use Rattle.signals.specs.Signals.{dis, dcs, cfr, ftt, fcd, pps, ppr, mcf, rnr, rr, dcn}
-use Rattle.signals.specs.declared.params.Params.{Params}
 use Rattle.signals.specs.declared.signal.PageEnd.{PageEnd}
 use Rattle.signals.specs.declared.signal.PageEnd.TheVariants.{Eom}
 use Rattle.partial_page.specs.Store.{has_frame}

@@ -11,6 +11,7 @@ ghost use Rattle.stations.specs.LimitedServing.{LimitedServes};
 ghost use Rattle.stations.specs.Limiting.{BusyBefore};
 ghost use Rattle.stations.specs.Listening.{AnswerersHear, PagesComeWhereHeard, RepliesLeaveEars, RepliesTellWhatIsFirst};
 ghost use Rattle.stations.specs.Listening.{SilenceLeavesWhatIsFirst};
+ghost use Rattle.stations.specs.Rows.{AnswerersKnowAlways, CallersKnowAlways, FullByRows, KeptOutByRowsAlways, ProgressByRows, StopsAreSaid};
 ghost use Rattle.stations.specs.Stopping.{CutsEnd};
 ghost use Rattle.stations.specs.Taken.{FrontStays, TakenAndThere};
 ghost use Rattle.stations.specs.TurnsShow.{AnswerersShow};
@@ -230,3 +231,17 @@ pub fn limited_serves()
     stored_is_read();
     answerers_keep();
 }
+
+/// What each station knows of its group and of the other station, in each state.
+pub fn stations_know()
+    ensures caller { CallersKnowAlways }
+    ensures answerer { AnswerersKnowAlways }
+{}
+
+/// When a stop says DCN, when an answerer is full and what it doesn't hear then, and how far a station is, by rows.
+pub fn told_by_rows()
+    ensures stops { StopsAreSaid }
+    ensures full { FullByRows }
+    ensures kept_out { KeptOutByRowsAlways }
+    ensures progress { ProgressByRows }
+{}

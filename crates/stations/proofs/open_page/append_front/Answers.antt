@@ -1,4 +1,4 @@
-use Rattle.std.proofs.Common.{◌≡◌, ◌≤◌, ◌++◌, [], drop, length, sym, ap, ◌∙◌, append-nil, arith}
+use Rattle.std.proofs.Common.{◌≡◌, ◌++◌, [], drop, length, sym, ap, ◌∙◌, append-nil, arith}
 use Rattle.stations.specs.BadPages.{front_octets}
 use Rattle.stations.proofs.FrontOctets.{front_past}
 use Rattle.stations.proofs.open_page.append_front.Goals as goal
