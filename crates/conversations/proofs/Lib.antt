@@ -5,6 +5,7 @@ pub mod FramesWritten
 pub mod TalkedLines
 mod HexPieces
 pub mod FullAnswerer
+pub mod GivenLines
 pub mod Led
 mod LineOctets
 mod ServedLines

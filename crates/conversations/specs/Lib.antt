@@ -3,10 +3,12 @@ pub mod Conversations
 pub mod Conversing
 pub mod FrameLines
 pub mod FrameLineLaws
+pub mod Given
 pub mod Hearing
 pub mod Holding
 pub mod Led
 pub mod LineLaws
+pub mod LineRows
 pub mod Lines
 pub mod Reading
 pub mod Refusing

@@ -1,10 +1,14 @@
 //! Laws of what is heard, of where a conversation's station stands, and of what an answerer stores. Nothing runs.
 
 ghost use Rattle.conversations.specs.Answering.{NoneAreLeft};
+ghost use Rattle.conversations.specs.Answering.{limited_behaviour};
+ghost use Rattle.conversations.specs.Given.{AnswerersHangUp, BeginsAt, CallersHangUp, KindsAreHeard, LinesGiveAlways, QuietEndsWaitsOf, SpeedsAreTold};
 ghost use Rattle.conversations.specs.Hearing.{ExpectsWhatIsHeard};
 ghost use Rattle.conversations.specs.Holding.{HeldIsNotConfirmed};
-ghost use Rattle.conversations.specs.Led.{AnswerersAreLed, CallersAreLed};
+ghost use Rattle.conversations.specs.Led.{AnswerersAreLed, CallersAreLed, caller_behaviour};
 ghost use Rattle.conversations.specs.StoredLines.{LastIsSaid, RefusedIsLast, StoredIsSaid};
+ghost use Rattle.stations.specs.Limiting.{LimitedFields};
+ghost use Rattle.stations.specs.Stopping.{StoppableCallerFields};
 
 use crate::answering::PageStore;
 
@@ -13,6 +17,32 @@ pub mod lines;
 /// What `hear` says is what is heard, and nothing else.
 pub fn hears_are_heard()
     ensures { ExpectsWhatIsHeard }
+{}
+
+/// Frames are heard as frames and a training check as a check, at the agreed speed alone; frames by V.21 always.
+pub fn kinds_are_heard()
+    ensures kinds { KindsAreHeard }
+    ensures speeds { SpeedsAreTold }
+{}
+
+/// What each line gives a station, and at which lines it begins.
+pub fn lines_give()
+    ensures gives { LinesGiveAlways }
+    ensures begins { BeginsAt }
+{}
+
+/// At a quiet line a station is given the end of the wait that is over then: of T5, 60 s after the line at which it was first shown.
+pub fn quiet_ends_waits()
+    ensures caller { QuietEndsWaitsOf StoppableCallerFields caller_behaviour }
+    ensures answerer { QuietEndsWaitsOf LimitedFields limited_behaviour }
+{
+    terminals::laws::passed_are_over();
+}
+
+/// A conversation that hung up, as for a page that can't be stored, gives DCN and nothing else, whatever was to be sent.
+pub fn dcn_is_given()
+    ensures caller { CallersHangUp }
+    ensures answerer { AnswerersHangUp }
 {}
 
 /// After a line that was taken each station stands where its table leads by what the line gives it, whoever is on the line, unless its call

@@ -3,11 +3,19 @@
 ghost use Rattle.conversations.specs.FrameLineLaws.{ContentsAreHeard, FramesByOctets, ReadsFramesSent, SaysItsFrames};
 ghost use Rattle.conversations.specs.LineLaws.{AnswerersFitLines, CallersFitLines, ChannelsHaveNames, KindsHaveNames, ReadsWhatIsSent};
 ghost use Rattle.conversations.specs.LineLaws.{SaysOneThing, SentFitsALine};
+ghost use Rattle.conversations.specs.LineRows.{CarriersByOctets, EndsByOctets, WordsByOctets};
 
 /// Two carriers have two names, and so do the two kinds of bits.
 pub fn names_differ()
     ensures channels { ChannelsHaveNames }
     ensures kinds { KindsHaveNames }
+{}
+
+/// The names of carriers and kinds, the words of lines, and what ends an answer, by octets.
+pub fn words_by_octets()
+    ensures carriers { CarriersByOctets }
+    ensures words { WordsByOctets }
+    ensures ends { EndsByOctets }
 {}
 
 /// A line says at most one thing, at one time.
