@@ -9,6 +9,7 @@ pub mod Frames
 pub mod Handles
 pub mod Hearing
 pub mod Images
+pub mod NumberRows
 pub mod Numbers
 pub mod Owned
 pub mod Pages

@@ -1,8 +1,8 @@
 use Rattle.std.proofs.Common.{◌≡◌, ◌≤◌, ◌*◌, ◌-◌, ◌++◌, [], ◌∷◌, ℕ, List, length, take, drop, arith, length-drop, ap, ◌∙◌}
 use Rattle.std.proofs.lemmas.List.{take_rest}
 use Rattle.raster.specs.Pages.{PagePixels}
-use Rattle.raster.specs.Pbm.{row_pixels, stride}
-use Rattle.g3fax.proofs.RasterLemmas.{length-raster_rows, rows_none, rows_more, row_ends}
+use Rattle.raster.specs.Pbm.{stride}
+use Rattle.g3fax.proofs.RasterLemmas.{rows_none, rows_more, row_ends}
 use Rattle.g3fax.proofs.rasters.rows_of.Goals as goal
 
 pub loop-number-init : goal.loop-number-init
