@@ -93,7 +93,9 @@ def edits(pairs):
 
 def below(crate):
     """The repository's crates that a crate stands on, directly or not, and itself last; and the row of each in crates.txt."""
-    rows = dict(line.split(":") for line in read(f"{ROOT}/crates.txt").split("\n") if ":" in line)
+    lines = [line.split(":") for line in read(f"{ROOT}/crates.txt").split("\n") if ":" in line]
+    # the library for C is of another kind, which is said after its name
+    rows = {name.split()[0]: lower for name, lower in lines}
     found = [crate]
     for name in found:
         found += [low for low in rows[name].split() if low in rows and low not in found]
