@@ -1,0 +1,9 @@
+pub mod Within
+pub mod Silent
+pub mod Left
+pub mod Follow
+pub mod CallerFollows
+pub mod AnswererFollows
+pub mod Limited
+pub mod Following
+pub mod Safe

@@ -1,0 +1,4 @@
+//! Two terminals joined by a line, and what holds of them whatever happens. Nothing runs.
+#![tactic(auto)]
+
+pub mod laws;
