@@ -1,12 +1,12 @@
 -- What happens to the answerer's terminal is followed by the simulated call.
 use Rattle.std.proofs.Common.{◌≡◌, ◌≢◌, ◌⊎◌, inl, inr, ℕ, ◌+◌, Bool, true, false, cond, Option, Some, None, List, [], ◌∷◌, ◌++◌, refl, ap}
 use Rattle.std.proofs.Common.{sym, subst, ◌∙◌, append-nil}
-use Rattle.std.specs.Prelude.{map}
 use Rattle.raster.specs.Pages.{PagePixels}
 use Rattle.signals.specs.Signals.{PlainSignal, dcn}
 use Rattle.stations.specs.AnswererKeeping.{AnswerersKeep}
 use Rattle.stations.specs.AnswererStep.{Answerer, AnswererAnswer, Steps, answerer_items, answerer_step, leaves}
 use Rattle.stations.specs.Inputs.{AnswererInput, listens, trains, t2, t1, is_busy, PlainItem, framed, checked}
+use Rattle.stations.specs.Layers.{is_good_training}
 use Rattle.stations.specs.Limiting.{BusyBefore, LimitedFields, busy_while, freed, limited_step}
 use Rattle.stations.specs.Stopping.{stop_turn}
 use Rattle.stations.specs.Taken.{FrontStays, answered_with, with_front}
@@ -26,6 +26,7 @@ use Rattle.line_sim.specs.declared.event.Event.{Event}
 use Rattle.line_sim.specs.declared.event.Event.TheVariants.{AnswererT1, AnswererT2, Busy, DeliverToAnswerer, LoseToAnswerer, Spoil}
 use Rattle.joined_terminals.specs.Happening.{Arrives, ComesToAnswerer, FirstComes}
 use Rattle.joined_terminals.specs.Joining.{AnswererSends, AnswererTakes, Joined, answerer_begins}
+use Rattle.joined_terminals.proofs.Checks.{good_as_sent, limited_alike, spoilt, spoilt_is_bad}
 use Rattle.joined_terminals.proofs.Follow.{AnswererSide, CallerSide, Follows, Reaches, after_known, answerer_as, caller_as, stays}
 use Rattle.joined_terminals.proofs.Left.{answerer_left, caller_left, reply_taken, said_by, said_is}
 use Rattle.joined_terminals.proofs.Limited.{LimitedIs, limited_ended, limited_is, limited_leaves, told}
@@ -331,6 +332,15 @@ heard known signal others j w cg gone station turn c a within h (inl is) =
     (record { represents = c.represents; out = without_first within }) (record { is = a.is; out = a.out })
     (subst (λ s. GivenOrCut j.answerer.station (Some (listens s)) station turn) leaving h))
 
+-- checks that are both good or both bad are taken alike
+checks_alike : (old : LimitedFields) (a b : List ℕ) (new : LimitedFields) (turn : Turn) →
+    is_good_training a old.station.params ≡ is_good_training b old.station.params → GivenOrCut old (Some (trains a)) new turn →
+    GivenOrCut old (Some (trains b)) new turn
+checks_alike old a b new turn e (inl steps) =
+    let same = limited_alike old.limits old.station a b e in
+    inl (steps.0 ∙ ap (λ (x : AnswererAnswer). x.next) same, steps.1 ∙ ap (λ (x : AnswererAnswer). x.turn) same)
+checks_alike old a b new turn e (inr h) = inr h
+
 -- a training check comes
 trained : StationsKnown → (sent octets : List ℕ) → Arrives sent octets → (others : List PlainItem) (j : Joined) (w : World) (cg gone : Bool)
     (station : LimitedFields) (turn : Turn) → CallerSide cg j w → AnswererSide gone j w →
@@ -342,12 +352,13 @@ trained known sent octets arrives others j w cg gone station turn c a within h =
     let r = reaches_answerer not within w refl in
     after_known r.steps (answerer_spoke (record j { to_answerer = others }) station turn) w
     (record w { to_answerer = checked sent ∷ r.more }) r.there
-    (at arrives r.more (record { represents = c.represents; out = r.within }) (record { is = a.is; out = a.out }))
+    (at (is_good_training octets j.answerer.station.station.params) refl r.more (record { represents = c.represents; out = r.within }) (record { is = a.is; out = a.out }))
   where
-    at : Arrives sent octets → (more : List PlainItem) → CallerSide cg (record j { to_answerer = others }) (record w { to_answerer = more }) →
+    at : (good : Bool) → is_good_training octets j.answerer.station.station.params ≡ good → (more : List PlainItem) →
+        CallerSide cg (record j { to_answerer = others }) (record w { to_answerer = more }) →
         AnswererSide gone (record j { to_answerer = others }) (record w { to_answerer = more }) →
         Reaches (answerer_spoke (record j { to_answerer = others }) station turn) (record w { to_answerer = checked sent ∷ more })
-    at (inl same) more c a =
+    at true e more c a =
         given_or_cut known (record j { to_answerer = others }) (checked sent ∷ more) (record w { to_answerer = more }) cg gone station
         (trains sent) turn c a
         (λ full.
@@ -356,17 +367,21 @@ trained known sent octets arrives others j w cg gone station turn c a within h =
           come = λ s. refl;
           skip = (LoseToAnswerer, Done) ∷ [];
           skipped = refl;
-        }) (subst (λ os. GivenOrCut j.answerer.station (Some (trains os)) station turn) same h)
-    at (inr spoiled) more c a =
+        })
+        (checks_alike j.answerer.station octets sent station turn
+        (e ∙ sym (good_as_sent sent octets j.answerer.station.station.params arrives e)) h)
+    at false e more c a =
         given_or_cut known (record j { to_answerer = others }) (checked sent ∷ more) (record w { to_answerer = more }) cg gone station
-        (trains (map (λ octet. 255) sent)) turn c a
+        (trains (spoilt sent)) turn c a
         (λ full.
         record {
           events = (Spoil, Done) ∷ (DeliverToAnswerer, Done) ∷ [];
           come = λ s. refl;
           skip = (LoseToAnswerer, Done) ∷ [];
           skipped = refl;
-        }) (subst (λ os. GivenOrCut j.answerer.station (Some (trains os)) station turn) spoiled h)
+        })
+        (checks_alike j.answerer.station octets (spoilt sent) station turn
+        (e ∙ sym (spoilt_is_bad sent j.answerer.station.station.params)) h)
 
 -- the first item on its way to the answerer comes
 pub answerer_heard : StationsKnown → (j new : Joined) (w : World) → Follows j w → ComesToAnswerer j new → Reaches new w

@@ -5,5 +5,6 @@ pub mod Follow
 pub mod CallerFollows
 pub mod AnswererFollows
 pub mod Limited
+pub mod Checks
 pub mod Following
 pub mod Safe

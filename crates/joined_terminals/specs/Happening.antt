@@ -1,5 +1,6 @@
 -- What happens to two joined terminals and to the line between them.
-use Rattle.std.specs.Prelude.{◌≡◌, ◌⊎◌, ◌++◌, ℕ, Bool, false, List, [], ◌∷◌, map}
+use Rattle.std.specs.Prelude.{◌≡◌, ◌≤◌, ◌++◌, ℕ, Bool, false, List, [], ◌∷◌}
+use Rattle.signals.specs.Training.{longest_zeros}
 use Rattle.stations.specs.Inputs.{PlainItem, framed, checked}
 use Rattle.stations.specs.declared.waiting.Wait.{Wait}
 use Rattle.terminals.specs.Hearing.{PlainInput, said, check, over, busy}
@@ -31,9 +32,10 @@ pub data AreLeft : List PlainItem → List PlainItem → Type 0 where
   kept : {item : PlainItem} {some all : List PlainItem} → AreLeft some all → AreLeft (item ∷ some) (item ∷ all)
   lost : {item : PlainItem} {some all : List PlainItem} → AreLeft some all → AreLeft some (item ∷ all)
 
--- a training check as it comes: as it was sent, or spoiled, with octets FF alone
+-- A training check as it comes: any octets, as they were sent or damaged, but damage makes no run of octets 00 longer. A check is all 00,
+-- and its longest run of 00 decides whether it is good.
 abbrev pub Arrives : List ℕ → List ℕ → Type 0
-Arrives sent octets = (octets ≡ sent) ⊎ (octets ≡ map (λ octet. 255) sent)
+Arrives sent octets = longest_zeros octets ≤ longest_zeros sent
 
 -- an item comes as an input: a frame as its signal, a training check as octets
 abbrev pub ComesAs : PlainItem → PlainInput → Type 0
