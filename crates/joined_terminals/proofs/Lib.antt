@@ -8,3 +8,5 @@ pub mod Limited
 pub mod Checks
 pub mod Following
 pub mod Safe
+pub mod Pieces
+pub mod Bursts

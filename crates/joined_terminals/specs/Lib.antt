@@ -1,3 +1,4 @@
 pub mod Joining
 pub mod Happening
+pub mod Octets
 pub mod Safety
