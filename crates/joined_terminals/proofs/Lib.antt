@@ -10,3 +10,4 @@ pub mod Following
 pub mod Safe
 pub mod Pieces
 pub mod Bursts
+pub mod BurstPieces

@@ -69,8 +69,8 @@ pub record LinesLose (old new : Joined) : Type 0 where
   pub callers : AreLeft to_caller old.to_caller
   pub is : new ≡ record old { to_answerer = to_answerer; to_caller = to_caller }
 
--- What each of these makes of two joined terminals, by the contracts of `Terminal`. Refused memory is no happening of its own: the terminal
--- stays as it is, or a frame is lost.
+-- What each of these makes of two joined terminals, by the contracts of `Terminal`. There is none for refused memory: the terminal stays as
+-- it is, or a frame is lost, which is `lines_lose`.
 abbrev pub Makes : Happening → Joined → Joined → Type 0
 Makes comes_to_caller old new = ComesToCaller old new
 Makes comes_to_answerer old new = ComesToAnswerer old new

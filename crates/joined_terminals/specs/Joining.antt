@@ -39,25 +39,26 @@ CallerMakes old input new turn = CallerStepsUnlessCut old.cut old input new turn
 abbrev pub AnswererMakes : StepOf LimitedFields
 AnswererMakes old input new turn = LimitedStepsUnlessCut old.cut old input new turn
 
--- The caller has a turn, silence or not. If it isn't silence the caller begins to send: what is on its way to it is lost, what the
--- answerer's turn has left is lost too, and the bursts of its own turn get onto the line.
+-- What the caller's turn does to the line, by whether it is silence. A turn that isn't begins to be sent at once, since a program asks for
+-- bursts after each input, before it gives another one. So what is on its way to the caller is lost, and so is what the answerer's turn has
+-- left; the bursts of the caller's own turn get onto the line.
 abbrev pub caller_begins : Bool → Joined → Joined
 caller_begins true j = j
 caller_begins false j = record j { to_caller = []; caller_clear = true; answerer_clear = false }
 
--- the same of the answerer
+-- What the answerer's turn does to the line, by whether it is silence: one that isn't loses what is on its way to the answerer, and what
+-- the caller's turn has left.
 abbrev pub answerer_begins : Bool → Joined → Joined
 answerer_begins true j = j
 answerer_begins false j = record j { to_answerer = []; answerer_clear = true; caller_clear = false }
 
--- The caller's terminal is given an input, and takes it. Where its turn isn't silence it begins to send at once: a program asks for bursts
--- after each input.
+-- the caller's terminal takes an input, by the contract of its calls; where its turn isn't silence the caller begins to send
 pub record CallerTakes (input : PlainInput) (old new : Joined) : Type 0 where
   pub caller : Speaking StoppableCallerFields
   pub takes : Takes StoppableCallerFields CallerMakes old.caller input caller
   pub is : new ≡ caller_begins (is_silent takes.turn) (record old { caller = caller })
 
--- the answerer's terminal is given an input, and takes it; where its turn isn't silence it begins to send
+-- the answerer's terminal takes an input, by the contract of its calls; where its turn isn't silence the answerer begins to send
 pub record AnswererTakes (input : PlainInput) (old new : Joined) : Type 0 where
   pub answerer : Speaking LimitedFields
   pub takes : Takes LimitedFields AnswererMakes old.answerer input answerer

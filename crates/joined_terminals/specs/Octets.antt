@@ -1,5 +1,6 @@
 -- Two joined terminals that hear the octets of the line.
-use Rattle.std.specs.Prelude.{◌≡◌, ◌≢◌, ◌⊎◌, ◌++◌, ◌&&◌, Bool, true, ℕ, List, [], ◌∷◌, map, Result, Ok, Err}
+use Rattle.std.specs.Prelude.{◌≡◌, ◌≢◌, ◌⊎◌, ◌++◌, ◌&&◌, Bool, true, ℕ, List, [], ◌∷◌, map, Some, Result, Ok, Err}
+use Rattle.std.specs.declared.alloc.AllocError.{AllocError}
 use Rattle.raster.specs.Packed.{bits_of}
 use Rattle.raster.specs.declared.packed.Order.TheVariants.{LsbFirst}
 use Rattle.hdlc.specs.DeframerState.{DeframerState}
@@ -8,22 +9,28 @@ use Rattle.hdlc.specs.Gaps.{good}
 use Rattle.signals.specs.Signals.{PlainSignal, fcd, rcp}
 use Rattle.signals.specs.declared.params.Speed.{Speed}
 use Rattle.signals.specs.declared.signal.Side.{Side}
-use Rattle.stations.specs.Bursts.{PlainBurst, items_of}
+use Rattle.signals.specs.declared.signal.Side.TheVariants.{Caller as CallerSide, Answerer as AnswererSide}
+use Rattle.stations.specs.AnswererStep.{Answerer, answerer_items}
+use Rattle.stations.specs.Bursts.{PlainBurst, bursts_of, items_of}
+use Rattle.stations.specs.CallerStep.{Caller, caller_items}
 use Rattle.stations.specs.Inputs.{PlainItem, framed, checked}
 use Rattle.stations.specs.Laws.{Each}
 use Rattle.stations.specs.Limiting.{LimitedFields}
 use Rattle.stations.specs.Stopping.{StoppableCallerFields}
 use Rattle.stations.specs.declared.carrier.Carrier.TheVariants.{Training}
+use Rattle.stations.specs.declared.turn.Turn.{Turn}
 use Rattle.terminals.specs.Hearing.{HasHeard, PlainInput, contents, heard_of, said}
 use Rattle.terminals.specs.Runs.{Hears, TerminalFields}
-use Rattle.terminals.specs.Sending.{IsSent}
+use Rattle.terminals.specs.Sending.{IsSent, Sends}
 use Rattle.terminals.specs.Speaking.{Speaking, StepOf, Takes, is_silent}
+use Rattle.terminals.specs.Stations.{AnswererLends, CallerLends}
 use Rattle.terminals.specs.Writable.{AreFrames}
 use Rattle.terminals.specs.declared.fault.HearFault.{HearFault}
 use Rattle.terminals.specs.declared.fault.HearFault.TheVariants.{NothingTaken, FrameLost}
 use Rattle.terminals.specs.declared.sending.SentBurst.{SentBurst}
 use Rattle.joined_terminals.specs.Happening.{AreLeft, Happening, Makes}
-use Rattle.joined_terminals.specs.Joining.{AnswererMakes, CallerMakes, Joined, answerer_begins, caller_begins}
+use Rattle.joined_terminals.specs.Joining.{AnswererMakes, AnswererSends, CallerMakes, CallerSends, Joined, answerer_begins}
+use Rattle.joined_terminals.specs.Joining.{caller_begins}
 
 -- the signals of items, as they are heard; a training check says none
 abbrev pub said_of : List PlainItem → List PlainInput
@@ -40,8 +47,8 @@ abbrev pub IsFramed : PlainItem → Type 0
 IsFramed (framed signal) = Unit {0}
 IsFramed (checked octets) = ⊥
 
--- The law: of a burst of frames as it is sent, after octets in which no frame is open, each frame is heard, in order, and nothing else; and no
--- frame is open after it. By `turns_are_sent_whole` the bits of a turn's burst are these frames.
+-- The law: of a burst of frames as it is sent, after octets in which no frame is open, each frame is heard, in order, and nothing else; and
+-- no frame is open after it. By `turns_are_sent_whole` the bits of a turn's burst are these frames.
 abbrev pub BurstsAreHeard : Type 0
 BurstsAreHeard =
     (side : Side) (burst : PlainBurst) (later : List PlainBurst) (sent : SentBurst) (is : IsSent side burst later sent) (before : List ℕ) →
@@ -61,12 +68,25 @@ IsOfPage (fcd number octets) = Unit {0}
 IsOfPage rcp = Unit {0}
 IsOfPage _ = ⊥
 
--- Frames that may come in one piece of the line: frames of a page, and one other at the end. A turn has no other two in one burst, and
--- between bursts the carrier changes (law `bursts_cut` of `stations`).
+-- Frames that may come in one piece of the line: frames of a page, and one other at the end. No burst has others (law `bursts_are_pieces`),
+-- and between bursts the carrier changes.
 abbrev pub IsPiece : List PlainSignal → Type 0
 IsPiece [] = Unit {0}
 IsPiece (signal ∷ []) = Unit {0}
 IsPiece (signal ∷ next ∷ more) = IsOfPage signal × IsPiece (next ∷ more)
+
+-- the items of a burst are a piece, or a training check
+abbrev pub IsPieceOrCheck : PlainBurst → Type 0
+IsPieceOrCheck burst =
+    ((signals : List PlainSignal) × (burst.items ≡ map framed signals) × IsPiece signals) ⊎
+    ((octets : List ℕ) × (burst.items ≡ checked octets ∷ []))
+
+-- The law: each burst of a caller's turn is a piece or a training check, and one of an answerer's is one frame.
+pub record BurstsArePieces : Type 0 where
+  pub caller : (t : Caller) (turn : Turn) → Each IsPieceOrCheck (bursts_of t.params.speed (caller_items t turn))
+  pub answerer :
+      (s : Answerer) (turn : Turn) →
+      Each (λ burst. (signal : PlainSignal) × (burst.items ≡ framed signal ∷ [])) (bursts_of s.params.speed (answerer_items s turn))
 
 -- A piece of the line comes: what is heard of its octets are the frames of the first items on their way, in order, of which some may be
 -- lost; the others are still on their way. So the good frames are frames that were sent.
@@ -164,3 +184,14 @@ HearingTakesBy {S} steps =
 pub record HearingTakes : Type 0 where
   pub caller : HearingTakesBy CallerMakes
   pub answerer : HearingTakesBy AnswererMakes
+
+-- The law: what `next_burst` gives is a burst that goes onto the line, and the octets are that burst's.
+pub record SendingSends : Type 0 where
+  pub caller :
+      (j : Joined) (speaking : Speaking StoppableCallerFields) (sent : SentBurst) →
+      Sends {E = AllocError} CallerSide (λ v turn bursts. CallerLends v.station turn bursts) j.caller speaking (Ok (Some sent)) →
+      (new : Joined) × (sends : CallerSends j new) × (new.caller ≡ speaking) × IsSent CallerSide sends.burst sends.later sent
+  pub answerer :
+      (j : Joined) (speaking : Speaking LimitedFields) (sent : SentBurst) →
+      Sends {E = AllocError} AnswererSide (λ v turn bursts. AnswererLends v.station turn bursts) j.answerer speaking (Ok (Some sent)) →
+      (new : Joined) × (sends : AnswererSends j new) × (new.answerer ≡ speaking) × IsSent AnswererSide sends.burst sends.later sent

@@ -16,8 +16,8 @@ IsSafeJoined document j =
     IsSafe document (j.pages ++ j.answerer.station.station.pages) j.caller.station.station.page j.caller.station.station.ending
     j.answerer.station.station.ending
 
--- The law: whatever happens to two joined terminals, the pages taken and then those still there are the first of the caller's document, pixel
--- for pixel; each page that the caller counts confirmed is among them, and at most one more; and a normal end means all of them.
+-- The law: whatever happens to two joined terminals, the pages taken and then those still there are the first of the caller's document,
+-- pixel for pixel; each page that the caller counts confirmed is among them, and at most one more; and a normal end means all of them.
 abbrev pub JoinedAreSafe : Type 0
 JoinedAreSafe =
     (document : Document) (wish : Wish) (caps : Caps) (limits : Limits) (happens : List Happening) (first last : Joined) →

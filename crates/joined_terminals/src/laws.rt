@@ -1,11 +1,11 @@
 //! What holds of two joined terminals, whatever happens. Nothing runs.
 
-ghost use Rattle.joined_terminals.specs.Octets.{BurstsAreHeard, HearingTakes};
+ghost use Rattle.joined_terminals.specs.Octets.{BurstsAreHeard, BurstsArePieces, HearingTakes, SendingSends};
 ghost use Rattle.joined_terminals.specs.Safety.{JoinedAreSafe, TerminalsAreSafe};
 
-/// Whatever happens to two terminals that a half-duplex line joins, a caller whose call can be stopped and an answerer with limits, the
-/// pages taken out and those still there are the first ones of the caller's document, pixel for pixel; each confirmed page is among them,
-/// and at most one more; and a normal end of either station means all of them.
+/// Two terminals are joined by a half-duplex line: a caller whose call can be stopped, and an answerer with limits. Whatever happens, the
+/// pages taken out and those still there are the first of the caller's document, pixel for pixel; each confirmed page is among them, and
+/// at most one more; and a normal end of either station means all of them.
 pub fn joined_terminals_are_safe()
     ensures { JoinedAreSafe }
 {
@@ -18,8 +18,8 @@ pub fn joined_terminals_are_safe()
     stations::laws::answerers_keep();
 }
 
-/// The same of terminals that hear the octets of the line in pieces: what a terminal takes while it hears octets is taken one after the other,
-/// or lost.
+/// Such terminals are safe too while they hear the octets of the line, in pieces. What a terminal takes while it hears octets is taken one
+/// after the other, or lost.
 pub fn terminals_are_safe()
     ensures takes { HearingTakes }
     ensures safe { TerminalsAreSafe }
@@ -34,4 +34,13 @@ pub fn bursts_are_heard()
     hdlc::laws::flag_forgets();
     stations::laws::signals_arrive();
     raster::laws::bits_join();
+}
+
+/// A burst of a caller's turn has frames of a page and at most one other frame, which is its last, or is a training check; one of an
+/// answerer's is one frame. So a station answers no frame of a burst but its last. What `next_burst` gives are the octets of such a burst.
+pub fn bursts_are_pieces()
+    ensures pieces { BurstsArePieces }
+    ensures sends { SendingSends }
+{
+    stations::laws::bursts_cut();
 }

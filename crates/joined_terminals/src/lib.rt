@@ -1,4 +1,4 @@
-//! Two terminals joined by a line, and what holds of them whatever happens. Nothing runs.
+//! What holds of two terminals joined by a line, whatever happens. Nothing runs.
 #![tactic(auto)]
 
 pub mod laws;
