@@ -11,3 +11,4 @@ pub mod Safe
 pub mod Pieces
 pub mod Bursts
 pub mod BurstPieces
+pub mod Making

@@ -1,4 +1,5 @@
 pub mod Joining
 pub mod Happening
 pub mod Octets
+pub mod Calls
 pub mod Safety

@@ -1,4 +1,5 @@
-//! What holds of two terminals joined by a line, whatever happens. Nothing runs.
+//! What holds of two terminals joined by a line, whatever happens.
 #![tactic(auto)]
 
+pub mod happenings;
 pub mod laws;
