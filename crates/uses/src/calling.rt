@@ -1,6 +1,7 @@
 //! A caller's step, a terminal, an answerer by lines, a call of two stations over one line, and an answerer over octets; a call by a
 //! script, its picture, and many calls over a bad line.
 
+ghost use Rattle.joined_terminals.specs.Calls.{TakesOut};
 ghost use Rattle.line_sim.specs.Report.{Keeps};
 ghost use Rattle.std.specs.Prelude.{IfOk};
 
@@ -9,13 +10,14 @@ use call_tallies::drive_many;
 use calls::{BadLine, CallOptions, call_engine};
 use conversations::{Conversation, PageStore, TakeFault, TimedLine, answer_line};
 use faults::ToolFault;
+use joined_terminals::happenings::pages_are_taken;
 use line_sim::{Answered, Event, Feed, Report, World, WorldFault, answer_stream};
 use page_code::Coding;
-use raster::Document;
+use raster::{Document, Page};
 use signals::{Caps, Modems, PageWidth, Signal, Wish};
 use stations::{Caller, CallerIn, Item, LimitedAnswerer};
 use std::alloc::{AllocError, Global};
-use terminals::{AnswererTerminal, SentBurst};
+use terminals::{AnswererTerminal, SentBurst, Terminal};
 
 /// What the answerers of these programs can do: everything that this library has.
 const CAPS: Caps = Caps {
@@ -56,6 +58,13 @@ pub fn hears_octets(
 ) -> Result<Option<SentBurst>, AllocError> {
     let _heard = terminal.hear(octets);
     terminal.next_burst()
+}
+
+/// Takes the pages out of the answerer of two joined terminals: they come after those that were taken before.
+pub fn take_out(answerer: &mut Terminal<LimitedAnswerer>) -> Vec<Page>
+    ensures { TakesOut answerer.old.speaking answerer.new.speaking result.items }
+{
+    pages_are_taken(answerer)
 }
 
 /// A call that sends a document over a line whose first DIS is lost; the caller then hears nothing until its wait is over.
