@@ -1,10 +1,14 @@
 -- What a call of one of two joined terminals makes of both.
-use Rattle.std.specs.Prelude.{◌≡◌, ◌≢◌, ◌++◌, List, ◌∷◌, ℕ, Option, Some, None, Result}
+use Rattle.std.specs.Prelude.{◌≡◌, ◌≢◌, ◌++◌, true, List, [], ◌∷◌, ℕ, Option, Some, None, Result}
 use Rattle.raster.specs.Pages.{PagePixels}
 use Rattle.signals.specs.Signals.{PlainSignal}
 use Rattle.stations.specs.Inputs.{PlainItem, checked}
+use Rattle.signals.specs.declared.params.Caps.{Caps}
+use Rattle.signals.specs.declared.params.Wish.{Wish}
+use Rattle.stations.specs.Layers.{Document}
 use Rattle.stations.specs.Limiting.{LimitedFields}
 use Rattle.stations.specs.Stopping.{StoppableCallerFields}
+use Rattle.stations.specs.declared.limiting.Limits.{Limits}
 use Rattle.terminals.specs.Hearing.{HasHeard, heard_of}
 use Rattle.terminals.specs.Runs.{TerminalFields}
 use Rattle.terminals.specs.Speaking.{Speaking}
@@ -12,7 +16,7 @@ use Rattle.terminals.specs.declared.fault.HearFault.{HearFault}
 use Rattle.terminals.specs.declared.sending.SentBurst.{SentBurst}
 use Rattle.joined_terminals.specs.Happening.{Arrives, Happening, Makes}
 use Rattle.joined_terminals.specs.Happening.Happening.{answerer_sends, caller_sends, comes_to_answerer, pages_taken}
-use Rattle.joined_terminals.specs.Joining.{Joined}
+use Rattle.joined_terminals.specs.Joining.{Begins, Joined}
 use Rattle.joined_terminals.specs.Octets.{AnswererHears, CallerHears, PieceComes, Terminals, given_by}
 
 -- whatever the other terminal and the line are, this happens when the caller's terminal changes so
@@ -65,3 +69,20 @@ HappensToHearingAnswerer before octets after result =
     old.answerer_framing ≡ before.framing → HasHeard before.framing earlier →
     PieceComes old.joined.to_answerer (given_by result (heard_of earlier octets)) others →
     (new : Terminals) × AnswererHears old new × (new.joined.answerer ≡ after.speaking) × (new.answerer_framing ≡ after.framing)
+
+-- two terminals with a line on which nothing is
+abbrev pub at_rest : Speaking StoppableCallerFields → Speaking LimitedFields → Joined
+at_rest caller answerer =
+    record {
+      caller = caller;
+      answerer = answerer;
+      to_answerer = [];
+      to_caller = [];
+      caller_clear = true;
+      answerer_clear = true;
+      pages = [];
+    }
+
+-- two terminals are new: a call begins with them
+abbrev pub AreNew : Document → Wish → Caps → Limits → Speaking StoppableCallerFields → Speaking LimitedFields → Type 0
+AreNew document wish caps limits caller answerer = Begins document wish caps limits (at_rest caller answerer)

@@ -1,16 +1,38 @@
 //! Each call of a terminal is something that happens to two joined terminals. These functions make the call and nothing else; their clauses
 //! say what happens.
 
-ghost use Rattle.joined_terminals.specs.Calls.{AnswererGives, CallerGives, CheckComes, HappensToAnswerer, HappensToCaller, TakesOut};
+ghost use Rattle.joined_terminals.specs.Calls.{AnswererGives, AreNew, CallerGives, CheckComes, HappensToAnswerer, HappensToCaller, TakesOut};
 ghost use Rattle.joined_terminals.specs.Calls.{HappensToHearingAnswerer, HappensToHearingCaller};
 ghost use Rattle.joined_terminals.specs.Happening.Happening.{answerer_hangs_up, answerer_lost, answerer_stops, answerer_waits};
 ghost use Rattle.joined_terminals.specs.Happening.Happening.{caller_hangs_up, caller_lost, caller_stops, caller_waits, program_says};
-ghost use Rattle.std.specs.Prelude.{IfOk, OnOk};
+ghost use Rattle.std.specs.Prelude.{◌≡◌, ◌<◌, true, IfOk, OnOk};
 
-use raster::Page;
-use stations::{LimitedAnswerer, StoppableCaller, Wait};
-use std::alloc::AllocError;
+use raster::{Document, Page};
+use signals::{Caps, Wish};
+use stations::{Caller, CallerFault, LimitedAnswerer, Limits, StoppableCaller, Turn, Wait};
+use std::alloc::{AllocError, Global};
 use terminals::{HearFault, SentBurst, Terminal};
+
+/// Returns two new terminals: of a caller of a document, and of an answerer with limits, neither of them 0. `caps` must have a receiver and
+/// error correction. `WidthNotCallable` (26) if a page isn't 1,728, 2,048 or 2,432 pixels wide. Takes no memory.
+pub fn new_terminals(
+    alloc: Global,
+    document: Document,
+    wish: Wish,
+    caps: Caps,
+    limits: Limits,
+) -> Result<(Terminal<StoppableCaller>, Terminal<LimitedAnswerer>), CallerFault>
+    requires receiver { caps.receiver ≡ true }
+    requires ecm { caps.ecm ≡ true }
+    requires pages { 0 < limits.pages }
+    requires octets { 0 < limits.octets }
+    ensures { IfOk result (λ both. AreNew document wish caps limits both.0.speaking both.1.speaking) }
+{
+    let caller = Caller::new(alloc, document, wish)?;
+    let caller = Terminal::new(alloc, StoppableCaller::new(caller), Turn::Silent);
+    let (answerer, first) = LimitedAnswerer::new(alloc, caps, limits);
+    Ok((caller, Terminal::new(alloc, answerer, first)))
+}
 
 /// Calls `hear` of a caller's terminal, with its faults: what happens when the octets bring a piece of the line.
 pub fn caller_hears(caller: &mut Terminal<StoppableCaller>, octets: &[u8]) -> Result<(), HearFault>
