@@ -26,7 +26,8 @@ pub fn new_terminals(
     requires ecm { caps.ecm ≡ true }
     requires pages { 0 < limits.pages }
     requires octets { 0 < limits.octets }
-    ensures { IfOk result (λ both. AreNew document wish caps limits both.0.speaking both.1.speaking) }
+    ensures { IfOk result (λ both.
+        AreNew document wish caps limits both.0.speaking both.1.speaking) }
 {
     let caller = Caller::new(alloc, document, wish)?;
     let caller = Terminal::new(alloc, StoppableCaller::new(caller), Turn::Silent);
@@ -65,7 +66,8 @@ pub fn answerer_hears_training(
 
 /// Calls `wait_over` of a caller's terminal: its wait is over. `AllocError` if memory is refused.
 pub fn caller_waits(caller: &mut Terminal<StoppableCaller>, wait: Wait) -> Result<(), AllocError>
-    ensures { OnOk result (HappensToCaller (caller_waits wait) caller.old.speaking caller.new.speaking) }
+    ensures { OnOk result
+        (HappensToCaller (caller_waits wait) caller.old.speaking caller.new.speaking) }
 {
     caller.wait_over(wait)
 }
@@ -75,7 +77,8 @@ pub fn answerer_waits(
     answerer: &mut Terminal<LimitedAnswerer>,
     wait: Wait,
 ) -> Result<(), AllocError>
-    ensures { OnOk result (HappensToAnswerer (answerer_waits wait) answerer.old.speaking answerer.new.speaking) }
+    ensures { OnOk result
+        (HappensToAnswerer (answerer_waits wait) answerer.old.speaking answerer.new.speaking) }
 {
     answerer.wait_over(wait)
 }
@@ -85,7 +88,8 @@ pub fn answerer_is_told(
     answerer: &mut Terminal<LimitedAnswerer>,
     is: bool,
 ) -> Result<(), AllocError>
-    ensures { OnOk result (HappensToAnswerer (program_says is) answerer.old.speaking answerer.new.speaking) }
+    ensures { OnOk result
+        (HappensToAnswerer (program_says is) answerer.old.speaking answerer.new.speaking) }
 {
     answerer.set_busy(is)
 }
