@@ -12,3 +12,7 @@ pub mod Pieces
 pub mod Bursts
 pub mod BurstPieces
 pub mod Making
+pub mod DrivenWays
+pub mod DrivenCallers
+pub mod DrivenAnswerers
+pub mod DrivenSafe

@@ -1,5 +1,6 @@
 //! What holds of two joined terminals, whatever happens. Nothing runs.
 
+ghost use Rattle.joined_terminals.specs.DrivenSafety.{ConversationsAreSafe};
 ghost use Rattle.joined_terminals.specs.Octets.{BurstsAreHeard, BurstsArePieces, HearingTakes, SendingSends};
 ghost use Rattle.joined_terminals.specs.Safety.{JoinedAreSafe, TerminalsAreSafe};
 
@@ -43,4 +44,13 @@ pub fn bursts_are_pieces()
     ensures sends { SendingSends }
 {
     stations::laws::bursts_cut();
+}
+
+/// A driver joins two conversations of such stations, as `docs/STATION.md` says. Whatever happens, the pages stored are the first of the
+/// caller's document, pixel for pixel. With those that a store refused and those still in the answerer they have each confirmed page, and at
+/// most one more; and a normal end of either station means all of them.
+pub fn conversations_are_safe()
+    ensures { ConversationsAreSafe }
+{
+    terminals_are_safe();
 }
