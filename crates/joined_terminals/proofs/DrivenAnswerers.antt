@@ -122,8 +122,8 @@ module _ (d : Driven) where
 
   given_so : (new : TerminalFields LimitedFields) (given : PlainGiven) (brought : Bool) (others : List PlainItem) (silent : Bool) →
       Gives limited_behaviour d.answerer.terminal given new brought →
-      Comes IsPiece d.answerer.terminal.framing d.to_answerer given others →
-      TurnsSo limited_behaviour d.answerer.terminal given new silent →
+      (comes : Comes IsPiece d.answerer.terminal.framing d.to_answerer given others) →
+      TurnsSo limited_behaviour IsPiece d.answerer.terminal d.to_answerer others given comes new silent →
       Way (terminals d) (after_answerer d new.framing new.speaking others silent)
   given_so new nothing brought others silent gives comes turns =
       stays (terminals d) (after_answerer d new.framing new.speaking others silent)
@@ -160,7 +160,7 @@ module _ (d : Driven) where
         others = others;
         comes = comes.2;
         silent = silent;
-        taken = turns comes.0 comes.1;
+        taken = turns;
         is = refl;
       })
   given_so new (input x) brought others silent gives comes turns =
@@ -168,8 +168,8 @@ module _ (d : Driven) where
 
   lost_so : (new : TerminalFields LimitedFields) (given : PlainGiven) (others : List PlainItem) (silent : Bool) →
       LosesFrames limited_behaviour d.answerer.terminal given new →
-      Comes IsPiece d.answerer.terminal.framing d.to_answerer given others →
-      TurnsSo limited_behaviour d.answerer.terminal given new silent →
+      (comes : Comes IsPiece d.answerer.terminal.framing d.to_answerer given others) →
+      TurnsSo limited_behaviour IsPiece d.answerer.terminal d.to_answerer others given comes new silent →
       Way (terminals d) (after_answerer d new.framing new.speaking others silent)
   lost_so new (frames octets) others silent loses comes turns =
       by answerer_hears (terminals d) (after_answerer d new.framing new.speaking others silent)
@@ -183,7 +183,7 @@ module _ (d : Driven) where
         others = others;
         comes = comes.2;
         silent = silent;
-        taken = turns comes.0 comes.1;
+        taken = turns;
         is = refl;
       })
   lost_so new nothing others silent loses comes turns = absurd loses

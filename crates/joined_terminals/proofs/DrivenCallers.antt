@@ -157,8 +157,8 @@ module _ (d : Driven) where
 
   given_so : (new : TerminalFields StoppableCallerFields) (given : PlainGiven) (brought : Bool) (others : List PlainItem) (silent : Bool) →
       Gives caller_behaviour d.caller.terminal given new brought →
-      Comes IsOneAtMost d.caller.terminal.framing d.to_caller given others →
-      TurnsSo caller_behaviour d.caller.terminal given new silent →
+      (comes : Comes IsOneAtMost d.caller.terminal.framing d.to_caller given others) →
+      TurnsSo caller_behaviour IsOneAtMost d.caller.terminal d.to_caller others given comes new silent →
       Way (terminals d) (after_caller d new.framing new.speaking others silent)
   given_so new nothing brought others silent gives comes turns =
       stays (terminals d) (after_caller d new.framing new.speaking others silent)
@@ -196,7 +196,7 @@ module _ (d : Driven) where
         comes = comes.2;
         one = comes.3;
         silent = silent;
-        taken = turns comes.0 comes.1;
+        taken = turns;
         is = refl;
       })
   given_so new (input x) brought others silent gives comes turns =
@@ -204,8 +204,8 @@ module _ (d : Driven) where
 
   lost_so : (new : TerminalFields StoppableCallerFields) (given : PlainGiven) (others : List PlainItem) (silent : Bool) →
       LosesFrames caller_behaviour d.caller.terminal given new →
-      Comes IsOneAtMost d.caller.terminal.framing d.to_caller given others →
-      TurnsSo caller_behaviour d.caller.terminal given new silent →
+      (comes : Comes IsOneAtMost d.caller.terminal.framing d.to_caller given others) →
+      TurnsSo caller_behaviour IsOneAtMost d.caller.terminal d.to_caller others given comes new silent →
       Way (terminals d) (after_caller d new.framing new.speaking others silent)
   lost_so new (frames octets) others silent loses comes turns =
       by caller_hears (terminals d) (after_caller d new.framing new.speaking others silent)
@@ -220,7 +220,7 @@ module _ (d : Driven) where
         comes = comes.2;
         one = comes.3;
         silent = silent;
-        taken = turns comes.0 comes.1;
+        taken = turns;
         is = refl;
       })
   lost_so new nothing others silent loses comes turns = absurd loses

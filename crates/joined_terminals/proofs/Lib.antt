@@ -16,3 +16,5 @@ pub mod DrivenWays
 pub mod DrivenCallers
 pub mod DrivenAnswerers
 pub mod DrivenSafe
+pub mod DrivenAnswers
+pub mod DrivenCalls

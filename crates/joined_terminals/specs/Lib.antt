@@ -6,3 +6,4 @@ pub mod Safety
 pub mod Driven
 pub mod Steps
 pub mod DrivenSafety
+pub mod Answered

@@ -1,9 +1,9 @@
 -- What happens to two conversations, to the line between them and to the store.
 --
--- The driver's rule, as STATION says it. A line that says that octets or a training check have come is written only of what was sent and not
--- lost. Once a station has begun to speak the bursts of an older answer of the other one are void: the driver drops them, or the station
--- itself does, which is late. The steps stand in the order of the times of their lines: a late answer stands where its line does, before what
--- the other station has sent since.
+-- The driver's rule, as STATION says it. A line that says that octets or a training check have come is written only of what was sent and
+-- not lost. Once a station has begun to speak the bursts of an older answer of the other one are void: the driver drops them, or the
+-- station itself does, which is late. The steps stand in the order of the times of their lines: a late answer stands where its line does,
+-- before what the other station has sent since.
 use Rattle.std.specs.Prelude.{◌≡◌, ◌≢◌, ◌⊎◌, ◌++◌, ◌∷◌, [], ◌&&◌, ℕ, Bool, true, false, List, Option, Some, None, drop}
 use Rattle.conversations.specs.Answering.{StoreStep, StoresEach, limited_behaviour, pages_of}
 use Rattle.conversations.specs.Conversations.{Behaviour, ConversationFields, LosesFrames, PlainGiven, RefusesLine, TakesLine, gives}
@@ -40,8 +40,8 @@ use Rattle.joined_terminals.specs.Driven.{Driven, answerer_speaks, caller_speaks
 abbrev pub IsOneAtMost : List PlainSignal → Type 0
 IsOneAtMost signals = (first next : PlainSignal) (more : List PlainSignal) → signals ≢ first ∷ next ∷ more
 
--- What a line gives comes of what is on its way to the station, of which others are left: octets bring the good frames of a piece of it, and
--- a training check, of no octets where it is missed, comes in place of one that is the first on its way. Anything else comes of itself.
+-- What a line gives comes of what is on its way to the station, of which others are left: octets bring the good frames of a piece of it,
+-- and a training check, of no octets where it is missed, comes in place of one that is the first on its way. Anything else comes of itself.
 abbrev pub Comes : (List PlainSignal → Type 0) → DeframerState → List PlainItem → PlainGiven → List PlainItem → Type 0
 Comes fits framing items (frames octets) others =
     (before : List ℕ) × HasHeard framing before × (comes : PieceComes items (heard_of before octets) others) × fits comes.signals
@@ -53,21 +53,25 @@ Comes fits framing items nothing others = others ≡ items
 Comes fits framing items stopping others = others ≡ items
 Comes fits framing items losing others = others ≡ items
 
--- whether all turns that a terminal took of what a line gives are silence
-abbrev pub TurnsSo : {S : Type 0} → Behaviour S → TerminalFields S → PlainGiven → TerminalFields S → Bool → Type 0
-TurnsSo b old nothing new silent = silent ≡ true
-TurnsSo b old stopping new silent = silent ≡ is_silent (b.stop_says old.speaking.station)
-TurnsSo b old losing new silent = silent ≡ true
-TurnsSo b old (frames octets) new silent =
-    (before : List ℕ) → HasHeard old.framing before → TakesSo b.steps old.speaking (heard_of before octets) new.speaking silent
-TurnsSo {S} b old (input x) new silent = (takes : Takes S b.steps old.speaking x new.speaking) × (silent ≡ is_silent takes.turn)
+-- whether all turns that a terminal took of what a line gives, which comes so, are silence
+abbrev pub TurnsSo :
+    {S : Type 0} → Behaviour S → (fits : List PlainSignal → Type 0) (old : TerminalFields S) (items others : List PlainItem)
+    (given : PlainGiven) → Comes fits old.framing items given others → TerminalFields S → Bool → Type 0
+TurnsSo b fits old items others nothing comes new silent = silent ≡ true
+TurnsSo b fits old items others stopping comes new silent = silent ≡ is_silent (b.stop_says old.speaking.station)
+TurnsSo b fits old items others losing comes new silent = silent ≡ true
+TurnsSo b fits old items others (frames octets) comes new silent =
+    TakesSo b.steps old.speaking (heard_of comes.0 octets) new.speaking silent
+TurnsSo {S} b fits old items others (input x) comes new silent =
+    (takes : Takes S b.steps old.speaking x new.speaking) × (silent ≡ is_silent takes.turn)
 
 -- what a line gives comes of the line of the call, and the caller's turn does to that line what it does
-pub record CallerIsGiven (given : PlainGiven) (old : Driven) (caller : ConversationFields StoppableCallerFields) (new : Driven) : Type 0 where
+pub record CallerIsGiven (given : PlainGiven) (old : Driven) (caller : ConversationFields StoppableCallerFields) (new : Driven) :
+    Type 0 where
   pub others : List PlainItem
   pub comes : Comes IsOneAtMost old.caller.terminal.framing old.to_caller given others
   pub silent : Bool
-  pub turns : TurnsSo caller_behaviour old.caller.terminal given caller.terminal silent
+  pub turns : TurnsSo caller_behaviour IsOneAtMost old.caller.terminal old.to_caller others given comes caller.terminal silent
   pub is : new ≡ caller_speaks silent (record old { caller = caller; to_caller = others })
 
 -- the same of the answerer
@@ -75,7 +79,7 @@ pub record AnswererIsGiven (given : PlainGiven) (old : Driven) (answerer : Conve
   pub others : List PlainItem
   pub comes : Comes IsPiece old.answerer.terminal.framing old.to_answerer given others
   pub silent : Bool
-  pub turns : TurnsSo limited_behaviour old.answerer.terminal given answerer.terminal silent
+  pub turns : TurnsSo limited_behaviour IsPiece old.answerer.terminal old.to_answerer others given comes answerer.terminal silent
   pub is : new ≡ answerer_speaks silent (record old { answerer = answerer; to_answerer = others })
 
 -- the caller takes a line, by the contract of `take`
@@ -127,8 +131,8 @@ pub record StoresPages (old new : Driven) : Type 0 where
   pub stores : StoresEach appends old.stored (pages_of old.answerer) stored
   pub is : new ≡ record old { answerer = with_pages_taken old.answerer; stored = stored }
 
--- the pages of the answerer before one that is refused are stored, in order; that one and those after it are dropped, and the answerer hangs
--- up with DCN in place of its turn
+-- the pages of the answerer before one that is refused are stored, in order; that one and those after it are dropped, and the answerer
+-- hangs up with DCN in place of its turn
 pub record RefusesPage (old new : Driven) : Type 0 where
   pub all_kept : old.unkept ≡ []
   pub front : List PagePixels

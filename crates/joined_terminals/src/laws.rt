@@ -1,5 +1,6 @@
 //! What holds of two joined terminals, whatever happens. Nothing runs.
 
+ghost use Rattle.joined_terminals.specs.Answered.{AnswersAreSteps};
 ghost use Rattle.joined_terminals.specs.DrivenSafety.{ConversationsAreSafe};
 ghost use Rattle.joined_terminals.specs.Octets.{BurstsAreHeard, BurstsArePieces, HearingTakes, SendingSends};
 ghost use Rattle.joined_terminals.specs.Safety.{JoinedAreSafe, TerminalsAreSafe};
@@ -51,6 +52,13 @@ pub fn bursts_are_pieces()
 /// most one more; and a normal end of either station means all of them.
 pub fn conversations_are_safe()
     ensures { ConversationsAreSafe }
+{
+    terminals_are_safe();
+}
+
+/// What `answer` of a conversation promises of a line, of a caller and of an answerer whose pages are stored, is a list of such steps.
+pub fn answers_are_steps()
+    ensures { AnswersAreSteps }
 {
     terminals_are_safe();
 }
