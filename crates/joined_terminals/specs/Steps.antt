@@ -3,7 +3,8 @@
 -- The driver's rule, as STATION says it. A line that says that octets or a training check have come is written only of what was sent and
 -- not lost. Once a station has begun to speak the bursts of an older answer of the other one are void: the driver drops them, or the
 -- station itself does, which is late. The steps stand in the order of the times of their lines: a late answer stands where its line does,
--- before what the other station has sent since.
+-- before what the other station has sent since. What is on its way to a station at the time of a line whose answer isn't silence is lost,
+-- also if that answer is withheld. After a page was refused the answerer takes no line: its process ends.
 use Rattle.std.specs.Prelude.{◌≡◌, ◌≢◌, ◌⊎◌, ◌++◌, ◌∷◌, [], ◌&&◌, ℕ, Bool, true, false, List, Option, Some, None, drop}
 use Rattle.conversations.specs.Answering.{StoreStep, StoresEach, limited_behaviour, pages_of}
 use Rattle.conversations.specs.Conversations.{Behaviour, ConversationFields, LosesFrames, PlainGiven, RefusesLine, TakesLine, gives}
