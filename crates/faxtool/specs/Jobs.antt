@@ -16,7 +16,7 @@ use Rattle.raster.specs.Pixels.{IsWidth}
 use Rattle.raster.specs.declared.packed.Order.{Order}
 use Rattle.raster.specs.declared.packed.Order.TheVariants.{LsbFirst, MsbFirst}
 use Rattle.captures.specs.declared.frames.ListForm.{ListForm}
-use Rattle.captures.specs.declared.frames.ListForm.TheVariants.{Explained, Plain, Records}
+use Rattle.commands.specs.Runs.{list_form}
 use Rattle.faults.specs.declared.fault.ToolFault.TheVariants.{No}
 use Rattle.signals.specs.declared.params.Caps.{Caps}
 use Rattle.signals.specs.declared.params.Modems.{Modems}
@@ -28,12 +28,12 @@ use Rattle.calls.specs.declared.losses.BadLine.{BadLine}
 use Rattle.calls.specs.declared.options.CallOptions.{CallOptions}
 use Rattle.page_files.specs.declared.options.DecodeOptions.{DecodeOptions}
 use Rattle.page_files.specs.declared.options.PageForm.{PageForm}
-use Rattle.faxtool.specs.declared.args.station_words.GivenLimits.{GivenLimits}
-use Rattle.faxtool.specs.declared.args.station_words.GivenWaits.{GivenWaits}
-use Rattle.faxtool.specs.declared.files.output.Rights.{Rights}
-use Rattle.faxtool.specs.declared.files.output.Rights.TheVariants.{Mode, Private}
-use Rattle.faxtool.specs.declared.commands.Command.{Command}
-use Rattle.faxtool.specs.declared.commands.Command.TheVariants.{Answer, Call, Captures, Code, Decode, Dial, Drive, Each, Frames, Identify, Several, Show, Version}
+use Rattle.commands.specs.declared.station.given.GivenLimits.{GivenLimits}
+use Rattle.commands.specs.declared.station.given.GivenWaits.{GivenWaits}
+use Rattle.commands.specs.declared.files.output.Rights.{Rights}
+use Rattle.commands.specs.declared.files.output.Rights.TheVariants.{Mode, Private}
+use Rattle.commands.specs.declared.command.Command.{Command}
+use Rattle.commands.specs.declared.command.Command.TheVariants.{Answer, Call, Captures, Code, Decode, Dial, Drive, Each, Frames, Identify, Several, Show, Version}
 use Rattle.faxtool.specs.declared.args.words.Request.{Request}
 use Rattle.faxtool.specs.declared.args.words.Outcome.{Outcome}
 use Rattle.faxtool.specs.declared.args.words.Outcome.TheVariants.{Done, Fault, Incomplete, Words}
@@ -309,10 +309,6 @@ coding_named (Some name) = if bytes_eq name (codes "mh") || bytes_eq name (codes
 abbrev pub order_named : Option Text → Order
 order_named None = MsbFirst
 order_named (Some name) = if bytes_eq name (codes "lsb") then LsbFirst else MsbFirst
-
--- what is written of each frame: records if they are asked for, otherwise lines, with words if those are
-abbrev pub list_form : Bool → Bool → ListForm
-list_form records words = if records then Records else (if words then Explained else Plain)
 
 -- the bit order on a line: `lsb`, unless `msb` is given
 abbrev pub line_order_named : Option Text → Order

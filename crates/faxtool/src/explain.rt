@@ -1,7 +1,7 @@
 //! How a fault is shown: a line, and one of words where they are asked for.
 
 ghost use Rattle.faxtool.specs.declared.args.words.Outcome.TheVariants.{Fault};
-ghost use Rattle.faxtool.specs.declared.context.Cause.TheVariants.{EmptyRuns, NoEofb};
+ghost use Rattle.commands.specs.declared.context.Cause.TheVariants.{EmptyRuns, NoEofb};
 ghost use Rattle.page_files.specs.NextT6.{EndsByEofb};
 ghost use Rattle.page_files.specs.Refusals.{EndsInEmptyRuns};
 ghost use Rattle.raster.specs.Packed.{bits_of};
@@ -14,12 +14,13 @@ mod told;
 
 use crate::args::parser::entry_named;
 use crate::args::words::Outcome;
-use crate::commands::Runs;
-use crate::context::{Cause, Context};
 use crate::explain::row_widths::same_width;
 use crate::explain::told::Told;
 use calls::line_fault_at;
 use clap::Error;
+use commands::Runs;
+use commands::context::{Cause, Context, first_not_callable};
+use commands::notices::is_explained;
 use faults::{
     Expected, Explained, FAILED, FaultKind, Known, LineFault, ToolFault, is_shown, write_fault,
     write_notice,
@@ -158,17 +159,6 @@ fn is_asked(rt: &HostRuntime) -> bool {
     false
 }
 
-/// Returns whether faults are explained in words unasked: on a terminal, and if the environment says so.
-pub fn is_explained(rt: &HostRuntime) -> bool {
-    if rt.stderr().is_terminal() {
-        return true;
-    }
-    match env::var(rt, "FAXTOOL_EXPLAIN") {
-        Ok(value) => value.as_str() == "1",
-        Err(_) => false,
-    }
-}
-
 /// Shows the fault of a command: a line, and if asked for one of words; or its record.
 pub fn show_fault<C: Runs>(command: &C, fault: ToolFault, context: &Context<'_>)
     requires { IfSome (C.width command.now) IsWidth }
@@ -182,24 +172,6 @@ pub fn show_fault<C: Runs>(command: &C, fault: ToolFault, context: &Context<'_>)
     if context.explains() {
         let _explained = eprintln!(rt; "{words}");
     }
-}
-
-/// Writes another message on standard error, as a line or a record. Errors: `Io` (8) if it can't be written, `NoMemory` (9).
-pub fn notice(context: &Context<'_>, words: &str) -> Result<(), ToolFault>
-    ensures { IfErr result IsOutside }
-{
-    notice_as(context.rt(), context.is_json(), words)
-}
-
-/// Writes another message on standard error, as a record if asked for. Errors: those of `notice`.
-pub fn notice_as(rt: &HostRuntime, json: bool, words: &str) -> Result<(), ToolFault>
-    ensures { IfErr result IsOutside }
-{
-    if json {
-        return write_notice(rt.alloc(), words, &mut rt.stderr());
-    }
-    eprintln!(rt; "{words}")?;
-    Ok(())
 }
 
 /// Shows the record of a fault on standard error.
@@ -299,18 +271,6 @@ fn width_not_callable(rt: &HostRuntime, images: &[u8]) -> Option<Cause> {
     let mut images = images;
     let document = read_pbm(rt.alloc(), &mut images, false).ok()?;
     first_not_callable(document.pages(), 0)
-}
-
-/// Returns the first of these pages that a call can't carry; so many pages are before them.
-pub(crate) fn first_not_callable(pages: &[Page], before: usize) -> Option<Cause> {
-    for (at, page) in pages.iter().enumerate() {
-        let width = page.width();
-        if PageWidth::of_pixels(width).is_none() {
-            let page = before.saturating_add(at).saturating_add(1);
-            return Some(Cause::NotCallable { page, width });
-        }
-    }
-    None
 }
 
 /// Returns the width of the rows of a page of T.4, if they all have the same one, and it isn't the one given.

@@ -2,14 +2,13 @@
 //! runs calls. Here the words are read, their command is run, and the program ends with its status.
 #![tactic(auto)]
 
+mod apart;
 mod args;
-mod commands;
-mod context;
+mod dispatch;
 mod explain;
-mod files;
 
 use args::words::{Outcome, read_words, status};
-use commands::dispatch::run_request;
+use dispatch::run_request;
 use explain::{refuse_no_text, refused, show_refusal};
 use faults::{NO_MEMORY, ToolFault};
 use std::process::ExitCode;

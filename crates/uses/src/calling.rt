@@ -1,5 +1,5 @@
 //! A caller's step, a terminal, an answerer by lines, a call of two stations over one line, and an answerer over octets; a call by a
-//! script, its picture, and many calls over a bad line.
+//! script, its picture, and many calls over a bad line; a command of the program.
 
 ghost use Rattle.joined_terminals.specs.Calls.{TakesOut};
 ghost use Rattle.line_sim.specs.Report.{Keeps};
@@ -8,6 +8,9 @@ ghost use Rattle.std.specs.Prelude.{IfOk};
 use call_pictures::{Ladder, WithDiagram, write_picture};
 use call_tallies::drive_many;
 use calls::{BadLine, CallOptions, call_engine};
+use commands::context::{Context, Messages};
+use commands::version::VersionCommand;
+use commands::{Completeness, Runs};
 use conversations::{Conversation, PageStore, TakeFault, TimedLine, answer_line};
 use faults::ToolFault;
 use joined_terminals::happenings::pages_are_taken;
@@ -156,4 +159,14 @@ pub fn call_table(
     let mut text = Vec::new(alloc);
     drive_many(alloc, image, &mut text, options, &line, times)?;
     Ok(text)
+}
+
+/// What `faxtool version` does.
+pub fn print_version(rt: &HostRuntime) -> Result<Completeness, ToolFault> {
+    let messages = Messages {
+        json: false,
+        explain: false,
+    };
+    let mut context = Context::new(rt, messages);
+    VersionCommand { proof: false }.run(&mut context)
 }

@@ -5,9 +5,9 @@ ghost use Rattle.faxtool.specs.Jobs.{HasNoCommand, IsCommandOf, has_captures, ha
 
 use crate::args::unfit::Unfit;
 use crate::args::words::{are_both_standard, is_named, line_order_in, text_in};
-use crate::commands::Command;
-use crate::commands::frames::two_captures::CapturesCommand;
 use clap::ArgMatches;
+use commands::Command;
+use commands::frames::two_captures::CapturesCommand;
 use std::alloc::{AllocError, Global};
 
 /// Returns whether an option for drawing two captures was given.

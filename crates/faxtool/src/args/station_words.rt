@@ -10,43 +10,14 @@ use crate::args::unfit::Unfit;
 use crate::args::words::{
     coding_in, copy_of, is_named, modems_named, number_in, options_in, page_of, text_in,
 };
-use crate::commands::Command;
-use crate::commands::station::{AnswerCommand, DialCommand};
-use crate::files::output::Rights;
 use clap::ArgMatches;
+use commands::Command;
+use commands::files::output::Rights;
+use commands::station::given::{GivenLimits, GivenWaits};
+use commands::station::{AnswerCommand, DialCommand};
 use page_code::Coding;
 use signals::{Caps, PageWidth};
 use std::alloc::{AllocError, Global};
-
-/// The lengths of the waits in milliseconds, if given, and whether a station says what it hears and until when it waits.
-#[derive(Clone, Copy, Debug, PartialEq, Eq)]
-pub struct GivenWaits {
-    /// T1.
-    pub t1: Option<u32>,
-    /// T2.
-    pub t2: Option<u32>,
-    /// T4.
-    pub t4: Option<u32>,
-    /// T5.
-    pub t5: Option<u32>,
-    /// True if it says what it hears and until when it waits.
-    pub hears: bool,
-    /// True if it says its bursts by V.21 as the contents of their frames.
-    pub frames: bool,
-    /// How late an answer may come in milliseconds, if given.
-    pub late: Option<u32>,
-}
-
-/// The limits of an answerer's call, if given.
-#[derive(Clone, Copy, Debug, PartialEq, Eq)]
-pub struct GivenLimits {
-    /// The most pages that are stored.
-    pub pages: Option<u32>,
-    /// The most octets of their files.
-    pub octets: Option<u32>,
-    /// The seconds after which the call is stopped.
-    pub seconds: Option<u32>,
-}
 
 /// Returns the command of one station, if all its values are given and its options go together.
 pub(crate) fn station_command(

@@ -1,0 +1,4 @@
+-- The lemmas of the commands.
+mod FromLemmas
+mod NoteLemmas
+mod TalkLemmas

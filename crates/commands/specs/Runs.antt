@@ -1,0 +1,200 @@
+-- What can come of each command: which engine ran, by that engine's own definition, and what the program ends with.
+--
+-- No clause says what a file holds. So the octets that a command has read, and what a writer had before and after, are some octets of which
+-- the engine's definition holds.
+use Rattle.std.specs.Prelude.{◌≡◌, ◌⊎◌, ◌<◌, ◌&&◌, ◌||◌, ◌-◌, ℕ, Bool, List, Option, Some, None, Result, Ok, Err, not, false, true, is_some, codes, drop}
+use Rattle.std.specs.Prelude.{IfErr, IfOk, if◌then◌else◌, length, max}
+use Rattle.call_tallies.specs.ManyCalls.{TellsMany}
+use Rattle.captures.specs.declared.frames.ListForm.{ListForm}
+use Rattle.captures.specs.declared.frames.ListForm.TheVariants.{Explained, Plain, Records}
+use Rattle.calls.specs.BadLines.{LeavesDriven, RefusesDriven}
+use Rattle.calls.specs.Ends.{ended_normally}
+use Rattle.calls.specs.SentBits.{Written}
+use Rattle.calls.specs.Transcripts.{end_text}
+use Rattle.line_sim.specs.declared.live.Ending.{Ending}
+use Rattle.terminals.specs.declared.watching.Refusal.{Refusal}
+use Rattle.faults.specs.Faults.{IsOutside}
+use Rattle.faults.specs.declared.fault.ToolFault.{ToolFault}
+use Rattle.faults.specs.declared.fault.ToolFault.TheVariants.{No}
+use Rattle.page_files.specs.CodedPages.{AppendsCode, RefusesShow, ShowsPage}
+use Rattle.page_files.specs.Identified.{Identifies}
+use Rattle.page_files.specs.LaterPages.{AnswersPage}
+use Rattle.page_files.specs.declared.identify.Identity.{Identity}
+use Rattle.page_files.specs.declared.identify.Identity.TheVariants.{Known, Several, Nothing}
+use Rattle.page_files.specs.declared.options.PageForm.{PageForm}
+use Rattle.raster.specs.Faults.{number_of}
+use Rattle.raster.specs.Pages.{PagePixels}
+use Rattle.raster.specs.Pbm.{AreImages, read_images}
+use Rattle.raster.specs.declared.fault.RasterFault.{RasterFault}
+use Rattle.stations.specs.CallerFields.{AreCallable}
+use Rattle.stations.specs.declared.stopping.CallEnd.{CallEnd}
+use Rattle.stations.specs.declared.stopping.CallEnd.TheVariants.{By, LineLost, Stopped}
+use Rattle.stations.specs.declared.waiting.Wait.{Wait}
+use Rattle.stations.specs.declared.waiting.Wait.TheVariants.{T1, T2, T4, T5}
+use Rattle.commands.specs.CallNotes.{has_left}
+use Rattle.commands.specs.declared.station.given.GivenWaits.{GivenWaits}
+use Rattle.commands.specs.declared.command.Completeness.{Completeness}
+use Rattle.commands.specs.declared.command.Completeness.TheVariants.{Lacking, Whole}
+use Rattle.commands.specs.declared.call.ScriptCommand.{ScriptCommand}
+use Rattle.commands.specs.declared.call.drives.DriveCommand.{DriveCommand}
+use Rattle.commands.specs.declared.code.CodeCommand.{CodeCommand}
+use Rattle.commands.specs.declared.decode.DecodeCommand.{DecodeCommand}
+use Rattle.commands.specs.declared.frames.FramesCommand.{FramesCommand}
+use Rattle.commands.specs.declared.show.ShowCommand.{ShowCommand}
+use Rattle.commands.specs.declared.station.DialCommand.{DialCommand}
+use Rattle.commands.specs.declared.station.Halted.{Halted}
+use Rattle.commands.specs.declared.station.Halted.TheVariants as halted
+
+-- all was done, or something is lacking
+abbrev pub completeness_of : Bool → Completeness
+completeness_of complete = if complete then Whole else Lacking
+
+-- ---- pages
+
+-- An image was read that has a row, and its code was written. Why an image is refused isn't said here: its octets are not kept.
+abbrev pub CodeGives : CodeCommand → Result Completeness ToolFault → Type 0
+CodeGives command given = IfOk given (λ completeness. (completeness ≡ Whole)
+    × ((page : PagePixels) × (0 < length page.rows) × (before after : Option (List ℕ))
+    × AppendsCode command.coding command.order page.width page.rows before after))
+
+-- the form of the page that `show` prints
+abbrev pub shown_form : ShowCommand → PageForm
+shown_form command = record { coding = command.coding; order = command.order; width = command.width; fine = false }
+
+-- the page was printed as text, or its code is refused
+abbrev pub ShowGives : ShowCommand → Result Completeness ToolFault → Type 0
+ShowGives command (Ok completeness) = (completeness ≡ Whole)
+    × ((octets : List ℕ) × (before after : Option (List ℕ)) × ShowsPage command.coding command.order command.width before after octets)
+ShowGives command (Err fault) = IsOutside fault
+    ⊎ ((octets : List ℕ) × RefusesShow command.coding command.order command.width octets fault)
+
+-- the page with the number that is asked for was decoded as the options ask, with this end
+abbrev pub IsAnswered : DecodeCommand → Result Bool ToolFault → Type 0
+IsAnswered command end = (octets later : List ℕ) × (page : PagePixels) × (told : List ℕ)
+    × AnswersPage command.form command.options command.page octets later page told end
+
+-- the page was decoded, with the end that the engine says; or reading, writing or memory failed
+abbrev pub DecodeGives : DecodeCommand → Result Completeness ToolFault → Type 0
+DecodeGives command (Ok completeness) = (complete : Bool) × (completeness ≡ completeness_of complete) × IsAnswered command (Ok complete)
+DecodeGives command (Err fault) = IsOutside fault ⊎ IsAnswered command (Err fault)
+
+-- the file was identified as this
+abbrev pub IsIdentified : Identity → Type 0
+IsIdentified identity = (octets : List ℕ) × (before after : Option (List ℕ)) × Identifies octets before after identity
+
+-- the file is known; or it is a page whose width isn't; or it is refused as one that no way reads
+abbrev pub IdentifyGives : Result Completeness ToolFault → Type 0
+IdentifyGives (Ok Whole) = IsIdentified Known
+IdentifyGives (Ok Lacking) = IsIdentified Several
+IdentifyGives (Err fault) = IsOutside fault ⊎ IsIdentified (Nothing fault)
+
+-- ---- frames
+
+-- a file or memory failed, or it ran to its end
+abbrev pub FailsOutside : Result Completeness ToolFault → Type 0
+FailsOutside given = IfErr given IsOutside
+
+-- without a folder of pages nothing can be lacking
+pub record FramesGives (command : FramesCommand) (given : Result Completeness ToolFault) : Type 0 where
+  pub fails : IfErr given IsOutside
+  pub lists : is_some command.pages ≡ false → given ≡ Ok Lacking → ⊥
+
+-- ---- calls
+
+-- what a call that left this ending is asked to be: normal for both stations, if that is wanted
+abbrev pub as_wanted : Bool → Ending → Completeness
+as_wanted normal ending = completeness_of (ended_normally ending || not normal)
+
+-- a call by a script is lacking only if a normal end is wanted
+abbrev pub ScriptGives : ScriptCommand → Result Completeness ToolFault → Type 0
+ScriptGives command given = IfOk given (λ completeness. command.normal ≡ false → completeness ≡ Whole)
+
+-- call 0 over the bad line was run, and left this ending
+abbrev pub IsDriven : DriveCommand → Ending → Type 0
+IsDriven command ending = (images : List ℕ) × (before after : Written) × LeavesDriven command.options command.line 0 images before after ending
+
+-- so many calls over the bad line were run, and their lines and their table printed
+abbrev pub AreDriven : DriveCommand → ℕ → Type 0
+AreDriven command times = (images : List ℕ) × (before after : Option (List ℕ))
+    × TellsMany command.options command.line times images before after
+
+-- no call over the bad line was run to its end
+abbrev pub IsUndriven : DriveCommand → ToolFault → Type 0
+IsUndriven command fault = IsOutside fault ⊎ ((images : List ℕ) × RefusesDriven command.options.fine images fault)
+
+-- one call was run and ended so, or as many as are asked for; or they were refused
+abbrev pub DriveGives : DriveCommand → Result Completeness ToolFault → Type 0
+DriveGives command (Ok completeness) = ((command.times ≡ None)
+    × (ending : Ending) × IsDriven command ending × (completeness ≡ as_wanted command.normal ending))
+    ⊎ ((times : ℕ) × (command.times ≡ Some times) × AreDriven command times × (completeness ≡ Whole))
+DriveGives command (Err fault) = IsUndriven command fault
+
+-- ---- stations
+
+-- the word of why a call was stopped: a second DCS wasn't allowed, for a reason, or something else stopped it
+abbrev pub stopped_word : Option Refusal → List ℕ
+stopped_word None = codes "stopped"
+stopped_word (Some why) = codes "refused"
+
+-- the word of why the call of a station ended, or that it goes on
+abbrev pub end_word : Option CallEnd → Option Refusal → List ℕ
+end_word (Some (By end)) refused = end_text (Some end)
+end_word (Some Stopped) refused = stopped_word refused
+end_word (Some LineLost) refused = codes "line-lost"
+end_word None refused = end_text None
+
+-- how long a wait is to run, if that is given
+abbrev pub given_wait : GivenWaits → Wait → Option ℕ
+given_wait given T1 = given.t1
+given_wait given T2 = given.t2
+given_wait given T4 = given.t4
+given_wait given T5 = given.t5
+
+-- how many pages wait in memory at most: one that is handed over (true), else the limit, at least one
+abbrev pub page_limit : Bool → ℕ → ℕ
+page_limit true limit = 1
+page_limit false limit = max limit 1
+
+-- the lines went no further at a line, or by a file or by memory
+abbrev pub IsHalt : Halted → Type 0
+IsHalt (halted.Line number reason) = Unit {0}
+IsHalt (halted.Fault fault) = IsOutside fault
+
+-- What a station's command gives: a fault that stopped its lines; or all was done if the call is whole and lacks its last DCN at most.
+abbrev pub ended_of : Option Halted → Option CallEnd → Bool → Result Completeness ToolFault
+ended_of (Some (halted.Fault fault)) end whole = Err fault
+ended_of (Some (halted.Line number reason)) end whole = Ok Lacking
+ended_of None end whole = Ok (completeness_of (whole && has_left end))
+
+-- why images have no pages from this number on: the first fault of the images, or there are fewer pages (28)
+abbrev pub HasNoPagesFrom : Bool → ℕ → List ℕ → ToolFault → Type 0
+HasNoPagesFrom fine from images fault = ((first : RasterFault) × (read_images fine images ≡ Err first) × (fault ≡ No (number_of first)))
+    ⊎ ((pages : List PagePixels) × AreImages fine images pages × (length pages < from) × (fault ≡ No 28))
+
+-- the pages of the images in a file from this number on; or why there are none
+abbrev pub SendsFrom : Bool → ℕ → Result (List PagePixels) ToolFault → Type 0
+SendsFrom fine from (Ok document) = (images : List ℕ) × (pages : List PagePixels) × AreImages fine images pages
+    × (document ≡ drop (from - 1) pages)
+SendsFrom fine from (Err fault) = IsOutside fault ⊎ ((images : List ℕ) × HasNoPagesFrom fine from images fault)
+
+-- the file has no document that a call carries: no pages from this number on, or one of them has a width that no call has (26)
+abbrev pub IsNoDocument : Bool → ℕ → ToolFault → Type 0
+IsNoDocument fine from fault = SendsFrom fine from (Err fault)
+    ⊎ ((document : List PagePixels) × SendsFrom fine from (Ok document) × ¬ AreCallable document × (fault ≡ No 26))
+
+-- ---- the version
+
+-- the version was printed
+abbrev pub VersionGives : Result Completeness ToolFault → Type 0
+VersionGives (Ok completeness) = completeness ≡ Whole
+VersionGives (Err fault) = IsOutside fault
+
+-- ---- all commands
+
+-- what comes of a run is among what can come of its command
+abbrev pub Comes : (Result Completeness ToolFault → Type 0) → Result Completeness ToolFault → Type 0
+Comes gives given = gives given
+
+-- what is written of each frame: records if they are asked for, otherwise lines, with words if those are
+abbrev pub list_form : Bool → Bool → ListForm
+list_form records words = if records then Records else (if words then Explained else Plain)

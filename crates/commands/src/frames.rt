@@ -1,0 +1,349 @@
+//! The command `frames`.
+
+pub mod two_captures;
+
+ghost use Rattle.faults.specs.Faults.{IsOutside};
+ghost use Rattle.std.specs.Prelude.{◌≡◌, ◌+◌, IfErr, OnOk, false};
+
+use crate::command::{Completeness, NO_NAMES, Names, Runs};
+use crate::context::{Context, Part};
+use crate::files::apart::CommandFiles;
+use crate::files::images::store_page;
+use crate::files::input::{self, Source};
+use crate::files::output::Rights;
+use crate::files::progress::Watch;
+use crate::files::{output, printed};
+use crate::notices::notice;
+use captures::{
+    Captured, FoundStore, FrontStore, ListForm, ListOptions, Missing, PageNumbers, Stored,
+    StoredFront, list_engine, pages_engine, salvage_pages_engine, write_missing, write_stored,
+    write_stored_front,
+};
+use faults::ToolFault;
+use page_files::PageForm;
+use raster::Page;
+use run_tables::Order;
+use std::alloc::AllocError;
+use std::io;
+use std::io::Write;
+
+/// Lists the frames in a file of bits. If a folder is given, writes their pages into its files page-1.pbm and so on, each as soon as it is
+/// complete, if asked for also the rows before the gaps of others, and names what is missing on standard error.
+#[derive(Debug, PartialEq, Eq, Drop)]
+pub struct FramesCommand {
+    /// How many octets of a content are shown at most; None for all.
+    pub most: Option<u32>,
+    /// Which bit of an octet of the file is first.
+    pub order: Order,
+    /// What is written of each frame.
+    pub form: ListForm,
+    /// The name of the folder that the pages in the frames go to, if one is given.
+    pub pages: Option<String>,
+    /// Whether the rows before the gap of a page that isn't whole go there too.
+    pub salvage: bool,
+    /// The name of the file.
+    pub input: String,
+}
+
+impl Runs for FramesCommand {
+    ghost use Rattle.std.specs.Prelude.{None};
+    ghost use Rattle.commands.specs.Runs.{FramesGives};
+
+    ghost width = { λ command. None };
+
+    ghost gives = { λ command result. FramesGives command result };
+
+    fn names(&self) -> Names<'_> {
+        Names {
+            input: self.input.as_str(),
+            output: self.pages.as_deref(),
+            ..NO_NAMES
+        }
+    }
+
+    fn add_files(&self, files: &mut CommandFiles<'_>) -> Result<(), AllocError> {
+        files.reads("FILE", self.input.as_str())?;
+        files.prints()
+    }
+
+    fn page(&self) -> Option<PageForm> {
+        None
+    }
+
+    fn run(&self, context: &mut Context<'_>) -> Result<Completeness, ToolFault> {
+        match self.pages.as_deref() {
+            Some(folder) => self.store_pages(context, folder),
+            None => {
+                self.list(context)?;
+                Ok(Completeness::Whole)
+            }
+        }
+    }
+}
+
+impl FramesCommand {
+    /// How the frames are listed.
+    fn how(&self) -> ListOptions
+        ensures { result ≡ record { most = self.now.most; order = self.now.order; form = self.now.form } }
+    {
+        ListOptions {
+            most: self.most.map(|most| most as usize),
+            order: self.order,
+            form: self.form,
+        }
+    }
+
+    /// Says on standard error what to try if no frame was found.
+    fn say_other_order(&self, context: &Context<'_>, worth: bool) -> Result<(), ToolFault>
+        ensures { IfErr result IsOutside }
+    {
+        if worth {
+            let words = match self.order {
+                Order::LsbFirst => "no good frame: try --order msb",
+                Order::MsbFirst => "no good frame: try --order lsb",
+            };
+            notice(context, words)?;
+        }
+        Ok(())
+    }
+
+    /// Lists the frames.
+    fn list(&self, context: &mut Context<'_>) -> Result<(), ToolFault>
+        ensures { IfErr result IsOutside }
+    {
+        let mut reader = self.open(context)?;
+        let mut writer = printed::print(context)?;
+        let listed = list_engine(context.alloc(), &mut reader, &mut writer, self.how());
+        reader.close(context);
+        let printed = printed::end_print(context, writer, listed.is_ok());
+        let worth = listed?;
+        printed?;
+        self.say_other_order(context, worth)
+    }
+
+    /// Opens the file.
+    fn open<'a>(&self, context: &mut Context<'a>) -> Result<Source<'a>, ToolFault>
+        ensures { IfErr result IsOutside }
+    {
+        input::open(context, self.input.as_str(), Part::Input, Watch::Silent)
+    }
+
+    /// Lists the frames, and writes their pages into a folder; names what is missing of others on standard error. It is complete if nothing
+    /// is missing.
+    fn store_pages(
+        &self,
+        context: &mut Context<'_>,
+        folder: &str,
+    ) -> Result<Completeness, ToolFault>
+        ensures { IfErr result IsOutside }
+    {
+        // before a line is printed, or FILE is read
+        output::check_folder(context, folder, Part::Output)?;
+        let mut reader = self.open(context)?;
+        let mut counted = Counted {
+            writer: printed::print(context)?,
+            lines: 0,
+        };
+        let mut store = Folder {
+            name: folder,
+            form: self.form,
+            context,
+            numbers: PageNumbers::new(),
+            is_empty: true,
+            is_whole: true,
+        };
+        let listed = self.find_pages(&mut reader, &mut counted, &mut store);
+        let is_empty = store.is_empty;
+        let is_whole = store.is_whole;
+        reader.close(context);
+        let Counted { writer, lines } = counted;
+        let printed = printed::end_print(context, writer, listed.is_ok());
+        let worth = listed?;
+        printed?;
+        self.say_other_order(context, worth)?;
+        if is_empty {
+            say_no_pages(context, lines)?;
+        }
+        Ok(Completeness::of(is_whole && !is_empty))
+    }
+
+    /// Lists the frames and gives their pages to the folder, if asked for also the rows before the gaps of others. Returns what
+    /// `list_engine` returns.
+    fn find_pages<W: Write>(
+        &self,
+        reader: &mut Source<'_>,
+        writer: &mut W,
+        store: &mut Folder<'_, '_>,
+    ) -> Result<bool, ToolFault>
+        ensures { IfErr result IsOutside }
+    {
+        let alloc = store.context.alloc();
+        if self.salvage {
+            salvage_pages_engine(alloc, reader, writer, self.how(), store)
+        } else {
+            pages_engine(alloc, reader, writer, self.how(), store)
+        }
+    }
+}
+
+/// Says on standard error that a capture with so many lines has no pages.
+fn say_no_pages(context: &Context<'_>, lines: u64) -> Result<(), ToolFault>
+    ensures { IfErr result IsOutside }
+{
+    // of a capture without a good frame the line of counts is the only one
+    let words = if lines > 1 {
+        "no error correction: no pages"
+    } else {
+        "no frame: no pages"
+    };
+    notice(context, words)
+}
+
+/// The folder that the pages in a capture are written into, and what was found so far.
+#[derive(Drop)]
+struct Folder<'a, 'b> {
+    name: &'a str,
+    form: ListForm,
+    context: &'a mut Context<'b>,
+    numbers: PageNumbers,
+    is_empty: bool,
+    is_whole: bool,
+}
+
+impl FoundStore for Folder<'_, '_> {
+    ghost use Rattle.commands.specs.Folders.{NotesFound};
+
+    ghost takes = { λ old found new. NotesFound old.numbers old.is_whole found new.numbers new.is_whole };
+
+    fn take(&mut self, found: Captured) -> Result<(), ToolFault> {
+        self.is_empty = false;
+        match found {
+            Captured::Page { mark, page } => self.store(mark.page, page, false),
+            Captured::MissingPage(_)
+            | Captured::Unread { .. }
+            | Captured::MissingFrame { .. }
+            | Captured::MissingBlocks(_)
+            | Captured::Unfinished
+            | Captured::BlockBeforeDcs(_)
+            | Captured::BlockAfterEnd { .. } => self.name_missing(&found),
+        }
+    }
+}
+
+impl FrontStore for Folder<'_, '_> {
+    ghost use Rattle.commands.specs.Folders.{NotesFront};
+
+    ghost fronts = { λ old number page new. NotesFront number new.numbers new.is_whole };
+
+    fn take_front(&mut self, number: u8, page: Page) -> Result<(), ToolFault> {
+        self.is_empty = false;
+        self.is_whole = false;
+        self.store(number, page, true)
+    }
+}
+
+impl Folder<'_, '_> {
+    /// Writes a page with this number in its PPS, or the rows of one before a gap, into a new file with the first free number, and says so.
+    /// A page without rows has no file, as no code gives one.
+    fn store(&mut self, number: u8, page: Page, is_front: bool) -> Result<(), ToolFault>
+        ensures number { OnOk result (self.new.numbers.page ≡ number + 1) }
+        ensures whole { OnOk result (self.new.is_whole ≡ self.old.is_whole) }
+        ensures fault { IfErr result IsOutside }
+    {
+        let first = self.numbers.found(number);
+        if page.rows().is_empty() {
+            return Ok(());
+        }
+        let file = match store_page(self.context.rt(), self.name, Rights::Umask, first, &page) {
+            Ok(file) => file,
+            Err(refused) => return Err(refused.noted(self.context)),
+        };
+        let _moved = self.numbers.written(file);
+        let stored = Stored {
+            numbers: self.numbers,
+            page: &page,
+        };
+        if is_front {
+            return self.tell_front(stored);
+        }
+        self.tell_stored(&stored)
+    }
+
+    /// Tells on standard output which file the rows of a page before a gap are in.
+    fn tell_front(&self, stored: Stored<'_>) -> Result<(), ToolFault>
+        ensures { IfErr result IsOutside }
+    {
+        if self.form == ListForm::Records {
+            return write_stored_front(
+                self.context.rt().alloc(),
+                &stored,
+                &mut self.context.rt().stdout(),
+            );
+        }
+        println!(self.context.rt(); "{}", StoredFront(stored))?;
+        Ok(())
+    }
+
+    /// Tells on standard output which file a page is in.
+    fn tell_stored(&self, stored: &Stored<'_>) -> Result<(), ToolFault>
+        ensures { IfErr result IsOutside }
+    {
+        if self.form == ListForm::Records {
+            return write_stored(
+                self.context.rt().alloc(),
+                stored,
+                &mut self.context.rt().stdout(),
+            );
+        }
+        println!(self.context.rt(); "{stored}")?;
+        Ok(())
+    }
+
+    /// Tells on standard error what is missing of a page.
+    fn tell_missing(&self, found: &Captured) -> Result<(), ToolFault>
+        ensures { IfErr result IsOutside }
+    {
+        if self.form == ListForm::Records {
+            return write_missing(
+                self.context.rt().alloc(),
+                found,
+                &mut self.context.rt().stderr(),
+            );
+        }
+        eprintln!(self.context.rt(); "{}", Missing(found))?;
+        Ok(())
+    }
+
+    /// Names what is missing of a page.
+    fn name_missing(&mut self, found: &Captured) -> Result<(), ToolFault>
+        ensures number { OnOk result (self.new.numbers ≡ self.old.numbers) }
+        ensures whole { OnOk result (self.new.is_whole ≡ false) }
+        ensures fault { IfErr result IsOutside }
+    {
+        self.is_whole = false;
+        self.tell_missing(found)
+    }
+}
+
+/// A writer that counts the lines that go through it.
+#[derive(Drop)]
+struct Counted<W> {
+    writer: W,
+    lines: u64,
+}
+
+impl<W: Write + Drop> Write for Counted<W> {
+    fn write(&mut self, octets: &[u8]) -> io::Result<usize> {
+        let written = self.writer.write(octets)?;
+        for octet in octets.get(..written).unwrap_or(&[]) {
+            if *octet == b'\n' {
+                self.lines = self.lines.saturating_add(1);
+            }
+        }
+        Ok(written)
+    }
+
+    fn flush(&mut self) -> io::Result<()> {
+        self.writer.flush()
+    }
+}

@@ -1,6 +1,0 @@
--- What the check asks of `caller`.
-use Rattle.std.proofs.Common.{inr, refl}
-use Rattle.faxtool.proofs.commands.station.DialCommand.caller.Goals as goal
-
-pub returns-in-Err-WidthNotCallable : goal.returns-in-Err-WidthNotCallable
-returns-in-Err-WidthNotCallable c = inr (c.in_ok-document.document, c.in_ok-document.ensures, c.in-Err-WidthNotCallable.ensures, refl)

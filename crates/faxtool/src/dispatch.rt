@@ -1,0 +1,82 @@
+//! What is done for a command: its files are looked at, it runs, and its fault is shown.
+
+ghost use Rattle.faxtool.specs.Apart.{IsApartOutcome};
+ghost use Rattle.faxtool.specs.Jobs.{HasWidth};
+ghost use Rattle.faxtool.specs.Ran.{Gave, Ran};
+ghost use Rattle.raster.specs.Pixels.{IsWidth};
+ghost use Rattle.std.specs.Prelude.{IfSome};
+
+use crate::apart::check_apart;
+use crate::args::words::{Outcome, Request};
+use crate::explain::{show_fault, show_refusal};
+use commands::context::{Context, Messages};
+use commands::{Command, Completeness, Runs};
+
+/// What a command is run with: the system, the words that ask for it, and how its messages are shown.
+#[derive(Clone, Copy)]
+struct Asked<'a> {
+    rt: &'a HostRuntime,
+    words: &'a [&'a str],
+    messages: Messages,
+}
+
+/// Runs the command of a request, which these words ask for, and shows its fault: a line, and on a terminal or if asked for a second line
+/// in words.
+pub fn run_request(rt: &HostRuntime, words: &[&str], request: &Request) -> Outcome
+    requires { HasWidth request.now.command }
+    ensures { Ran request.now.command result }
+{
+    let messages = Messages {
+        json: request.json,
+        explain: request.explain,
+    };
+    let asked = Asked {
+        rt,
+        words,
+        messages,
+    };
+    run_one(&request.command, asked)
+}
+
+/// Runs the command that is asked for.
+fn run_one(command: &Command, asked: Asked<'_>) -> Outcome
+    requires { HasWidth command.now }
+    ensures { Ran command.now result }
+{
+    // each command has an arm here, and nothing else decides what runs
+    match command {
+        Command::Code(command) => run_command(command, asked),
+        Command::Show(command) => run_command(command, asked),
+        Command::Decode(command) => run_command(command, asked),
+        Command::Each(command) => run_command(command, asked),
+        Command::Frames(command) => run_command(command, asked),
+        Command::Captures(command) => run_command(command, asked),
+        Command::Identify(command) => run_command(command, asked),
+        Command::Several(command) => run_command(command, asked),
+        Command::Call(command) => run_command(command, asked),
+        Command::Drive(command) => run_command(command, asked),
+        Command::Answer(command) => run_command(command, asked),
+        Command::Dial(command) => run_command(command, asked),
+        Command::Version(command) => run_command(command, asked),
+    }
+}
+
+/// Runs a command if its files are apart, and shows its fault.
+fn run_command<C: Runs>(command: &C, asked: Asked<'_>) -> Outcome
+    requires { IfSome (C.width command.now) IsWidth }
+    ensures { Gave (C.gives command.now) result }
+{
+    // two files that are one are found before anything is read or written
+    if let Err(refusal) = check_apart(asked.rt, asked.words, command) {
+        return show_refusal(asked.rt, asked.words, refusal);
+    }
+    let mut context = Context::new(asked.rt, asked.messages);
+    match command.run(&mut context) {
+        Ok(Completeness::Whole) => Outcome::Done,
+        Ok(Completeness::Lacking) => Outcome::Incomplete,
+        Err(fault) => {
+            show_fault(command, fault, &context);
+            Outcome::Fault(fault)
+        }
+    }
+}
