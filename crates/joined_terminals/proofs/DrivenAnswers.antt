@@ -17,7 +17,7 @@ use Rattle.terminals.specs.Speaking.{BurstsOf, Speaking, is_silent}
 use Rattle.terminals.specs.Stopping.{limited_cut_off}
 use Rattle.terminals.specs.declared.sending.SentBurst.{SentBurst}
 use Rattle.conversations.specs.declared.line.TimedLine.{TimedLine}
-use Rattle.joined_terminals.specs.Answered.{AnswererAnswers, answerer_lends, leaves}
+use Rattle.joined_terminals.specs.Answered.{AnswererAnswers, CallerStays, answerer_lends, leaves}
 use Rattle.joined_terminals.specs.Driven.{Driven, answerer_speaks}
 use Rattle.joined_terminals.specs.Joining.{if_clear}
 use Rattle.joined_terminals.specs.Octets.{HearingTakes, IsPiece}
@@ -53,10 +53,11 @@ record Goes (old : Driven) (answerer : ConversationFields LimitedFields) (stored
   is : last.answerer ≡ answerer
   stored_is : last.stored ≡ stored
   unkept_is : last.unkept ≡ unkept
+  caller_is : last.caller ≡ old.caller
 
-goes_by : (step : Step) (old new : Driven) → Does step old new → Goes old new.answerer new.stored new.unkept
-goes_by step old new h =
-    record { steps = step ∷ []; last = new; drives = (new, h, refl); is = refl; stored_is = refl; unkept_is = refl }
+goes_by : (step : Step) (old new : Driven) → Does step old new → new.caller ≡ old.caller → Goes old new.answerer new.stored new.unkept
+goes_by step old new h e =
+    record { steps = step ∷ []; last = new; drives = (new, h, refl); is = refl; stored_is = refl; unkept_is = refl; caller_is = e }
 
 goes_on : {a b : ConversationFields LimitedFields} {s t u v : List PagePixels} (old : Driven) → Goes old a s u →
     ((d : Driven) → d.answerer ≡ a → d.stored ≡ s → d.unkept ≡ u → Goes d b t v) → Goes old b t v
@@ -69,12 +70,13 @@ goes_on old one next =
       is = two.is;
       stored_is = two.stored_is;
       unkept_is = two.unkept_is;
+      caller_is = two.caller_is ∙ one.caller_is;
     }
 
-spoken_goes : (step : Step) (silent : Bool) (old new : Driven) → Does step old (answerer_speaks silent new) →
+spoken_goes : (step : Step) (silent : Bool) (old new : Driven) → Does step old (answerer_speaks silent new) → new.caller ≡ old.caller →
     Goes old new.answerer new.stored new.unkept
-spoken_goes step true old new h = goes_by step old new h
-spoken_goes step false old new h = goes_by step old (answerer_speaks false new) h
+spoken_goes step true old new h e = goes_by step old new h e
+spoken_goes step false old new h e = goes_by step old (answerer_speaks false new) h e
 
 module _ (law : HearingTakes) where
   turns_of : (old : Driven) (heard : ConversationFields LimitedFields) (others : List PlainItem) (given : PlainGiven) (brought : Bool) →
@@ -102,7 +104,7 @@ module _ (law : HearingTakes) where
         given = record { others = h.others; comes = h.comes; silent = turns.0; turns = turns.1; is = refl };
       } in
       subst (λ u. Goes old h.heard old.stored u) none
-      (spoken_goes (answerer_line line) turns.0 old (record old { answerer = h.heard; to_answerer = h.others }) takes)
+      (spoken_goes (answerer_line line) turns.0 old (record old { answerer = h.heard; to_answerer = h.others }) takes refl)
 
 watch_goes : (d : Driven) (heard : ConversationFields LimitedFields) (s u : List PagePixels) → d.answerer ≡ heard → d.stored ≡ s →
     d.unkept ≡ u → Goes d (refused_so limited_behaviour heard) s u
@@ -112,21 +114,23 @@ watch_goes d heard s u e f g =
     subst (λ x. Goes d (refused_so limited_behaviour x) s u) e
     (subst (λ x. Goes d (refused_so limited_behaviour d.answerer) x u) f
     (subst (λ x. Goes d (refused_so limited_behaviour d.answerer) d.stored x) g
-    (spoken_goes answerer_watches silent d (record d { answerer = refused_so limited_behaviour d.answerer }) refl)))
+    (spoken_goes answerer_watches silent d (record d { answerer = refused_so limited_behaviour d.answerer }) refl refl)))
 
 -- the pages are stored, or one is refused
-record Stored (d : Driven) (ready : ConversationFields LimitedFields) (stored : List PagePixels) : Type 0 where
+record Stored (kept : Bool) (d : Driven) (ready : ConversationFields LimitedFields) (stored : List PagePixels) : Type 0 where
   unkept : List PagePixels
   goes : Goes d ready stored unkept
+  none : kept ≡ true → unkept ≡ []
 
 pages_go : (kept : Bool) (d : Driven) (ready : ConversationFields LimitedFields) (stored : List PagePixels) → d.unkept ≡ [] →
-    StoresAll appends leaves d.answerer ready d.stored stored kept → Stored d ready stored
+    StoresAll appends leaves d.answerer ready d.stored stored kept → Stored kept d ready stored
 pages_go true d ready stored none h =
     record {
       unkept = d.unkept;
       goes = subst (λ x. Goes d x stored d.unkept) (sym h.1)
           (goes_by pages_stored d (record d { answerer = with_pages_taken d.answerer; stored = stored })
-          (record { all_kept = none; stored = stored; stores = h.0; is = refl }));
+          (record { all_kept = none; stored = stored; stores = h.0; is = refl }) refl);
+      none = λ e. none;
     }
 pages_go false d ready stored none h =
     record {
@@ -148,7 +152,8 @@ pages_go false d ready stored none h =
             stored = stored;
             stores = subst (λ x. StoresEach appends d.stored h.0.0 x) (sym h.0.6) h.0.5;
             is = refl;
-          }));
+          }) refl);
+      none = λ e. absurd (cc);
     }
 
 burst_goes : (sent : SentBurst) (sends : Bool) (d : Driven) (mid : ConversationFields LimitedFields) →
@@ -167,7 +172,7 @@ burst_goes sent sends d mid h =
       next = is.2.2;
       is_sent = is.2.3;
       is = refl;
-    })
+    }) refl
 
 bursts_go : (bursts : List SentBurst) (sends : Bool) (d : Driven) (new : ConversationFields LimitedFields) →
     GivesAll AnswererSide answerer_lends d.answerer bursts new → Goes d new d.stored d.unkept
@@ -179,6 +184,7 @@ bursts_go [] sends d new h =
       is = sym (none_given AnswererSide answerer_lends d.answerer.begun d.answerer new h);
       stored_is = refl;
       unkept_is = refl;
+      caller_is = refl;
     }
 bursts_go (sent ∷ bursts) sends d new h =
     goes_on d (burst_goes sent sends d h.0 h.1)
@@ -189,12 +195,13 @@ bursts_go (sent ∷ bursts) sends d new h =
 withheld_goes : (late : Bool) (d : Driven) (left : ConversationFields LimitedFields) →
     Withholds AnswererSide answerer_lends d.answerer late left → Goes d left d.stored d.unkept
 withheld_goes false d left h =
-    record { steps = []; last = d; drives = refl; is = sym h; stored_is = refl; unkept_is = refl }
+    record { steps = []; last = d; drives = refl; is = sym h; stored_is = refl; unkept_is = refl; caller_is = refl }
 withheld_goes true d left h = bursts_go h.0 false d left h.1
 
 pub answerer_answers : HearingTakes → (line : TimedLine) (kept late : Bool) (old : Driven) (new : ConversationFields LimitedFields)
     (stored : List PagePixels) → old.unkept ≡ [] → AnswererAnswers line kept late old new stored →
     (steps : List Step) × (last : Driven) × Drives steps old last × (last.answerer ≡ new) × (last.stored ≡ stored)
+    × CallerStays kept old last
 answerer_answers law line kept late old new stored none h =
     let first = goes_on old (line_goes law line kept late old new stored none h)
     (λ d e f g. watch_goes d h.heard old.stored [] e f g) in
@@ -212,4 +219,8 @@ answerer_answers law line kept late old new stored none h =
           (drives_both held.steps given.steps pages.goes.last held.last given.last held.drives given.drives)),
       given.is,
       given.stored_is ∙ (held.stored_is ∙ pages.goes.stored_is),
+      record {
+        caller = given.caller_is ∙ (held.caller_is ∙ (pages.goes.caller_is ∙ first.caller_is));
+        unkept = λ e. given.unkept_is ∙ (held.unkept_is ∙ (pages.goes.unkept_is ∙ pages.none e));
+      },
     )

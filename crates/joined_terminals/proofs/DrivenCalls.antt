@@ -11,7 +11,7 @@ use Rattle.stations.specs.Inputs.{PlainItem}
 use Rattle.stations.specs.Stopping.{StoppableCallerFields}
 use Rattle.terminals.specs.Speaking.{is_silent}
 use Rattle.terminals.specs.declared.sending.SentBurst.{SentBurst}
-use Rattle.joined_terminals.specs.Answered.{AnswersAreSteps, CallerAnswers, caller_lends}
+use Rattle.joined_terminals.specs.Answered.{AnswererStays, AnswersAreSteps, CallerAnswers, caller_lends}
 use Rattle.joined_terminals.specs.Driven.{Driven, caller_speaks}
 use Rattle.joined_terminals.specs.Joining.{if_clear}
 use Rattle.joined_terminals.specs.Octets.{HearingTakes}
@@ -26,10 +26,14 @@ record Goes (old : Driven) (caller : ConversationFields StoppableCallerFields) :
   last : Driven
   drives : Drives steps old last
   is : last.caller ≡ caller
-  stored_is : last.stored ≡ old.stored
+  stays : AnswererStays old last
 
-goes_by : (step : Step) (old new : Driven) → Does step old new → new.stored ≡ old.stored → Goes old new.caller
-goes_by step old new h e = record { steps = step ∷ []; last = new; drives = (new, h, refl); is = refl; stored_is = e }
+-- nothing of the answerer and of the store has changed
+same : (old : Driven) → AnswererStays old old
+same old = record { answerer = refl; stored = refl; unkept = refl }
+
+goes_by : (step : Step) (old new : Driven) → Does step old new → AnswererStays old new → Goes old new.caller
+goes_by step old new h e = record { steps = step ∷ []; last = new; drives = (new, h, refl); is = refl; stays = e }
 
 goes_on : {a b : ConversationFields StoppableCallerFields} (old : Driven) → Goes old a → ((d : Driven) → d.caller ≡ a → Goes d b) → Goes old b
 goes_on old one next =
@@ -39,13 +43,18 @@ goes_on old one next =
       last = two.last;
       drives = drives_both one.steps two.steps old one.last two.last one.drives two.drives;
       is = two.is;
-      stored_is = two.stored_is ∙ one.stored_is;
+      stays = record {
+        answerer = two.stays.answerer ∙ one.stays.answerer;
+        stored = two.stays.stored ∙ one.stays.stored;
+        unkept = two.stays.unkept ∙ one.stays.unkept;
+      };
     }
 
-spoken_goes : (step : Step) (silent : Bool) (old new : Driven) → Does step old (caller_speaks silent new) → new.stored ≡ old.stored →
+spoken_goes : (step : Step) (silent : Bool) (old new : Driven) → Does step old (caller_speaks silent new) → AnswererStays old new →
     Goes old new.caller
 spoken_goes step true old new h e = goes_by step old new h e
-spoken_goes step false old new h e = goes_by step old (caller_speaks false new) h e
+spoken_goes step false old new h e =
+    goes_by step old (caller_speaks false new) h (record { answerer = e.answerer; stored = e.stored; unkept = e.unkept })
 
 module _ (law : HearingTakes) where
   turns_of : (old : Driven) (heard : ConversationFields StoppableCallerFields) (others : List PlainItem) (given : PlainGiven)
@@ -69,14 +78,16 @@ module _ (law : HearingTakes) where
         takes = h.takes;
         given = record { others = h.others; comes = h.comes; silent = turns.0; turns = turns.1; is = refl };
       } in
-      spoken_goes (caller_line line) turns.0 old (record old { caller = h.heard; to_caller = h.others }) takes refl
+      spoken_goes (caller_line line) turns.0 old (record old { caller = h.heard; to_caller = h.others }) takes
+      (record { answerer = refl; stored = refl; unkept = refl })
 
 watch_goes : (d : Driven) (heard : ConversationFields StoppableCallerFields) → d.caller ≡ heard → Goes d (refused_so caller_behaviour heard)
 watch_goes d heard e =
     let silent : Bool =
     silent_unless (refusal_in d.caller.watch) (is_silent (caller_behaviour.stop_says d.caller.terminal.speaking.station)) in
     subst (λ x. Goes d (refused_so caller_behaviour x)) e
-    (spoken_goes caller_watches silent d (record d { caller = refused_so caller_behaviour d.caller }) refl refl)
+    (spoken_goes caller_watches silent d (record d { caller = refused_so caller_behaviour d.caller }) refl
+    (record { answerer = refl; stored = refl; unkept = refl }))
 
 burst_goes : (sent : SentBurst) (sends : Bool) (d : Driven) (mid : ConversationFields StoppableCallerFields) →
     GivesNext CallerSide caller_lends d.caller (Some sent) mid → Goes d mid
@@ -94,7 +105,7 @@ burst_goes sent sends d mid h =
       next = is.2.2;
       is_sent = is.2.3;
       is = refl;
-    }) refl
+    }) (record { answerer = refl; stored = refl; unkept = refl })
 
 bursts_go : (bursts : List SentBurst) (sends : Bool) (d : Driven) (new : ConversationFields StoppableCallerFields) →
     GivesAll CallerSide caller_lends d.caller bursts new → Goes d new
@@ -104,7 +115,7 @@ bursts_go [] sends d new h =
       last = d;
       drives = refl;
       is = sym (none_given CallerSide caller_lends d.caller.begun d.caller new h);
-      stored_is = refl;
+      stays = same d;
     }
 bursts_go (sent ∷ bursts) sends d new h =
     goes_on d (burst_goes sent sends d h.0 h.1)
@@ -112,17 +123,17 @@ bursts_go (sent ∷ bursts) sends d new h =
 
 withheld_goes : (late : Bool) (d : Driven) (left : ConversationFields StoppableCallerFields) →
     Withholds CallerSide caller_lends d.caller late left → Goes d left
-withheld_goes false d left h = record { steps = []; last = d; drives = refl; is = sym h; stored_is = refl }
+withheld_goes false d left h = record { steps = []; last = d; drives = refl; is = sym h; stays = same d }
 withheld_goes true d left h = bursts_go h.0 false d left h.1
 
 caller_answers : HearingTakes → (line : TimedLine) (late : Bool) (old : Driven) (new : ConversationFields StoppableCallerFields) →
     CallerAnswers line late old new →
-    (steps : List Step) × (last : Driven) × Drives steps old last × (last.caller ≡ new) × (last.stored ≡ old.stored)
+    (steps : List Step) × (last : Driven) × Drives steps old last × (last.caller ≡ new) × AnswererStays old last
 caller_answers law line late old new h =
     let all = goes_on old (goes_on old (goes_on old (line_goes law line late old new h) (λ d e. watch_goes d h.heard e))
     (λ d e. withheld_goes late d h.left (subst (λ c. Withholds CallerSide caller_lends c late h.left) (sym e) h.withholds)))
     (λ d e. bursts_go h.bursts true d new (subst (λ c. GivesAll CallerSide caller_lends c h.bursts new) (sym e) h.gives_all)) in
-    (all.steps, all.last, all.drives, all.is, all.stored_is)
+    (all.steps, all.last, all.drives, all.is, all.stays)
 
 pub answers_are_steps : HearingTakes → AnswersAreSteps
 answers_are_steps law = record { caller = caller_answers law; answerer = answerer_answers law }

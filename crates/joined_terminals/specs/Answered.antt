@@ -1,5 +1,5 @@
 -- What the contract of `answer` says of a line is a list of such steps.
-use Rattle.std.specs.Prelude.{◌≡◌, [], Bool, List}
+use Rattle.std.specs.Prelude.{◌≡◌, [], Bool, true, List}
 use Rattle.conversations.specs.Answering.{StoreStep, StoresAll, limited_behaviour}
 use Rattle.conversations.specs.Conversations.{ConversationFields, TakesLine, gives, refused_so}
 use Rattle.conversations.specs.Led.{caller_behaviour}
@@ -56,12 +56,25 @@ pub record AnswererAnswers (line : TimedLine) (kept late : Bool) (old : Driven) 
   pub bursts : List SentBurst
   pub gives_all : GivesAll AnswererSide answerer_lends left bursts new
 
--- The law: each such answer is a list of steps, after which the conversation and the store are as the contract says.
+-- what an answer of the caller leaves as it is: the other conversation, and the store
+pub record AnswererStays (old new : Driven) : Type 0 where
+  pub answerer : new.answerer ≡ old.answerer
+  pub stored : new.stored ≡ old.stored
+  pub unkept : new.unkept ≡ old.unkept
+
+-- what an answer of the answerer leaves as it is: the other conversation; and if all pages were kept, none is refused
+pub record CallerStays (kept : Bool) (old new : Driven) : Type 0 where
+  pub caller : new.caller ≡ old.caller
+  pub unkept : kept ≡ true → new.unkept ≡ []
+
+-- The law: each such answer is a list of steps, after which the conversation and the store are as the contract says, and the other
+-- conversation is as it was.
 pub record AnswersAreSteps : Type 0 where
   pub caller :
       (line : TimedLine) (late : Bool) (old : Driven) (new : ConversationFields StoppableCallerFields) → CallerAnswers line late old new →
-      (steps : List Step) × (last : Driven) × Drives steps old last × (last.caller ≡ new) × (last.stored ≡ old.stored)
+      (steps : List Step) × (last : Driven) × Drives steps old last × (last.caller ≡ new) × AnswererStays old last
   pub answerer :
       (line : TimedLine) (kept late : Bool) (old : Driven) (new : ConversationFields LimitedFields) (stored : List PagePixels) →
       old.unkept ≡ [] → AnswererAnswers line kept late old new stored →
       (steps : List Step) × (last : Driven) × Drives steps old last × (last.answerer ≡ new) × (last.stored ≡ stored)
+      × CallerStays kept old last

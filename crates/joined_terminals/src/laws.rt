@@ -56,7 +56,8 @@ pub fn conversations_are_safe()
     terminals_are_safe();
 }
 
-/// What `answer` of a conversation promises of a line, of a caller and of an answerer whose pages are stored, is a list of such steps.
+/// What `answer` of a conversation promises of a line, of a caller and of an answerer whose pages are stored, is a list of such steps, which
+/// leaves the other conversation as it was.
 pub fn answers_are_steps()
     ensures { AnswersAreSteps }
 {
