@@ -129,7 +129,9 @@ def main():
     run = Run(crates)
     of_tests = [name for name in crates if name not in run.of_proof]
     chain = longest_chain({name: told for name, told in crates.items() if name in run.of_proof})
-    beside = [name for name in crates if name in run.of_proof and name not in chain]
+    # what the chain's last crate stands on comes first
+    needed = below(crates, chain[-1])
+    beside = sorted((name for name in crates if name in run.of_proof and name not in chain), key=lambda name: name not in needed)
     print(f"prove: the longest chain is {' '.join(chain)}", flush=True)
     with_edits = [name for name in crates if any((TOP / "crates" / name / "must-fail").glob("*.edit"))]
     run.to_try = with_edits + of_tests

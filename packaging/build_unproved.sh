@@ -11,7 +11,7 @@
 # compiler and linker leave out the sanitizer and keep what was made, and whose checker, which would only look for names that a check
 # refuses, does nothing. A library is compiled as a program that calls each exported function.
 #
-# What is built is a copy of the sources, in which src/commands/version.rt of a program says that it was built without proof.
+# What is built is a copy of the sources, in which crates/commands/src/version.rt says that it was built without proof.
 set -e
 folder=$1 out=$2 kind=$3
 case $kind in
@@ -107,11 +107,12 @@ set -- crates crates.txt
 [ ! -f "$root/HANDLES" ] || set -- "$@" HANDLES
 tar -C "$root" -cf - --exclude='crates/*/out' "$@" | tar -C "$copy/sources" -xf -
 own=$copy/sources/crates/$crate
-if [ -f "$own/src/commands/version.rt" ]; then
+version=$copy/sources/crates/commands/src/version.rt
+if [ -z "$kind" ] && [ -f "$version" ]; then
     sed -i -e 's/^\(const VERSION: &str = "[^"]*\)";$/\1, built without proof";/' \
-        -e 's/^\(const KIT: &str = \)"[^"]*";$/\1"none: built without proof";/' "$own/src/commands/version.rt"
-    [ "$(grep -c 'built without proof";$' "$own/src/commands/version.rt")" = 2 ] \
-        || fails "$crate/src/commands/version.rt has no line const VERSION, or no line const KIT"
+        -e 's/^\(const KIT: &str = \)"[^"]*";$/\1"none: built without proof";/' "$version"
+    [ "$(grep -c 'built without proof";$' "$version")" = 2 ] \
+        || fails "crates/commands/src/version.rt has no line const VERSION, or no line const KIT"
 fi
 if [ "$kind" = --library ]; then
     "$here/reach_exports.py" "$own" > "$copy/names.sed"

@@ -292,11 +292,13 @@ completes() {
 }
 
 # The version is that of the file at the top, and the kit that of docs/PROOF.md. `rt version` may call it by another name: what counts
-# is the rules that it proves by. A program that was built without proof says so in place of both; those that the gate has proved don't.
+# is the rules that it proves by. A program that was built without proof says so in place of both, as `make try`'s does; those that the gate
+# has proved don't.
 try_version() {
     works version
     case $program in
     "$top/crates/"*) unproved= ;;
+    "$top/build/"*) unproved=yes ;;
     *) unproved=$(sed -n 's/^.*, built without proof$/yes/p' "$work/output") ;;
     esac
     sed "s/\$/${unproved:+, built without proof}/" "$top/VERSION" > "$work/wanted"

@@ -1,4 +1,1 @@
--- The lemmas of the commands.
-mod FromLemmas
-mod NoteLemmas
-mod TalkLemmas
+-- No lemmas: the commands need answers alone.

@@ -3,8 +3,8 @@ use Rattle.std.specs.Prelude.{ℕ, zero, suc, ◌≡◌, ◌⊎◌, ◌+◌, ◌
 use Rattle.std.specs.Prelude.{codes, cond, length, not}
 use Rattle.std.specs.Fmt.{decimal}
 use Rattle.serde_json.specs.Data.{Data, boolean, member, no_members, object}
-use Rattle.commands.specs.Runs.{completeness_of}
-use Rattle.commands.specs.declared.command.Completeness.{Completeness}
+use Rattle.command_files.specs.Runs.{completeness_of}
+use Rattle.command_files.specs.declared.command.Completeness.{Completeness}
 use Rattle.faults.specs.Faults.{IsOutside, fault_of_code, fault_text}
 use Rattle.faults.specs.RecordLines.{words}
 use Rattle.faults.specs.declared.fault.ToolFault.{ToolFault}

@@ -10,44 +10,25 @@ use Rattle.captures.specs.declared.frames.ListForm.TheVariants.{Explained, Plain
 use Rattle.calls.specs.BadLines.{LeavesDriven, RefusesDriven}
 use Rattle.calls.specs.Ends.{ended_normally}
 use Rattle.calls.specs.SentBits.{Written}
-use Rattle.calls.specs.Transcripts.{end_text}
 use Rattle.line_sim.specs.declared.live.Ending.{Ending}
-use Rattle.terminals.specs.declared.watching.Refusal.{Refusal}
 use Rattle.faults.specs.Faults.{IsOutside}
 use Rattle.faults.specs.declared.fault.ToolFault.{ToolFault}
-use Rattle.faults.specs.declared.fault.ToolFault.TheVariants.{No}
+use Rattle.command_files.specs.Runs.{completeness_of}
 use Rattle.page_files.specs.CodedPages.{AppendsCode, RefusesShow, ShowsPage}
 use Rattle.page_files.specs.Identified.{Identifies}
 use Rattle.page_files.specs.LaterPages.{AnswersPage}
 use Rattle.page_files.specs.declared.identify.Identity.{Identity}
 use Rattle.page_files.specs.declared.identify.Identity.TheVariants.{Known, Several, Nothing}
 use Rattle.page_files.specs.declared.options.PageForm.{PageForm}
-use Rattle.raster.specs.Faults.{number_of}
 use Rattle.raster.specs.Pages.{PagePixels}
-use Rattle.raster.specs.Pbm.{AreImages, read_images}
-use Rattle.raster.specs.declared.fault.RasterFault.{RasterFault}
-use Rattle.stations.specs.CallerFields.{AreCallable}
-use Rattle.stations.specs.declared.stopping.CallEnd.{CallEnd}
-use Rattle.stations.specs.declared.stopping.CallEnd.TheVariants.{By, LineLost, Stopped}
-use Rattle.stations.specs.declared.waiting.Wait.{Wait}
-use Rattle.stations.specs.declared.waiting.Wait.TheVariants.{T1, T2, T4, T5}
-use Rattle.commands.specs.CallNotes.{has_left}
-use Rattle.commands.specs.declared.station.given.GivenWaits.{GivenWaits}
-use Rattle.commands.specs.declared.command.Completeness.{Completeness}
-use Rattle.commands.specs.declared.command.Completeness.TheVariants.{Lacking, Whole}
+use Rattle.command_files.specs.declared.command.Completeness.{Completeness}
+use Rattle.command_files.specs.declared.command.Completeness.TheVariants.{Lacking, Whole}
 use Rattle.commands.specs.declared.call.ScriptCommand.{ScriptCommand}
 use Rattle.commands.specs.declared.call.drives.DriveCommand.{DriveCommand}
 use Rattle.commands.specs.declared.code.CodeCommand.{CodeCommand}
 use Rattle.commands.specs.declared.decode.DecodeCommand.{DecodeCommand}
 use Rattle.commands.specs.declared.frames.FramesCommand.{FramesCommand}
 use Rattle.commands.specs.declared.show.ShowCommand.{ShowCommand}
-use Rattle.commands.specs.declared.station.DialCommand.{DialCommand}
-use Rattle.commands.specs.declared.station.Halted.{Halted}
-use Rattle.commands.specs.declared.station.Halted.TheVariants as halted
-
--- all was done, or something is lacking
-abbrev pub completeness_of : Bool → Completeness
-completeness_of complete = if complete then Whole else Lacking
 
 -- ---- pages
 
@@ -90,10 +71,6 @@ IdentifyGives (Err fault) = IsOutside fault ⊎ IsIdentified (Nothing fault)
 
 -- ---- frames
 
--- a file or memory failed, or it ran to its end
-abbrev pub FailsOutside : Result Completeness ToolFault → Type 0
-FailsOutside given = IfErr given IsOutside
-
 -- without a folder of pages nothing can be lacking
 pub record FramesGives (command : FramesCommand) (given : Result Completeness ToolFault) : Type 0 where
   pub fails : IfErr given IsOutside
@@ -129,71 +106,12 @@ DriveGives command (Ok completeness) = ((command.times ≡ None)
     ⊎ ((times : ℕ) × (command.times ≡ Some times) × AreDriven command times × (completeness ≡ Whole))
 DriveGives command (Err fault) = IsUndriven command fault
 
--- ---- stations
-
--- the word of why a call was stopped: a second DCS wasn't allowed, for a reason, or something else stopped it
-abbrev pub stopped_word : Option Refusal → List ℕ
-stopped_word None = codes "stopped"
-stopped_word (Some why) = codes "refused"
-
--- the word of why the call of a station ended, or that it goes on
-abbrev pub end_word : Option CallEnd → Option Refusal → List ℕ
-end_word (Some (By end)) refused = end_text (Some end)
-end_word (Some Stopped) refused = stopped_word refused
-end_word (Some LineLost) refused = codes "line-lost"
-end_word None refused = end_text None
-
--- how long a wait is to run, if that is given
-abbrev pub given_wait : GivenWaits → Wait → Option ℕ
-given_wait given T1 = given.t1
-given_wait given T2 = given.t2
-given_wait given T4 = given.t4
-given_wait given T5 = given.t5
-
--- how many pages wait in memory at most: one that is handed over (true), else the limit, at least one
-abbrev pub page_limit : Bool → ℕ → ℕ
-page_limit true limit = 1
-page_limit false limit = max limit 1
-
--- the lines went no further at a line, or by a file or by memory
-abbrev pub IsHalt : Halted → Type 0
-IsHalt (halted.Line number reason) = Unit {0}
-IsHalt (halted.Fault fault) = IsOutside fault
-
--- What a station's command gives: a fault that stopped its lines; or all was done if the call is whole and lacks its last DCN at most.
-abbrev pub ended_of : Option Halted → Option CallEnd → Bool → Result Completeness ToolFault
-ended_of (Some (halted.Fault fault)) end whole = Err fault
-ended_of (Some (halted.Line number reason)) end whole = Ok Lacking
-ended_of None end whole = Ok (completeness_of (whole && has_left end))
-
--- why images have no pages from this number on: the first fault of the images, or there are fewer pages (28)
-abbrev pub HasNoPagesFrom : Bool → ℕ → List ℕ → ToolFault → Type 0
-HasNoPagesFrom fine from images fault = ((first : RasterFault) × (read_images fine images ≡ Err first) × (fault ≡ No (number_of first)))
-    ⊎ ((pages : List PagePixels) × AreImages fine images pages × (length pages < from) × (fault ≡ No 28))
-
--- the pages of the images in a file from this number on; or why there are none
-abbrev pub SendsFrom : Bool → ℕ → Result (List PagePixels) ToolFault → Type 0
-SendsFrom fine from (Ok document) = (images : List ℕ) × (pages : List PagePixels) × AreImages fine images pages
-    × (document ≡ drop (from - 1) pages)
-SendsFrom fine from (Err fault) = IsOutside fault ⊎ ((images : List ℕ) × HasNoPagesFrom fine from images fault)
-
--- the file has no document that a call carries: no pages from this number on, or one of them has a width that no call has (26)
-abbrev pub IsNoDocument : Bool → ℕ → ToolFault → Type 0
-IsNoDocument fine from fault = SendsFrom fine from (Err fault)
-    ⊎ ((document : List PagePixels) × SendsFrom fine from (Ok document) × ¬ AreCallable document × (fault ≡ No 26))
-
 -- ---- the version
 
 -- the version was printed
 abbrev pub VersionGives : Result Completeness ToolFault → Type 0
 VersionGives (Ok completeness) = completeness ≡ Whole
 VersionGives (Err fault) = IsOutside fault
-
--- ---- all commands
-
--- what comes of a run is among what can come of its command
-abbrev pub Comes : (Result Completeness ToolFault → Type 0) → Result Completeness ToolFault → Type 0
-Comes gives given = gives given
 
 -- what is written of each frame: records if they are asked for, otherwise lines, with words if those are
 abbrev pub list_form : Bool → Bool → ListForm

@@ -1,7 +1,7 @@
 -- What `identify` of several files gives: whether it is known what each of them is.
 use Rattle.std.specs.Prelude.{ℕ, zero, suc, ◌≡◌, ◌⊎◌, ◌&&◌, Bool, true, false, List, Result, Ok, Err, length}
-use Rattle.commands.specs.Runs.{completeness_of}
-use Rattle.commands.specs.declared.command.Completeness.{Completeness}
+use Rattle.command_files.specs.Runs.{completeness_of}
+use Rattle.command_files.specs.declared.command.Completeness.{Completeness}
 use Rattle.commands.specs.declared.identify.several.SeveralCommand.{SeveralCommand}
 use Rattle.faults.specs.Faults.{IsOutside}
 use Rattle.faults.specs.declared.fault.ToolFault.{ToolFault}

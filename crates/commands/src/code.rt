@@ -1,10 +1,10 @@
 //! The command `code`.
 
-use crate::command::{Completeness, NO_NAMES, Names, Runs};
-use crate::context::{Context, Part};
-use crate::files::apart::CommandFiles;
-use crate::files::progress::Watch;
-use crate::files::{input, output};
+use command_files::command::{Completeness, NO_NAMES, Names, Runs};
+use command_files::context::{Context, Part};
+use command_files::files::apart::CommandFiles;
+use command_files::files::progress::Watch;
+use command_files::files::{input, output};
 use faults::ToolFault;
 use page_code::Coding;
 use page_files::{PageForm, read_image, write_code};

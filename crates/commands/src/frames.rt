@@ -2,23 +2,24 @@
 
 pub mod two_captures;
 
+ghost use Rattle.commands.specs.Runs.{list_form};
 ghost use Rattle.faults.specs.Faults.{IsOutside};
 ghost use Rattle.std.specs.Prelude.{◌≡◌, ◌+◌, IfErr, OnOk, false};
 
-use crate::command::{Completeness, NO_NAMES, Names, Runs};
-use crate::context::{Context, Part};
-use crate::files::apart::CommandFiles;
-use crate::files::images::store_page;
-use crate::files::input::{self, Source};
-use crate::files::output::Rights;
-use crate::files::progress::Watch;
-use crate::files::{output, printed};
-use crate::notices::notice;
 use captures::{
     Captured, FoundStore, FrontStore, ListForm, ListOptions, Missing, PageNumbers, Stored,
     StoredFront, list_engine, pages_engine, salvage_pages_engine, write_missing, write_stored,
     write_stored_front,
 };
+use command_files::command::{Completeness, NO_NAMES, Names, Runs};
+use command_files::context::{Context, Part};
+use command_files::files::apart::CommandFiles;
+use command_files::files::images::store_page;
+use command_files::files::input::{self, Source};
+use command_files::files::output::Rights;
+use command_files::files::progress::Watch;
+use command_files::files::{output, printed};
+use command_files::notices::notice;
 use faults::ToolFault;
 use page_files::PageForm;
 use raster::Page;
@@ -26,6 +27,19 @@ use run_tables::Order;
 use std::alloc::AllocError;
 use std::io;
 use std::io::Write;
+
+/// What is written of each frame: records if they are asked for, otherwise lines, with words if those are.
+pub fn list_form(records: bool, words: bool) -> ListForm
+    ensures { result ≡ list_form records words }
+{
+    if records {
+        ListForm::Records
+    } else if words {
+        ListForm::Explained
+    } else {
+        ListForm::Plain
+    }
+}
 
 /// Lists the frames in a file of bits. If a folder is given, writes their pages into its files page-1.pbm and so on, each as soon as it is
 /// complete, if asked for also the rows before the gaps of others, and names what is missing on standard error.
@@ -211,7 +225,7 @@ struct Folder<'a, 'b> {
 }
 
 impl FoundStore for Folder<'_, '_> {
-    ghost use Rattle.commands.specs.Folders.{NotesFound};
+    ghost use Rattle.commands.specs.Captured.{NotesFound};
 
     ghost takes = { λ old found new. NotesFound old.numbers old.is_whole found new.numbers new.is_whole };
 
@@ -231,7 +245,7 @@ impl FoundStore for Folder<'_, '_> {
 }
 
 impl FrontStore for Folder<'_, '_> {
-    ghost use Rattle.commands.specs.Folders.{NotesFront};
+    ghost use Rattle.commands.specs.Captured.{NotesFront};
 
     ghost fronts = { λ old number page new. NotesFront number new.numbers new.is_whole };
 

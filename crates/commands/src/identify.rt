@@ -2,12 +2,12 @@
 
 pub mod several;
 
-use crate::command::{Completeness, NO_NAMES, Names, Runs};
-use crate::context::Context;
-use crate::files::apart::CommandFiles;
-use crate::files::bounded::{Ways, read_coded};
-use crate::files::printed;
-use crate::files::progress::Watch;
+use command_files::command::{Completeness, NO_NAMES, Names, Runs};
+use command_files::context::Context;
+use command_files::files::apart::CommandFiles;
+use command_files::files::bounded::{Ways, read_coded};
+use command_files::files::printed;
+use command_files::files::progress::Watch;
 use faults::ToolFault;
 use page_files::{Identity, PageForm, identify_engine};
 use std::alloc::AllocError;

@@ -1,9 +1,9 @@
 //! The command `version`.
 
-use crate::command::{Completeness, NO_NAMES, Names, Runs};
-use crate::context::Context;
-use crate::files::apart::CommandFiles;
-use crate::files::printed;
+use command_files::command::{Completeness, NO_NAMES, Names, Runs};
+use command_files::context::Context;
+use command_files::files::apart::CommandFiles;
+use command_files::files::printed;
 use faults::ToolFault;
 use page_files::PageForm;
 use std::alloc::AllocError;

@@ -12,7 +12,7 @@ use Rattle.clap.proofs.WalkLemmas.{one_text-rows}
 use Rattle.calls.specs.Losses.{IsRate}
 use Rattle.calls.specs.declared.losses.BadLine.{BadLine}
 use Rattle.std.specs.Prelude.{Bool, false, is_some, not, option_map, string_bytes, ◌&&◌}
-use Rattle.commands.specs.declared.command.Command.TheVariants.{Answer, Call, Captures, Code, Decode, Dial, Drive, Each, Frames, Identify, Several, Show, Version}
+use Rattle.faxtool.specs.declared.command.Command.TheVariants.{Answer, Call, Captures, Code, Decode, Dial, Drive, Each, Frames, Identify, Several, Show, Version}
 use Rattle.faxtool.specs.declared.args.words.Outcome.{Outcome}
 use Rattle.faxtool.specs.declared.args.words.Outcome.TheVariants.{Done, Fault, Incomplete, Words}
 use Rattle.faxtool.specs.Jobs.{AreOptionsIn, HasNoCommand, HasNoOptions, IsFaxtool, IsOutcomeOf, IsRefusalOf, IsWidthIn, ReadsNumber}

@@ -28,12 +28,12 @@ use Rattle.calls.specs.declared.losses.BadLine.{BadLine}
 use Rattle.calls.specs.declared.options.CallOptions.{CallOptions}
 use Rattle.page_files.specs.declared.options.DecodeOptions.{DecodeOptions}
 use Rattle.page_files.specs.declared.options.PageForm.{PageForm}
-use Rattle.commands.specs.declared.station.given.GivenLimits.{GivenLimits}
-use Rattle.commands.specs.declared.station.given.GivenWaits.{GivenWaits}
-use Rattle.commands.specs.declared.files.output.Rights.{Rights}
-use Rattle.commands.specs.declared.files.output.Rights.TheVariants.{Mode, Private}
-use Rattle.commands.specs.declared.command.Command.{Command}
-use Rattle.commands.specs.declared.command.Command.TheVariants.{Answer, Call, Captures, Code, Decode, Dial, Drive, Each, Frames, Identify, Several, Show, Version}
+use Rattle.station_commands.specs.declared.station.given.GivenLimits.{GivenLimits}
+use Rattle.station_commands.specs.declared.station.given.GivenWaits.{GivenWaits}
+use Rattle.command_files.specs.declared.files.output.Rights.{Rights}
+use Rattle.command_files.specs.declared.files.output.Rights.TheVariants.{Mode, Private}
+use Rattle.faxtool.specs.declared.command.Command.{Command}
+use Rattle.faxtool.specs.declared.command.Command.TheVariants.{Answer, Call, Captures, Code, Decode, Dial, Drive, Each, Frames, Identify, Several, Show, Version}
 use Rattle.faxtool.specs.declared.args.words.Request.{Request}
 use Rattle.faxtool.specs.declared.args.words.Outcome.{Outcome}
 use Rattle.faxtool.specs.declared.args.words.Outcome.TheVariants.{Done, Fault, Incomplete, Words}

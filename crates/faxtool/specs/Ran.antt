@@ -3,15 +3,16 @@ use Rattle.std.specs.Prelude.{◌≡◌, ◌⊎◌, Result, Ok, Err}
 use Rattle.clap.specs.Words.{kind_of}
 use Rattle.clap.specs.declared.error.kind.ErrorKind.TheVariants.{ArgumentConflict}
 use Rattle.commands.specs.Each.{EachGives}
-use Rattle.commands.specs.Runs.{CodeGives, DecodeGives, DriveGives, FailsOutside, FramesGives, IdentifyGives, ScriptGives, ShowGives}
+use Rattle.commands.specs.Runs.{CodeGives, DecodeGives, DriveGives, FramesGives, IdentifyGives, ScriptGives, ShowGives}
+use Rattle.command_files.specs.Runs.{FailsOutside}
 use Rattle.commands.specs.Runs.{VersionGives}
 use Rattle.commands.specs.Several.{SeveralGives}
-use Rattle.commands.specs.Talks.{AnswerGives, DialGives}
-use Rattle.commands.specs.declared.command.Command.{Command}
-use Rattle.commands.specs.declared.command.Command.TheVariants.{Answer, Call, Captures, Code, Decode, Dial, Drive, Each, Frames, Identify}
-use Rattle.commands.specs.declared.command.Command.TheVariants.{Several, Show, Version}
-use Rattle.commands.specs.declared.command.Completeness.{Completeness}
-use Rattle.commands.specs.declared.command.Completeness.TheVariants.{Lacking, Whole}
+use Rattle.station_commands.specs.Talks.{AnswerGives, DialGives}
+use Rattle.faxtool.specs.declared.command.Command.{Command}
+use Rattle.faxtool.specs.declared.command.Command.TheVariants.{Answer, Call, Captures, Code, Decode, Dial, Drive, Each, Frames, Identify}
+use Rattle.faxtool.specs.declared.command.Command.TheVariants.{Several, Show, Version}
+use Rattle.command_files.specs.declared.command.Completeness.{Completeness}
+use Rattle.command_files.specs.declared.command.Completeness.TheVariants.{Lacking, Whole}
 use Rattle.faults.specs.Faults.{IsOutside}
 use Rattle.faults.specs.declared.fault.ToolFault.{ToolFault}
 use Rattle.faxtool.specs.declared.args.words.Outcome.{Outcome}

@@ -4,8 +4,8 @@ ghost use Rattle.faxtool.specs.Apart.{IsApartOutcome};
 ghost use Rattle.std.specs.Prelude.{IfErr};
 
 use crate::args::words::{Outcome, unfit};
-use commands::Runs;
-use commands::files::apart::CommandFiles;
+use command_files::Runs;
+use command_files::files::apart::CommandFiles;
 
 /// Checks that the files of a command, which these words ask for, are apart. Errors: the text for the user, or `NoMemory` (9).
 pub fn check_apart<C: Runs>(rt: &HostRuntime, words: &[&str], command: &C) -> Result<(), Outcome>

@@ -8,9 +8,10 @@ ghost use Rattle.std.specs.Prelude.{IfSome};
 
 use crate::apart::check_apart;
 use crate::args::words::{Outcome, Request};
+use crate::command::Command;
 use crate::explain::{show_fault, show_refusal};
-use commands::context::{Context, Messages};
-use commands::{Command, Completeness, Runs};
+use command_files::context::{Context, Messages};
+use command_files::{Completeness, Runs};
 
 /// What a command is run with: the system, the words that ask for it, and how its messages are shown.
 #[derive(Clone, Copy)]

@@ -1,7 +1,7 @@
 //! How a fault is shown: a line, and one of words where they are asked for.
 
 ghost use Rattle.faxtool.specs.declared.args.words.Outcome.TheVariants.{Fault};
-ghost use Rattle.commands.specs.declared.context.Cause.TheVariants.{EmptyRuns, NoEofb};
+ghost use Rattle.command_files.specs.declared.context.Cause.TheVariants.{EmptyRuns, NoEofb};
 ghost use Rattle.page_files.specs.NextT6.{EndsByEofb};
 ghost use Rattle.page_files.specs.Refusals.{EndsInEmptyRuns};
 ghost use Rattle.raster.specs.Packed.{bits_of};
@@ -18,9 +18,9 @@ use crate::explain::row_widths::same_width;
 use crate::explain::told::Told;
 use calls::line_fault_at;
 use clap::Error;
-use commands::Runs;
-use commands::context::{Cause, Context, first_not_callable};
-use commands::notices::is_explained;
+use command_files::Runs;
+use command_files::context::{Cause, Context, first_not_callable};
+use command_files::notices::is_explained;
 use faults::{
     Expected, Explained, FAILED, FaultKind, Known, LineFault, ToolFault, is_shown, write_fault,
     write_notice,

@@ -4,6 +4,7 @@
 
 mod apart;
 mod args;
+mod command;
 mod dispatch;
 mod explain;
 

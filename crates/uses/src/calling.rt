@@ -8,9 +8,10 @@ ghost use Rattle.std.specs.Prelude.{IfOk};
 use call_pictures::{Ladder, WithDiagram, write_picture};
 use call_tallies::drive_many;
 use calls::{BadLine, CallOptions, call_engine};
-use commands::context::{Context, Messages};
+use command_files::context::{Context, Messages};
+use command_files::files::printed::say;
+use command_files::{Completeness, Runs};
 use commands::version::VersionCommand;
-use commands::{Completeness, Runs};
 use conversations::{Conversation, PageStore, TakeFault, TimedLine, answer_line};
 use faults::ToolFault;
 use joined_terminals::happenings::pages_are_taken;
@@ -18,6 +19,7 @@ use line_sim::{Answered, Event, Feed, Report, World, WorldFault, answer_stream};
 use page_code::Coding;
 use raster::{Document, Page};
 use signals::{Caps, Modems, PageWidth, Signal, Wish};
+use station_commands::AnswerCommand;
 use stations::{Caller, CallerIn, Item, LimitedAnswerer};
 use std::alloc::{AllocError, Global};
 use terminals::{AnswererTerminal, SentBurst, Terminal};
@@ -161,12 +163,25 @@ pub fn call_table(
     Ok(text)
 }
 
-/// What `faxtool version` does.
-pub fn print_version(rt: &HostRuntime) -> Result<Completeness, ToolFault> {
+/// A line on standard output, as commands print it.
+pub fn print_words(rt: &HostRuntime, words: &str) -> Result<(), ToolFault> {
     let messages = Messages {
         json: false,
         explain: false,
     };
     let mut context = Context::new(rt, messages);
-    VersionCommand { proof: false }.run(&mut context)
+    say(&mut context, words.as_bytes())
+}
+
+/// What `faxtool station` does as an answerer: it answers the lines of standard input until the call is over.
+pub fn answer_call(
+    context: &mut Context<'_>,
+    command: &AnswerCommand,
+) -> Result<Completeness, ToolFault> {
+    command.run(context)
+}
+
+/// What `faxtool version` does.
+pub fn print_version(context: &mut Context<'_>) -> Result<Completeness, ToolFault> {
+    VersionCommand { proof: false }.run(context)
 }

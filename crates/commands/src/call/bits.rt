@@ -4,11 +4,12 @@ ghost use Rattle.faults.specs.Faults.{IsOutside};
 ghost use Rattle.commands.specs.Runs.{list_form};
 ghost use Rattle.std.specs.Prelude.{◌≡◌, IfErr};
 
-use crate::context::{Context, Part};
-use crate::files::output::{self, Output};
-use crate::files::printed::{self, Printed};
+use crate::frames::list_form;
 use calls::{InForm, WithBits};
 use captures::ListForm;
+use command_files::context::{Context, Part};
+use command_files::files::output::{self, Output};
+use command_files::files::printed::{self, Printed};
 use faults::ToolFault;
 use std::io::{BufWriter, Write};
 use std::{io, mem};
@@ -54,13 +55,7 @@ fn check_printed(context: &mut Context<'_>) -> Result<(), ToolFault>
 fn form_of(context: &Context<'_>) -> ListForm
     ensures { result ≡ list_form context.now.messages.json context.now.messages.explain }
 {
-    if context.is_json() {
-        ListForm::Records
-    } else if context.is_explained() {
-        ListForm::Explained
-    } else {
-        ListForm::Plain
-    }
+    list_form(context.is_json(), context.is_explained())
 }
 
 /// Opens a call's outputs. Errors: `Io` (8) if a file can't be made or standard output is closed, and that is noted; `NoMemory` (9).

@@ -5,9 +5,9 @@ ghost use Rattle.std.specs.Prelude.{IfErr};
 
 use crate::call::CallFiles;
 use crate::call::bits::{self, CallOutput};
-use crate::context::{Context, Part};
-use crate::files::output;
 use call_pictures::{Ladder, WithDiagram, write_picture};
+use command_files::context::{Context, Part};
+use command_files::files::output;
 use faults::ToolFault;
 
 /// Opens a call's outputs, with its picture if that is asked for. Errors: `Io` (8) if a file can't be made or standard output is closed,

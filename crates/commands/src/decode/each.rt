@@ -9,16 +9,16 @@ ghost use Rattle.page_files.specs.declared.found.Found.{Found as FoundValue};
 ghost use Rattle.raster.specs.Pixels.{IsWidth};
 ghost use Rattle.std.specs.Prelude.{◌≡◌, ◌<◌, ◌^◌, IfErr, IfOk, IfSome, length};
 
-use crate::command::{Completeness, NO_NAMES, Names, Runs, both};
-use crate::context::{Context, Part};
 use crate::decode::ends::FileEnd;
-use crate::files::STANDARD;
-use crate::files::apart::CommandFiles;
-use crate::files::bounded::{Ways, read_coded};
-use crate::files::images::save_images;
-use crate::files::output::check_folder;
-use crate::files::printed::say;
-use crate::files::progress::Watch;
+use command_files::command::{Completeness, NO_NAMES, Names, Runs, both};
+use command_files::context::{Context, Part};
+use command_files::files::STANDARD;
+use command_files::files::apart::CommandFiles;
+use command_files::files::bounded::{Ways, read_coded};
+use command_files::files::images::save_images;
+use command_files::files::output::check_folder;
+use command_files::files::printed::say;
+use command_files::files::progress::Watch;
 use faults::{FAILED, ToolFault, write_record};
 use page_code::RefusedCode;
 use page_files::{

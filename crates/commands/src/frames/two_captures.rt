@@ -4,13 +4,13 @@ ghost use Rattle.faults.specs.Faults.{IsOutside};
 ghost use Rattle.std.specs.Prelude.{IfErr};
 
 use crate::call::diagram;
-use crate::command::{Completeness, NO_NAMES, Names, Runs};
-use crate::context::{Context, Part};
-use crate::files::apart::CommandFiles;
-use crate::files::input;
-use crate::files::progress::Watch;
-use crate::notices::notice;
 use call_pictures::{CapturedFrames, captured_frames, ladder_of};
+use command_files::command::{Completeness, NO_NAMES, Names, Runs};
+use command_files::context::{Context, Part};
+use command_files::files::apart::CommandFiles;
+use command_files::files::input;
+use command_files::files::progress::Watch;
+use command_files::notices::notice;
 use faults::ToolFault;
 use page_files::PageForm;
 use run_tables::Order;
@@ -33,7 +33,7 @@ pub struct CapturesCommand {
 
 impl Runs for CapturesCommand {
     ghost use Rattle.std.specs.Prelude.{None};
-    ghost use Rattle.commands.specs.Runs.{FailsOutside};
+    ghost use Rattle.command_files.specs.Runs.{FailsOutside};
 
     ghost width = { λ command. None };
 

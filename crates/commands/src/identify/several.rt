@@ -4,12 +4,12 @@ ghost use Rattle.commands.specs.Several.{IsKnownSo, is_known};
 ghost use Rattle.faults.specs.Faults.{IsOutside};
 ghost use Rattle.std.specs.Prelude.{◌≡◌, IfErr, IfOk};
 
-use crate::command::{Completeness, NO_NAMES, Names, Runs, both};
-use crate::context::Context;
-use crate::files::apart::CommandFiles;
-use crate::files::bounded::{Ways, read_coded};
-use crate::files::printed::say;
-use crate::files::progress::Watch;
+use command_files::command::{Completeness, NO_NAMES, Names, Runs, both};
+use command_files::context::Context;
+use command_files::files::apart::CommandFiles;
+use command_files::files::bounded::{Ways, read_coded};
+use command_files::files::printed::say;
+use command_files::files::progress::Watch;
 use faults::{ToolFault, write_record};
 use page_files::{Found, PageForm, find_way, tell_found, tell_unread};
 use serde_json::json;

@@ -5,8 +5,8 @@ ghost use Rattle.faxtool.specs.Jobs.{HasNoCommand, IsCommandOf, has_captures, ha
 
 use crate::args::unfit::Unfit;
 use crate::args::words::{are_both_standard, is_named, line_order_in, text_in};
+use crate::command::Command;
 use clap::ArgMatches;
-use commands::Command;
 use commands::frames::two_captures::CapturesCommand;
 use std::alloc::{AllocError, Global};
 

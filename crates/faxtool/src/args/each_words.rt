@@ -5,8 +5,8 @@ ghost use Rattle.faxtool.specs.Jobs.{HasNoCommand, IsCommandOf, IsFormIn, has_ha
 
 use crate::args::unfit::Unfit;
 use crate::args::words::{coding_in, decode_options, is_named, order_in, text_in, width_in};
+use crate::command::Command;
 use clap::ArgMatches;
-use commands::Command;
 use commands::decode::each::EachCommand;
 use commands::identify::several::SeveralCommand;
 use page_files::PageForm;

@@ -10,13 +10,13 @@ use crate::args::unfit::Unfit;
 use crate::args::words::{
     coding_in, copy_of, is_named, modems_named, number_in, options_in, page_of, text_in,
 };
+use crate::command::Command;
 use clap::ArgMatches;
-use commands::Command;
-use commands::files::output::Rights;
-use commands::station::given::{GivenLimits, GivenWaits};
-use commands::station::{AnswerCommand, DialCommand};
+use command_files::files::output::Rights;
 use page_code::Coding;
 use signals::{Caps, PageWidth};
+use station_commands::station::given::{GivenLimits, GivenWaits};
+use station_commands::station::{AnswerCommand, DialCommand};
 use std::alloc::{AllocError, Global};
 
 /// Returns the command of one station, if all its values are given and its options go together.

@@ -8,7 +8,6 @@ ghost use Rattle.faxtool.specs.Jobs.{AreDecodeOptionsIn, AreOptionsIn, HasNoComm
 ghost use Rattle.faxtool.specs.Jobs.{IsWidthIn, ReadsAs};
 ghost use Rattle.faxtool.specs.Jobs.{ReadsNumber, are_both_standard, asks, coding_named, is_named, modems_named, page_of};
 ghost use Rattle.faxtool.specs.Jobs.{IsLineIn, IsRateIn, IsSpoilIn, IsBusyIn, IsTimesIn, calls_of, has_line, is_normal_wanted};
-ghost use Rattle.commands.specs.Runs.{list_form};
 ghost use Rattle.faxtool.specs.Jobs.{line_order_named, order_named, status_of};
 ghost use Rattle.calls.specs.declared.losses.BadLine.{BadLine as LineValue};
 
@@ -17,16 +16,15 @@ use crate::args::each_words::{each_command, has_more, several_command};
 use crate::args::parser::{command_alone, entry_named, faxtool_command};
 use crate::args::station_words::station_command;
 use crate::args::unfit::Unfit;
+use crate::command::Command;
 use calls::{BadLine, CallOptions, read_rate};
-use captures::ListForm;
 use clap::error::ErrorKind;
 use clap::{ArgMatches, Error};
-use commands::Command;
 use commands::call::ScriptCommand;
 use commands::call::drives::DriveCommand;
 use commands::code::CodeCommand;
 use commands::decode::DecodeCommand;
-use commands::frames::FramesCommand;
+use commands::frames::{FramesCommand, list_form};
 use commands::identify::IdentifyCommand;
 use commands::show::ShowCommand;
 use commands::version::VersionCommand;
@@ -288,19 +286,6 @@ pub(crate) fn decode_options(matches: &ArgMatches<'_>) -> DecodeOptions
         whole: is_named(text_in(matches, "whole"), "true"),
         verbose: is_named(text_in(matches, "verbose"), "true"),
         records: is_named(text_in(matches, "json"), "true"),
-    }
-}
-
-// Records if they are asked for, otherwise lines, with words if those are.
-fn list_form(records: bool, words: bool) -> ListForm
-    ensures { result ≡ list_form records words }
-{
-    if records {
-        ListForm::Records
-    } else if words {
-        ListForm::Explained
-    } else {
-        ListForm::Plain
     }
 }
 

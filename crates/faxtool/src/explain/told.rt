@@ -3,7 +3,7 @@
 ghost use Rattle.faults.specs.Explanations.{name_text};
 ghost use Rattle.std.specs.Prelude.{◌≡◌};
 
-use commands::context::Cause;
+use command_files::context::Cause;
 use faults::{Explained, is_shown};
 use std::fmt;
 
@@ -23,7 +23,7 @@ fn shown_name(name: &str) -> &str
 
 impl fmt::Display for Told<'_> {
     ghost use Rattle.std.specs.Prelude.{Some};
-    ghost use Rattle.commands.specs.Told.{told};
+    ghost use Rattle.command_files.specs.Told.{told};
 
     ghost output = { λ text. Some (told text.words text.cause) };
 

@@ -1,0 +1,1 @@
+-- No lemmas: what commands share needs answers alone.

@@ -1,0 +1,29 @@
+-- In which ways octets are read as a page, how an image begins and how many octets it has, and which octets of a file are kept.
+use Rattle.std.specs.Prelude.{◌≡◌, ◌⊎◌, ◌+◌, ◌*◌, ◌++◌, ◌&&◌, ℕ, Bool, true, nat_eq, List, [], ◌∷◌, length, take}
+use Rattle.raster.specs.Pages.{PagePixels}
+use Rattle.raster.specs.Pbm.{stride}
+use Rattle.raster.specs.PbmText.{header_text}
+use Rattle.raster.specs.Pixels.{IsWidth}
+use Rattle.command_files.specs.declared.files.bounded.Ways.{Ways}
+use Rattle.command_files.specs.declared.files.bounded.Ways.TheVariants.{One, Tried, Any}
+
+-- a page has this width
+abbrev pub HavePageWidths : Ways → Type 0
+HavePageWidths (One form) = IsWidth form.width
+HavePageWidths Tried = Unit {0}
+HavePageWidths Any = Unit {0}
+
+-- an image begins with P4, so its octets do, or those of them that were read
+abbrev pub begins_image : List ℕ → Bool
+begins_image [] = true
+begins_image (first ∷ []) = nat_eq first 80
+begins_image (first ∷ second ∷ rest) = nat_eq first 80 && nat_eq second 52
+
+-- the octets that are kept, where there is room for so many more, before and after others were read: as many of them, or none if memory is
+-- refused
+abbrev pub KeepsFirst : ℕ → List ℕ → List ℕ → List ℕ → Type 0
+KeepsFirst room old read new = (new ≡ old ++ take room read) ⊎ (new ≡ old)
+
+-- the octets of a page's image: its header, and its rows, each filled to whole octets
+abbrev pub image_octets : PagePixels → ℕ
+image_octets page = length (header_text page.width (length page.rows)) + stride page.width * length page.rows

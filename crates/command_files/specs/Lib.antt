@@ -1,0 +1,5 @@
+-- The definitions of what commands share.
+pub mod Apart
+pub mod Bounds
+pub mod Runs
+pub mod Told

@@ -1,7 +1,0 @@
--- What the check asks of `document`.
-use Rattle.commands.proofs.FromLemmas.{images_lines}
-use Rattle.commands.proofs.station.DialCommand.document.Goals as goal
-
-pub pages_after-requires-clause-lines : goal.pages_after-requires-clause-lines
-pages_after-requires-clause-lines c =
-    images_lines c.args.self.now.options.fine c.octets-images.result.now c.in_ok-document.document c.in_ok-document.ensures.found

@@ -1,0 +1,4 @@
+-- The lemmas of `dial` and `answer`.
+mod FromLemmas
+mod NoteLemmas
+mod TalkLemmas

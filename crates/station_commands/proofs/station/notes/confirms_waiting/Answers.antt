@@ -1,0 +1,14 @@
+-- What the check asks of `confirms_waiting`.
+use Rattle.std.proofs.Common.{rules}
+use Rattle.station_commands.specs.CallNotes.{confirms_after}
+use Rattle.station_commands.proofs.NoteLemmas.{all_left, confirms_left}
+use Rattle.station_commands.proofs.station.notes.confirms_waiting.Goals as goal
+
+pub loop-content-init : goal.loop-content-init
+loop-content-init c = all_left confirms_after c.args.mouth.now c.args.before
+
+pub loop-content-preserved : goal.loop-content-preserved
+loop-content-preserved c =
+    confirms_left c.args.mouth.now c.loop-content.mouth c.next.follows.lender-at-none c.args.before c.loop-content.confirms
+    c.is_confirmation-confirms.result c.in-Some.content.now c.next.follows.holds-at-none c.in-Some.ensures.some (search rules)
+    c.loop-content.invariant

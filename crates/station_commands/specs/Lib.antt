@@ -1,0 +1,7 @@
+-- The definitions of `dial` and `answer`.
+pub mod CallNotes
+pub mod Folders
+pub mod Lateness
+pub mod NoLines
+pub mod Stations
+pub mod Talks

@@ -1,0 +1,74 @@
+-- What can come of `dial` and `answer`: the words of an end, how far a line led, and which pages are sent.
+use Rattle.std.specs.Prelude.{◌≡◌, ◌⊎◌, ◌<◌, ◌&&◌, ◌-◌, ℕ, Bool, List, Option, Some, None, Result, Ok, Err, false, true, codes, drop, length, max}
+use Rattle.calls.specs.Transcripts.{end_text}
+use Rattle.command_files.specs.Runs.{completeness_of}
+use Rattle.command_files.specs.declared.command.Completeness.{Completeness}
+use Rattle.command_files.specs.declared.command.Completeness.TheVariants.{Lacking}
+use Rattle.faults.specs.Faults.{IsOutside}
+use Rattle.faults.specs.declared.fault.ToolFault.{ToolFault}
+use Rattle.faults.specs.declared.fault.ToolFault.TheVariants.{No}
+use Rattle.raster.specs.Faults.{number_of}
+use Rattle.raster.specs.Pages.{PagePixels}
+use Rattle.raster.specs.Pbm.{AreImages, read_images}
+use Rattle.raster.specs.declared.fault.RasterFault.{RasterFault}
+use Rattle.station_commands.specs.CallNotes.{has_left}
+use Rattle.station_commands.specs.declared.station.Halted.{Halted}
+use Rattle.station_commands.specs.declared.station.Halted.TheVariants as halted
+use Rattle.station_commands.specs.declared.station.given.GivenWaits.{GivenWaits}
+use Rattle.stations.specs.CallerFields.{AreCallable}
+use Rattle.stations.specs.declared.stopping.CallEnd.{CallEnd}
+use Rattle.stations.specs.declared.stopping.CallEnd.TheVariants.{By, LineLost, Stopped}
+use Rattle.stations.specs.declared.waiting.Wait.{Wait}
+use Rattle.stations.specs.declared.waiting.Wait.TheVariants.{T1, T2, T4, T5}
+use Rattle.terminals.specs.declared.watching.Refusal.{Refusal}
+
+-- the word of why a call was stopped: a second DCS wasn't allowed, for a reason, or something else stopped it
+abbrev pub stopped_word : Option Refusal → List ℕ
+stopped_word None = codes "stopped"
+stopped_word (Some why) = codes "refused"
+
+-- the word of why the call of a station ended, or that it goes on
+abbrev pub end_word : Option CallEnd → Option Refusal → List ℕ
+end_word (Some (By end)) refused = end_text (Some end)
+end_word (Some Stopped) refused = stopped_word refused
+end_word (Some LineLost) refused = codes "line-lost"
+end_word None refused = end_text None
+
+-- how long a wait is to run, if that is given
+abbrev pub given_wait : GivenWaits → Wait → Option ℕ
+given_wait given T1 = given.t1
+given_wait given T2 = given.t2
+given_wait given T4 = given.t4
+given_wait given T5 = given.t5
+
+-- how many pages wait in memory at most: one that is handed over (true), else the limit, at least one
+abbrev pub page_limit : Bool → ℕ → ℕ
+page_limit true limit = 1
+page_limit false limit = max limit 1
+
+-- the lines went no further at a line, or by a file or by memory
+abbrev pub IsHalt : Halted → Type 0
+IsHalt (halted.Line number reason) = Unit {0}
+IsHalt (halted.Fault fault) = IsOutside fault
+
+-- What a station's command gives: a fault that stopped its lines; or all was done if the call is whole and lacks its last DCN at most.
+abbrev pub ended_of : Option Halted → Option CallEnd → Bool → Result Completeness ToolFault
+ended_of (Some (halted.Fault fault)) end whole = Err fault
+ended_of (Some (halted.Line number reason)) end whole = Ok Lacking
+ended_of None end whole = Ok (completeness_of (whole && has_left end))
+
+-- why images have no pages from this number on: the first fault of the images, or there are fewer pages (28)
+abbrev pub HasNoPagesFrom : Bool → ℕ → List ℕ → ToolFault → Type 0
+HasNoPagesFrom fine from images fault = ((first : RasterFault) × (read_images fine images ≡ Err first) × (fault ≡ No (number_of first)))
+    ⊎ ((pages : List PagePixels) × AreImages fine images pages × (length pages < from) × (fault ≡ No 28))
+
+-- the pages of the images in a file from this number on; or why there are none
+abbrev pub SendsFrom : Bool → ℕ → Result (List PagePixels) ToolFault → Type 0
+SendsFrom fine from (Ok document) = (images : List ℕ) × (pages : List PagePixels) × AreImages fine images pages
+    × (document ≡ drop (from - 1) pages)
+SendsFrom fine from (Err fault) = IsOutside fault ⊎ ((images : List ℕ) × HasNoPagesFrom fine from images fault)
+
+-- the file has no document that a call carries: no pages from this number on, or one of them has a width that no call has (26)
+abbrev pub IsNoDocument : Bool → ℕ → ToolFault → Type 0
+IsNoDocument fine from fault = SendsFrom fine from (Err fault)
+    ⊎ ((document : List PagePixels) × SendsFrom fine from (Ok document) × ¬ AreCallable document × (fault ≡ No 26))

@@ -1,0 +1,616 @@
+//! One end of a call, by lines of text on standard input and output.
+
+pub(crate) mod ending;
+pub(crate) mod folder;
+pub mod given;
+pub(crate) mod lateness;
+pub(crate) mod no_line;
+pub(crate) mod notes;
+pub(crate) mod records;
+pub(crate) mod trace;
+
+ghost use Rattle.faults.specs.Faults.{IsOutside};
+ghost use Rattle.station_commands.specs.Stations.{IsHalt, IsNoDocument, SendsFrom, end_word, given_wait, page_limit, stopped_word};
+ghost use Rattle.station_commands.specs.Talks.{AnswerTalks, DialTalks, NewAnswering, NewDialling, Talks, halt_of, says_of, wish_of};
+ghost use Rattle.station_commands.specs.declared.station.Halted.{Halted as HaltedValue};
+ghost use Rattle.conversations.specs.Conversations.{behaviour};
+ghost use Rattle.conversations.specs.Conversing.{talker};
+ghost use Rattle.conversations.specs.Talking.{keeping};
+ghost use Rattle.stations.specs.CallerFields.{NewCaller};
+ghost use Rattle.std.specs.Prelude.{◌≡◌, ◌<◌, ◌-◌, IfErr, IfOk, IfSome, List, Ok, Result, drop, length, map, unwrap_or};
+ghost use Rattle.raster.specs.Pages.{IsDocument, PagePixels};
+ghost use Rattle.raster.specs.Pbm.{AreImages};
+ghost use Rattle.raster.specs.PbmText.{with_fine};
+ghost use Rattle.stations.specs.declared.waiting.Wait.{Wait as AnyWait};
+ghost use Rattle.terminals.specs.Clocks.{duration};
+ghost use Rattle.terminals.specs.Timing.{wait_millis};
+
+use crate::station::ending::end_station;
+use crate::station::folder::{CallLimits, Folder, StoppedBy};
+use crate::station::given::{GivenLimits, GivenWaits};
+use crate::station::lateness::Lateness;
+use crate::station::no_line::{LastLine, NoLine, no_line};
+use crate::station::notes::Notes;
+use crate::station::records::{write_confirmed, write_confirmed_words};
+use crate::station::trace::Trace;
+use calls::{CallOptions, end_word};
+use command_files::command::{Completeness, NO_NAMES, Names, Runs};
+use command_files::context::{Cause, Context, Part, first_not_callable};
+use command_files::files::apart::CommandFiles;
+use command_files::files::input::read_images;
+use command_files::files::output::Rights;
+use command_files::files::printed::{self, Printed};
+use command_files::files::progress::Watch;
+use command_files::files::{STANDARD, output};
+use conversations::{Conversation, ConverseFault, Ending, Keeper, Refusal, Said, Says, converse};
+use faults::{FAILED, NO_MEMORY, ToolFault};
+use page_files::PageForm;
+use raster::laws::pbm_round_trip;
+use raster::{Document, Page, RasterFault, read_pbm, write_pbm};
+use signals::{Caps, Reason, Wish};
+use stations::{CallEnd, Caller, CallerFault, LimitedAnswerer, Limits, StoppableCaller, Turn};
+use std::alloc::{AllocError, Global};
+use std::io;
+use std::io::{BufRead, BufReader, BufWriter, ErrorKind, Write};
+use terminals::{Durations, Stoppable, Terminal};
+
+/// How many octets of standard input are read at a time.
+const READ_AT_ONCE: usize = 65536;
+
+/// Why the lines of a station went no further.
+#[derive(Clone, Copy, Drop)]
+pub(crate) enum Halted {
+    /// The line with this number, from 1, isn't answered, for this reason.
+    Line(u64, NoLine),
+    /// A file, standard input or output failed, or memory was refused.
+    Fault(ToolFault),
+}
+
+impl From<io::Error> for Halted {
+    ghost use Rattle.station_commands.specs.Stations.{IsHalt};
+
+    ghost from_gives = { λ _ halted. IsHalt halted };
+
+    fn from(error: io::Error) -> Halted {
+        Halted::Fault(ToolFault::from(error))
+    }
+}
+
+impl From<AllocError> for Halted {
+    ghost use Rattle.station_commands.specs.Stations.{IsHalt};
+
+    ghost from_gives = { λ _ halted. IsHalt halted };
+
+    fn from(error: AllocError) -> Halted {
+        Halted::Fault(ToolFault::from(error))
+    }
+}
+
+/// What came of the lines of a station.
+#[derive(Drop)]
+pub(crate) struct Talked {
+    /// Why its call ended, if it has.
+    pub(crate) end: Option<CallEnd>,
+    /// Why a second DCS wasn't allowed, if there was one.
+    pub(crate) refused: Option<Refusal>,
+    /// Why the answerer's program stopped it, if it did.
+    pub(crate) stopped: Option<StoppedBy>,
+    /// Why a page's file couldn't be written, if that is so.
+    pub(crate) failed: Option<ErrorKind>,
+    /// What the answerer lacks, if it wasn't compatible.
+    pub(crate) missing: Option<Reason>,
+    /// The pages that a caller counts as confirmed, or that an answerer has on disk.
+    pub(crate) pages: u64,
+    /// Whether all pages are confirmed.
+    pub(crate) whole: bool,
+    /// Why its lines went no further, if that is so.
+    pub(crate) halted: Option<Halted>,
+}
+
+/// The word of why a call ended, or that it goes on; a call that was stopped may be refused for a reason.
+pub(crate) fn word_of(end: Option<CallEnd>, refused: Option<Refusal>) -> &'static str
+    ensures { result.now ≡ end_word end refused }
+{
+    match end {
+        Some(CallEnd::By(end)) => end_word(Some(end)),
+        Some(CallEnd::Stopped) => stopped_word(refused),
+        Some(CallEnd::LineLost) => "line-lost",
+        None => end_word(None),
+    }
+}
+
+/// The word of why a call was stopped.
+fn stopped_word(refused: Option<Refusal>) -> &'static str
+    ensures { result.now ≡ stopped_word refused }
+{
+    match refused {
+        Some(_why) => "refused",
+        None => "stopped",
+    }
+}
+
+/// How long the waits of a station run.
+fn durations(given: GivenWaits) -> Durations
+    ensures { (wait : AnyWait) → duration result wait ≡ unwrap_or (given_wait given wait) (wait_millis wait) }
+{
+    let usual = Durations::of_t30();
+    Durations {
+        t1: given.t1.unwrap_or(usual.t1),
+        t2: given.t2.unwrap_or(usual.t2),
+        t4: given.t4.unwrap_or(usual.t4),
+        t5: given.t5.unwrap_or(usual.t5),
+    }
+}
+
+/// What a station says beside its bursts.
+fn says(given: GivenWaits) -> Says
+    ensures { result ≡ says_of given }
+{
+    Says {
+        hears: given.hears,
+        waits: given.hears,
+        frames: given.frames,
+    }
+}
+
+/// A caller keeps no pages: it tells which are confirmed.
+#[derive(Drop)]
+struct Confirmed<'a> {
+    rt: &'a HostRuntime,
+    records: bool,
+    told: u64,
+}
+
+impl Keeper<StoppableCaller> for Confirmed<'_> {
+    ghost use Rattle.conversations.specs.Holding.{can_come};
+    ghost use Rattle.station_commands.specs.Talks.{TellsConfirmed};
+    ghost use Rattle.std.specs.Prelude.{[], None};
+
+    ghost keeps = { λ old c said new after kept. TellsConfirmed old c new after kept };
+
+    ghost takes = { λ confirmed said. can_come None said };
+
+    ghost tells = { λ confirmed. [] };
+
+    type Refused = ToolFault;
+
+    fn can_take(&self, said: &Said) -> bool {
+        !matches!(said, Said::Told { .. })
+    }
+
+    fn told(&self) -> &[u8] {
+        b""
+    }
+
+    fn keep(
+        &mut self,
+        conversation: &mut Conversation<StoppableCaller>,
+        _said: &Said,
+    ) -> Option<ToolFault> {
+        let confirmed = conversation.terminal().station().station().confirmed();
+        self.tell(conversation.clock().now, confirmed);
+        self.told = confirmed;
+        None
+    }
+}
+
+impl Confirmed<'_> {
+    /// Tells of each page that is confirmed and wasn't told, at a time.
+    fn tell(&self, at: u64, confirmed: u64) {
+        for before in self.told..confirmed {
+            self.tell_page(at, before.saturating_add(1));
+        }
+    }
+
+    /// Tells that the page of this number is confirmed.
+    fn tell_page(&self, at: u64, number: u64) {
+        let mut told = self.rt.stderr();
+        let _told = if self.records {
+            write_confirmed(self.rt.alloc(), at, number, &mut told)
+        } else {
+            write_confirmed_words(at, number, &mut told)
+        };
+    }
+}
+
+/// The fault of a follower or a keeper: `NoMemory` (9), or `Io` (8).
+fn outside(fault: ToolFault) -> ToolFault
+    ensures { IsOutside result }
+{
+    match fault {
+        ToolFault::No(9) => NO_MEMORY,
+        _ => FAILED,
+    }
+}
+
+/// Why the lines of a reader go no further. Why they can't be read is noted.
+fn halted_by<R: BufRead + Drop>(
+    context: &mut Context<'_>,
+    fault: ConverseFault<ToolFault>,
+    reader: &LastLine<R>,
+) -> Halted
+    ensures { IsHalt result }
+{
+    match fault {
+        ConverseFault::Line(_) => {
+            let why = no_line(context.alloc(), reader.line());
+            Halted::Line(reader.number(), why)
+        }
+        ConverseFault::NoMemory | ConverseFault::Writer(ErrorKind::OutOfMemory) => {
+            Halted::Fault(NO_MEMORY)
+        }
+        ConverseFault::Reader(kind) => {
+            context.blame(Part::Input, kind);
+            Halted::Fault(FAILED)
+        }
+        ConverseFault::Writer(_) | ConverseFault::TooManyLines => Halted::Fault(FAILED),
+        ConverseFault::Follower(fault) => Halted::Fault(outside(fault)),
+    }
+}
+
+/// Takes the lines of standard input until the call is over, and writes the answer to each. If the input ends before, the line is lost. A line
+/// for which memory is refused is lost too, and the call goes on.
+fn talk<S: Stoppable, K: Keeper<S, Refused = ToolFault>>(
+    context: &mut Context<'_>,
+    conversation: &mut Conversation<S>,
+    keeper: &mut K,
+    writer: &mut BufWriter<Printed<'_>>,
+    notes: &mut Notes<'_>,
+) -> Result<(), Halted>
+    ensures halted { IfErr result IsHalt }
+    ensures talks { Talks S K (talker (behaviour S.sends S.steps S.shows S.cut_off S.stop_says) (keeping K.keeps K.takes K.tells) S.lends)
+        conversation.old keeper.old conversation.new keeper.new result }
+{
+    let alloc = context.alloc();
+    let input = BufReader::with_capacity(alloc, READ_AT_ONCE, context.rt().reader())?;
+    let mut reader = LastLine::new(alloc, input);
+    for _lost in 0..u64::MAX {
+        match converse(alloc, &mut reader, conversation, keeper, writer, notes) {
+            Ok(Ending::Over) => return Ok(()),
+            Ok(Ending::Lost) => return Ok(()),
+            Ok(Ending::Unkept(fault)) => return Err(Halted::Fault(outside(fault))),
+            Err(ConverseFault::NoMemory) => {}
+            Err(fault) => return Err(halted_by(context, fault, &reader)),
+        }
+        if !reader.skip_line()? {
+            return Err(Halted::Fault(NO_MEMORY));
+        }
+        writer.write_all(b"wait\n")?;
+        writer.flush()?;
+    }
+    Err(Halted::Fault(NO_MEMORY))
+}
+
+/// Talks, and notes why standard output failed. Returns why the lines went no further, if that is so. Errors: `NoMemory` (9).
+fn talk_out<S: Stoppable, K: Keeper<S, Refused = ToolFault>>(
+    context: &mut Context<'_>,
+    conversation: &mut Conversation<S>,
+    keeper: &mut K,
+    notes: &mut Notes<'_>,
+) -> Result<Option<Halted>, ToolFault>
+    ensures halted { IfOk result (λ halted. IfSome halted IsHalt) }
+    ensures talks { IfOk result (λ halted. (ended : Result (Unit {0}) HaltedValue)
+        × Talks S K (talker (behaviour S.sends S.steps S.shows S.cut_off S.stop_says) (keeping K.keeps K.takes K.tells) S.lends)
+        conversation.old keeper.old conversation.new keeper.new ended
+        × (halted ≡ halt_of ended)) }
+    ensures fault { IfErr result IsOutside }
+{
+    let mut writer = printed::print(context)?;
+    let talked = talk(context, conversation, keeper, &mut writer, notes);
+    if let Some(kind) = writer.get_ref().failed() {
+        context.blame(Part::Printed, kind);
+    }
+    Ok(talked.err())
+}
+
+/// How many pages wait in memory at most: one, if it is handed over, else the limit, at least one.
+fn page_limit(holds: bool, limit: u32) -> u64
+    ensures { result ≡ page_limit holds limit }
+{
+    if holds { 1 } else { u64::from(limit).max(1) }
+}
+
+/// Runs an answerer by lines of text.
+#[derive(Debug, PartialEq, Eq, Drop)]
+pub struct AnswerCommand {
+    /// What it can do.
+    pub caps: Caps,
+    /// How many pages wait in memory at most, 1 to 1,000.
+    pub limit: u32,
+    /// Whether its pages are handed over, and confirmed once a line says that they are kept.
+    pub holds: bool,
+    /// What its call may have at most, if given.
+    pub limits: GivenLimits,
+    /// Whether its call is stopped at the second DCS that isn't allowed.
+    pub refuses: bool,
+    /// How long its waits run.
+    pub waits: GivenWaits,
+    /// The name of the folder that the stored pages go to.
+    pub out: String,
+    /// Who may read and write their files.
+    pub rights: Rights,
+    /// The name of the file that the trace goes to, if one is given.
+    pub trace: Option<String>,
+    /// Whether the trace has a line for each frame of a block.
+    pub frames: bool,
+}
+
+impl Runs for AnswerCommand {
+    ghost use Rattle.std.specs.Prelude.{None};
+    ghost use Rattle.station_commands.specs.Talks.{AnswerGives};
+
+    ghost width = { λ command. None };
+
+    ghost gives = { λ command result. AnswerGives command result };
+
+    fn names(&self) -> Names<'_> {
+        Names {
+            output: Some(self.out.as_str()),
+            trace: self.trace.as_deref(),
+            ..NO_NAMES
+        }
+    }
+
+    fn add_files(&self, files: &mut CommandFiles<'_>) -> Result<(), AllocError> {
+        files.reads("standard input", STANDARD)?;
+        files.may_write("--trace", self.trace.as_deref())?;
+        files.prints()
+    }
+
+    fn page(&self) -> Option<PageForm> {
+        None
+    }
+
+    fn run(&self, context: &mut Context<'_>) -> Result<Completeness, ToolFault> {
+        // before a line is read
+        output::check_makes(context, self.out.as_str(), self.rights, Part::Output)?;
+        let talked = self.talk(context)?;
+        end_station(context, &talked, false)
+    }
+}
+
+impl AnswerCommand {
+    /// Its conversation, which hasn't begun, and whether it is stopped at the second DCS that isn't allowed.
+    fn conversation(&self, alloc: Global) -> Conversation<LimitedAnswerer>
+        ensures { NewAnswering self.now result }
+    {
+        let caps = Caps {
+            receiver: true,
+            ecm: true,
+            ..self.caps
+        };
+        let limits = Limits {
+            pages: page_limit(self.holds, self.limit),
+            octets: u64::MAX,
+        };
+        let (station, first) = LimitedAnswerer::new(alloc, caps, limits);
+        let terminal = Terminal::new(alloc, station, first);
+        let conversation = Conversation::new_answerer(terminal, durations(self.waits));
+        conversation
+            .saying(says(self.waits))
+            .watching(alloc, caps, self.refuses)
+    }
+
+    /// Takes the lines. Errors: `Io` (8) if a file can't be opened, and that is noted; `NoMemory` (9).
+    fn talk(&self, context: &mut Context<'_>) -> Result<Talked, ToolFault>
+        ensures halted { IfOk result (λ talked. IfSome talked.halted IsHalt) }
+        ensures talks { IfOk result (AnswerTalks self.now) }
+        ensures fault { IfErr result IsOutside }
+    {
+        let mut conversation = self.conversation(context.alloc());
+        let limits = CallLimits::of(self.limits);
+        let (name, records) = (self.out.as_str(), context.is_json());
+        let folder = Folder::new(context.rt(), name, self.rights, records, limits);
+        let mut folder = folder.holding(self.holds);
+        let trace = Trace::open(context, self.trace.as_deref(), self.frames)?;
+        let lateness = Lateness::new(context.rt(), self.waits.late);
+        let mut notes = Notes::new(context.rt(), records, trace, lateness);
+        let halted = talk_out(context, &mut conversation, &mut folder, &mut notes)?;
+        if let Some(kind) = folder.failed() {
+            context.blame(Part::Output, kind);
+        }
+        let progress = conversation.terminal().station().station().progress();
+        Ok(Talked {
+            end: conversation.end(),
+            refused: conversation.refusal(),
+            stopped: folder.stopped(),
+            failed: folder.failed(),
+            missing: None,
+            pages: folder.stored(),
+            whole: notes.noted().is_whole(progress.accepted),
+            halted,
+        })
+    }
+}
+
+/// Reads images that were written. Errors: `Io` (8), `NoMemory` (9).
+fn read_written(alloc: Global, images: &[u8], fine: bool) -> Result<Document, ToolFault>
+    ensures read { IfOk result (λ document. (pages : List PagePixels) → AreImages fine images.now pages → document ≡ pages) }
+    ensures fault { IfErr result IsOutside }
+{
+    let mut images = images;
+    match read_pbm(alloc, &mut images, fine) {
+        Ok(document) => Ok(document),
+        Err(RasterFault::NoMemory) => Err(NO_MEMORY),
+        Err(_) => Err(FAILED),
+    }
+}
+
+/// Returns some pages as a document, by images that are written of them and read. Errors: `Io` (8), `NoMemory` (9).
+fn document_of(alloc: Global, pages: &[Page], fine: bool) -> Result<Document, ToolFault>
+    requires document { IsDocument pages.now }
+    requires lines { map (with_fine fine) pages.now ≡ pages.now }
+    ensures same { IfOk result (λ document. document ≡ pages.now) }
+    ensures fault { IfErr result IsOutside }
+{
+    pbm_round_trip();
+    let mut octets = Vec::new(alloc);
+    match write_pbm(pages, &mut octets) {
+        Ok(()) => read_written(alloc, octets.as_slice(), fine),
+        Err(_) => Err(FAILED),
+    }
+}
+
+/// The pages of a document after so many, with the same lines. Errors: `Io` (8), `NoMemory` (9).
+fn pages_after(
+    alloc: Global,
+    document: Document,
+    before: usize,
+    fine: bool,
+) -> Result<Document, ToolFault>
+    requires some { before < length document }
+    requires lines { map (with_fine fine) document ≡ document }
+    ensures rest { IfOk result (λ rest. rest ≡ drop before document) }
+    ensures fault { IfErr result IsOutside }
+{
+    if before == 0 {
+        return Ok(document);
+    }
+    // a document can't drop its first pages
+    document_of(alloc, &document.pages()[before..], fine)
+}
+
+/// Runs a caller by lines of text.
+#[derive(Debug, PartialEq, Eq, Drop)]
+pub struct DialCommand {
+    /// What it is run with.
+    pub options: CallOptions,
+    /// The number of the first page that it sends, from 1.
+    pub from: u32,
+    /// How long its waits run.
+    pub waits: GivenWaits,
+    /// The name of the file that the trace goes to, if one is given.
+    pub trace: Option<String>,
+    /// Whether the trace has a line for each frame of a block.
+    pub frames: bool,
+    /// The name of the document's file.
+    pub input: String,
+}
+
+impl Runs for DialCommand {
+    ghost use Rattle.std.specs.Prelude.{None};
+    ghost use Rattle.station_commands.specs.Talks.{DialGives};
+
+    ghost width = { λ command. None };
+
+    ghost gives = { λ command result. DialGives command result };
+
+    fn names(&self) -> Names<'_> {
+        Names {
+            input: self.input.as_str(),
+            trace: self.trace.as_deref(),
+            ..NO_NAMES
+        }
+    }
+
+    fn add_files(&self, files: &mut CommandFiles<'_>) -> Result<(), AllocError> {
+        files.reads("standard input", STANDARD)?;
+        files.reads("IN", self.input.as_str())?;
+        files.may_write("--trace", self.trace.as_deref())?;
+        files.prints()
+    }
+
+    fn page(&self) -> Option<PageForm> {
+        None
+    }
+
+    fn run(&self, context: &mut Context<'_>) -> Result<Completeness, ToolFault> {
+        let caller = self.caller(context)?;
+        let talked = self.talk(context, caller)?;
+        end_station(context, &talked, true)
+    }
+}
+
+impl DialCommand {
+    /// Returns the pages that are sent: those of its file from a number on. Errors: the first fault of the file, `FewerPages` (28), `Io` (8)
+    /// if the file can't be read, and that is noted; `NoMemory` (9).
+    fn document(&self, context: &mut Context<'_>) -> Result<Document, ToolFault>
+        ensures { SendsFrom self.now.options.fine self.now.from result }
+    {
+        read_images(context, self.input.as_str(), Watch::Silent)?;
+        let mut images = context.octets();
+        let document = read_pbm(context.alloc(), &mut images, self.options.fine)?;
+        let count = document.pages().len();
+        let before = self.pages_before();
+        if before < count {
+            return pages_after(context.alloc(), document, before, self.options.fine);
+        }
+        let from = self.from;
+        context.note_cause(Cause::FewerPages { count, from });
+        Err(ToolFault::No(28))
+    }
+
+    /// How many pages of its file come before those that it sends.
+    fn pages_before(&self) -> usize
+        ensures { result ≡ self.now.from - 1 }
+    {
+        self.from.saturating_sub(1) as usize
+    }
+
+    /// Returns the caller, with the pages that are sent. Errors: those of `document`, and `WidthNotCallable` (26).
+    fn caller(&self, context: &mut Context<'_>) -> Result<Caller, ToolFault>
+        ensures caller { IfOk result (λ caller. (document : List PagePixels)
+            × SendsFrom self.now.options.fine self.now.from (Ok document) × NewCaller document (wish_of self.now.options) (Ok caller)) }
+        ensures fault { IfErr result (IsNoDocument self.now.options.fine self.now.from) }
+    {
+        let document = self.document(context)?;
+        if let Some(cause) = first_not_callable(document.pages(), self.pages_before()) {
+            context.note_cause(cause);
+        }
+        match Caller::new(context.alloc(), document, self.wish()) {
+            Ok(caller) => Ok(caller),
+            Err(CallerFault::WidthNotCallable) => Err(ToolFault::No(26)),
+        }
+    }
+
+    /// How it sends, if the answerer takes that.
+    fn wish(&self) -> Wish
+        ensures { result ≡ wish_of self.now.options }
+    {
+        Wish {
+            modems: self.options.modems,
+            coding: self.options.coding,
+            small: self.options.small,
+        }
+    }
+
+    /// Its conversation, at time 0.
+    fn conversation(&self, alloc: Global, caller: Caller) -> Conversation<StoppableCaller>
+        ensures { (document : List PagePixels) → NewCaller document (wish_of self.now.options) (Ok caller)
+            → NewDialling self.now document result }
+    {
+        let station = StoppableCaller::new(caller);
+        let terminal = Terminal::new(alloc, station, Turn::Silent);
+        Conversation::new_caller(terminal, durations(self.waits)).saying(says(self.waits))
+    }
+
+    /// Takes the lines. Errors: `Io` (8) if the trace can't be opened, and that is noted; `NoMemory` (9).
+    fn talk(&self, context: &mut Context<'_>, caller: Caller) -> Result<Talked, ToolFault>
+        ensures halted { IfOk result (λ talked. IfSome talked.halted IsHalt) }
+        ensures talks { (document : List PagePixels) → SendsFrom self.now.options.fine self.now.from (Ok document)
+            → NewCaller document (wish_of self.now.options) (Ok caller) → IfOk result (DialTalks self.now) }
+        ensures fault { IfErr result IsOutside }
+    {
+        let mut conversation = self.conversation(context.alloc(), caller);
+        let (rt, records) = (context.rt(), context.is_json());
+        let trace = Trace::open(context, self.trace.as_deref(), self.frames)?;
+        let mut notes = Notes::new(rt, records, trace, Lateness::new(rt, self.waits.late));
+        let mut confirmed = Confirmed {
+            rt,
+            records,
+            told: 0,
+        };
+        let halted = talk_out(context, &mut conversation, &mut confirmed, &mut notes)?;
+        let progress = conversation.terminal().station().station().progress();
+        Ok(Talked {
+            end: conversation.end(),
+            refused: None,
+            stopped: None,
+            failed: None,
+            missing: notes.noted().missing(self.wish(), self.options.fine),
+            pages: progress.confirmed,
+            whole: progress.confirmed == progress.pages,
+            halted,
+        })
+    }
+}

@@ -1,0 +1,178 @@
+//! How the call of a station ended, and how that is shown.
+
+ghost use Rattle.faults.specs.Faults.{IsOutside};
+ghost use Rattle.station_commands.specs.CallNotes.{end_why, has_left, missing_why, reason_words, refusal_words, stopped_why, why_words};
+ghost use Rattle.station_commands.specs.Stations.{IsHalt, ended_of};
+ghost use Rattle.std.specs.Prelude.{◌≡◌, IfErr, IfSome, option_map};
+
+use crate::station::folder::StoppedBy;
+use crate::station::no_line::NoLine;
+use crate::station::records::{State, write_state};
+use crate::station::{self, Halted, Talked};
+use captures::write_ended;
+use command_files::command::Completeness;
+use command_files::context::Context;
+use conversations::Refusal;
+use faults::{ToolFault, write_line_fault};
+use signals::Reason;
+use stations::{CallEnd, End};
+
+/// Shows what came of the lines of a station: how its call ended, or why the lines went no further. It is complete if the call is whole and
+/// lacks its last DCN at most. Errors: the fault of a file, or of memory.
+pub(crate) fn end_station(
+    context: &Context<'_>,
+    talked: &Talked,
+    calls: bool,
+) -> Result<Completeness, ToolFault>
+    requires { IfSome talked.now.halted IsHalt }
+    ensures ended { result ≡ ended_of talked.now.halted talked.now.end talked.now.whole }
+    ensures fault { IfErr result IsOutside }
+{
+    record_state(context, talked, calls);
+    match talked.halted {
+        Some(Halted::Fault(fault)) => return Err(fault),
+        Some(Halted::Line(number, reason)) => {
+            show_line_fault(context, number, reason);
+            return Ok(Completeness::Lacking);
+        }
+        None => {}
+    }
+    show_end(context, talked, calls);
+    Ok(Completeness::of(talked.whole && has_left(talked.end)))
+}
+
+/// Whether the end of a call of which all was confirmed lacks its last DCN at most.
+fn has_left(end: Option<CallEnd>) -> bool
+    ensures { result ≡ has_left end }
+{
+    match end {
+        Some(CallEnd::LineLost | CallEnd::By(End::Normal | End::NoAnswer)) => true,
+        _ => false,
+    }
+}
+
+/// Why a DCS isn't allowed, in words.
+fn refusal_words(refused: Refusal) -> &'static str
+    ensures { result.now ≡ refusal_words refused }
+{
+    match refused {
+        Refusal::NoErrorCorrection => "the caller sends without error correction",
+        Refusal::NotOffered =>
+            "the caller sends at a speed or pages that the answerer doesn't offer",
+    }
+}
+
+/// What an answerer lacks, in words.
+fn reason_words(reason: Reason) -> &'static str
+    ensures { result.now ≡ reason_words reason }
+{
+    match reason {
+        Reason::NoReceiver => "the answerer doesn't receive",
+        Reason::NoErrorCorrection => "the answerer has no error correction",
+        Reason::TooWide => "the page is wider than the answerer takes",
+        Reason::NoFineLines => "the answerer takes no fine lines",
+        Reason::NoCommonSpeed => "the stations have no common speed",
+    }
+}
+
+/// Why a DCS wasn't allowed, of a call that was stopped, or else why the program stopped it.
+fn stopped_why(refused: Option<Refusal>, by: Option<StoppedBy>) -> Option<&'static str>
+    ensures { option_map (λ why. why.now) result ≡ stopped_why refused by }
+{
+    match (refused, by) {
+        (Some(why), _) => Some(refusal_words(why)),
+        (None, Some(by)) => Some(by.words()),
+        (None, None) => None,
+    }
+}
+
+/// What is missing, of stations that aren't compatible.
+fn missing_why(missing: Option<Reason>) -> Option<&'static str>
+    ensures { option_map (λ why. why.now) result ≡ missing_why missing }
+{
+    match missing {
+        Some(reason) => Some(reason_words(reason)),
+        None => None,
+    }
+}
+
+/// Why the call ended so, in words, or why a page's file couldn't be written.
+fn why_words(talked: &Talked) -> Option<&'static str>
+    ensures { option_map (λ why. why.now) result
+        ≡ why_words talked.now.failed (end_why talked.now.end talked.now.refused talked.now.stopped talked.now.missing) }
+{
+    match talked.failed {
+        Some(kind) => Some(faults::reason_words(Some(kind))),
+        None => end_why(talked),
+    }
+}
+
+/// Why the call ended so, in words, where more is known than its end.
+fn end_why(talked: &Talked) -> Option<&'static str>
+    ensures { option_map (λ why. why.now) result
+        ≡ end_why talked.now.end talked.now.refused talked.now.stopped talked.now.missing }
+{
+    match talked.end {
+        Some(CallEnd::Stopped) => stopped_why(talked.refused, talked.stopped),
+        Some(CallEnd::By(End::NotCompatible)) => missing_why(talked.missing),
+        _ => None,
+    }
+}
+
+/// Records how a call stands at its end, if records are asked for.
+fn record_state(context: &Context<'_>, talked: &Talked, calls: bool) {
+    if !context.is_json() {
+        return;
+    }
+    let state = State {
+        calls,
+        pages: talked.pages,
+        whole: talked.whole,
+        why: why_words(talked),
+    };
+    let _told = write_state(context.alloc(), &state, &mut context.rt().stderr());
+}
+
+/// Shows why a call is refused, or what the answerer lacks, if that is so.
+fn show_why(rt: &HostRuntime, talked: &Talked) {
+    if let (Some(CallEnd::Stopped), Some(refused)) = (talked.end, talked.refused) {
+        let _told = eprintln!(rt; "the call is refused: {}", refusal_words(refused));
+    }
+    if let (Some(CallEnd::By(End::NotCompatible)), Some(missing)) = (talked.end, talked.missing) {
+        let _told = eprintln!(rt; "not compatible: {}", reason_words(missing));
+    }
+}
+
+/// Shows how the call of a station ended; as a line, after one of why it is refused, if it is.
+fn show_end(context: &Context<'_>, talked: &Talked, calls: bool) {
+    let rt = context.rt();
+    let word = station::word_of(talked.end, talked.refused);
+    if context.is_json()
+        && write_ended(context.alloc(), word, calls, talked.pages, &mut rt.stderr()).is_ok()
+    {
+        return;
+    }
+    show_why(rt, talked);
+    let counted = if calls { "confirmed" } else { "pages" };
+    let _shown = eprintln!(rt; "end {word} {counted} {}", talked.pages);
+}
+
+/// Shows that a line says nothing that a station knows.
+fn show_line_fault(context: &Context<'_>, number: u64, reason: NoLine) {
+    let rt = context.rt();
+    if context.is_json() && record_line_fault(rt, number, reason).is_ok() {
+        return;
+    }
+    let _shown = eprintln!(rt; "fault 31 at line {number}");
+    if context.explains() {
+        let _explained = eprintln!(rt; "standard input: line {number}, {reason}");
+    }
+}
+
+/// Shows the record of a line that says nothing that a station knows.
+fn record_line_fault(rt: &HostRuntime, number: u64, reason: NoLine) -> Result<(), ToolFault>
+    ensures { IfErr result IsOutside }
+{
+    let words = format!(in rt.alloc(); "standard input: line {number}, {reason}")?;
+    write_line_fault(rt.alloc(), 31, number, words.as_str(), &mut rt.stderr())
+}

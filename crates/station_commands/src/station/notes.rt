@@ -1,0 +1,273 @@
+//! What is noted of a station's call while it runs, beside its trace, and what the other station says that is no signal of ours.
+
+ghost use Rattle.station_commands.specs.CallNotes.{IsMissing, confirms_after, ends_all, ends_document, is_confirmation, is_whole, noted_after};
+ghost use Rattle.station_commands.specs.CallNotes.{noted_heard};
+ghost use Rattle.signals.specs.Reading.{read_content};
+ghost use Rattle.std.specs.Prelude.{◌≡◌, [], None, false};
+
+use crate::station::lateness::Lateness;
+use crate::station::records::{other_line, write_heard, write_heard_words};
+use crate::station::trace::Trace;
+use command_files::notices::notice_as;
+use conversations::{Channel, Follower, Kind, Said, TimedLine};
+use faults::ToolFault;
+use hdlc::Deframer;
+use signals::{Caps, Mark, PageEnd, PageWidth, Pps, Reason, Signal, Wish, read, why_not};
+use stations::{Carrier, Listening};
+use terminals::SentBurst;
+
+/// What is noted of the frames that a station heard by V.21, and of those that it said.
+#[derive(Clone, Copy, Debug, PartialEq, Eq)]
+pub(crate) struct Noted {
+    /// The last PPS that it heard.
+    pps: Option<Pps>,
+    /// What the last DIS offers that it heard.
+    caps: Option<Caps>,
+    /// Whether it said MCF last.
+    confirms: bool,
+}
+
+impl Noted {
+    /// Nothing was heard or said.
+    const NOTHING: Noted = Noted {
+        pps: None,
+        caps: None,
+        confirms: false,
+    };
+
+    /// What is noted once a content was heard too.
+    fn heard(self, content: &[u8]) -> Noted
+        ensures { result ≡ noted_heard self (read_content content.now) }
+    {
+        match read(content) {
+            Ok(
+                Signal::Pps {
+                    ends,
+                    page,
+                    block,
+                    last,
+                },
+            ) => Noted {
+                pps: Some(Pps {
+                    ends,
+                    mark: Mark { page, block },
+                    last,
+                }),
+                ..self
+            },
+            Ok(Signal::Dis(caps)) => Noted {
+                caps: Some(caps),
+                ..self
+            },
+            _ => self,
+        }
+    }
+
+    /// Whether the call of an answerer is whole whose last accepted block has this mark: the block ended the document, and MCF was said
+    /// last.
+    pub(crate) fn is_whole(self, accepted: Option<Mark>) -> bool
+        ensures { result ≡ is_whole self accepted }
+    {
+        self.confirms && ends_document(self.pps, accepted)
+    }
+
+    /// What the answerer lacks, of stations that aren't compatible.
+    pub(crate) fn missing(self, wish: Wish, fine: bool) -> Option<Reason>
+        ensures { IsMissing self.caps wish fine result }
+    {
+        let caps = self.caps?;
+        match why_not(&caps, &wish, PageWidth::W1728, fine) {
+            Some(reason) => Some(reason),
+            None => Some(Reason::TooWide),
+        }
+    }
+}
+
+/// Whether the last PPS is that of the last accepted block, and ended the document.
+fn ends_document(pps: Option<Pps>, accepted: Option<Mark>) -> bool
+    ensures { result ≡ ends_document pps accepted }
+{
+    match (pps, accepted) {
+        (Some(last), Some(accepted)) => ends_all(last.ends) && last.mark.is_same(accepted),
+        _ => false,
+    }
+}
+
+/// Whether a block with this end is the last one of the document.
+fn ends_all(ends: PageEnd) -> bool
+    ensures { result ≡ ends_all ends }
+{
+    match ends {
+        PageEnd::Null | PageEnd::Mps | PageEnd::Eom => false,
+        PageEnd::Eop => true,
+    }
+}
+
+/// Whether a content is MCF.
+fn is_confirmation(content: &[u8]) -> bool
+    ensures { result ≡ is_confirmation (read_content content.now) }
+{
+    match read(content) {
+        Ok(Signal::Mcf) => true,
+        _ => false,
+    }
+}
+
+/// Where what was heard at a time is told, if it is.
+#[derive(Clone, Copy)]
+struct Teller<'a> {
+    rt: &'a HostRuntime,
+    records: bool,
+    at: u64,
+}
+
+impl Teller<'_> {
+    /// Tells of a content that is no signal of ours.
+    fn tell(self, content: &[u8]) {
+        let Ok(Signal::Other(octet)) = read(content) else {
+            return;
+        };
+        let fields = content.get(3..).unwrap_or(&[]);
+        let (alloc, mut told) = (self.rt.alloc(), self.rt.stderr());
+        if self.records {
+            let _told = write_heard(alloc, self.at, octet, fields, &mut told);
+        } else if let Ok(line) = other_line(alloc, octet, fields) {
+            let _told = write_heard_words(self.at, content, &line, &mut told);
+        }
+    }
+}
+
+/// What is noted with the contents that wait, of which those that are no signals of ours are told.
+fn note_waiting(ear: &mut Deframer, before: Noted, teller: Teller<'_>) -> Noted
+    ensures notes { result ≡ noted_after before ear.old.queue }
+    ensures taken { ear.new ≡ record ear.old { queue = [] } }
+{
+    let mut noted = before;
+    while let Some(content) = ear.next() {
+        noted = noted.heard(content);
+        teller.tell(content);
+    }
+    noted
+}
+
+/// Whether the last of the contents that wait is MCF; as before if there are none.
+fn confirms_waiting(mouth: &mut Deframer, before: bool) -> bool
+    ensures last { result ≡ confirms_after before mouth.old.queue }
+    ensures taken { mouth.new ≡ record mouth.old { queue = [] } }
+{
+    let mut confirms = before;
+    while let Some(content) = mouth.next() {
+        confirms = is_confirmation(content);
+    }
+    confirms
+}
+
+/// Observes a call: writes its trace, if one is asked for, and notes what is known of it at its end.
+#[derive(Drop)]
+pub(crate) struct Notes<'a> {
+    rt: &'a HostRuntime,
+    records: bool,
+    trace: Trace<'a>,
+    lateness: Lateness<'a>,
+    ear: Deframer,
+    mouth: Deframer,
+    noted: Noted,
+}
+
+impl Follower for Notes<'_> {
+    type Failed = ToolFault;
+
+    fn heard(&mut self, listens: Listening, line: &TimedLine) -> Result<(), ToolFault> {
+        self.lateness.note(line.at);
+        self.trace.heard(listens, line);
+        if let Said::Received {
+            channel: Channel::V21,
+            kind: Kind::Frames,
+            octets,
+            ..
+        } = &line.said
+        {
+            self.note_heard(line.at, octets);
+        }
+        Ok(())
+    }
+
+    // Said on standard error, as nothing of the answer is sent.
+    fn is_late(&mut self, at: u64) -> bool {
+        let is_late = self.lateness.is_late(at);
+        if is_late {
+            self.tell_late(at);
+        }
+        is_late
+    }
+
+    fn said(&mut self, at: u64, burst: &SentBurst) -> Result<(), ToolFault> {
+        self.trace.said(at, burst);
+        if let Carrier::V21 = burst.carrier {
+            self.note_said(&burst.octets);
+        }
+        Ok(())
+    }
+}
+
+impl<'a> Notes<'a> {
+    /// What is noted of a call that hasn't begun. `records` if what is no signal of ours is told.
+    pub(crate) fn new(
+        rt: &'a HostRuntime,
+        records: bool,
+        trace: Trace<'a>,
+        lateness: Lateness<'a>,
+    ) -> Notes<'a>
+        ensures { result.noted ≡ record { pps = None; caps = None; confirms = false } }
+    {
+        Notes {
+            rt,
+            records,
+            trace,
+            lateness,
+            ear: Deframer::new(rt.alloc()),
+            mouth: Deframer::new(rt.alloc()),
+            noted: Noted::NOTHING,
+        }
+    }
+
+    /// Tells that the answer to the line of a time isn't sent.
+    fn tell_late(&self, at: u64) {
+        let alloc = self.rt.alloc();
+        let Ok(words) = format!(in alloc;
+            "the answer to the line at {at} isn't sent: it comes too late"
+        ) else {
+            return;
+        };
+        let _told = notice_as(self.rt, self.records, words.as_str());
+    }
+
+    /// What was noted.
+    pub(crate) fn noted(&self) -> Noted
+        ensures { result ≡ self.now.noted }
+    {
+        self.noted
+    }
+
+    /// Notes octets of frames that came by V.21 at a time. If memory is refused no PPS is known any more.
+    fn note_heard(&mut self, at: u64, octets: &[u8]) {
+        if self.ear.feed(octets).is_err() {
+            self.noted.pps = None;
+            return;
+        }
+        let teller = Teller {
+            rt: self.rt,
+            records: self.records,
+            at,
+        };
+        self.noted = note_waiting(&mut self.ear, self.noted, teller);
+    }
+
+    /// Notes octets of frames that are sent by V.21. If memory is refused nothing counts as confirmed.
+    fn note_said(&mut self, octets: &[u8]) {
+        self.noted.confirms = match self.mouth.feed(octets) {
+            Ok(()) => confirms_waiting(&mut self.mouth, self.noted.confirms),
+            Err(_memory) => false,
+        };
+    }
+}

@@ -1,0 +1,306 @@
+//! What a station heard and said, as text with its time.
+
+ghost use Rattle.faults.specs.Faults.{IsOutside};
+ghost use Rattle.station_commands.specs.CallNotes.{frame_read, run_line, said_word};
+ghost use Rattle.signals.specs.Reading.{read_content};
+ghost use Rattle.std.specs.Io.KnownBytes.{Appends};
+ghost use Rattle.std.specs.Prelude.{◌≡◌, ◌||◌, IfErr, None, OnOk, cond, nat_eq, ◌+◌};
+
+use captures::{ContentText, write_traced, write_traced_check};
+use command_files::context::{Context, Part};
+use command_files::notices::notice_as;
+use conversations::{Heard, Kind, Said, TimedLine, heard_as};
+use faults::ToolFault;
+use hdlc::Deframer;
+use signals::{Signal, read};
+use stations::Listening;
+use std::alloc::Global;
+use std::fs::{File, OpenOptions};
+use std::io::{BufWriter, Write};
+use terminals::SentBurst;
+
+/// The trace of a station, if one is asked for. One that can't be written any more says so once and ends, and the call goes on.
+#[derive(Drop)]
+pub(crate) struct Trace<'a> {
+    rt: &'a HostRuntime,
+    file: Option<TraceFile>,
+}
+
+/// The file of a trace, and what was heard and said so far of frames that are not whole.
+#[derive(Drop)]
+struct TraceFile {
+    alloc: Global,
+    records: bool,
+    frames: bool,
+    writer: BufWriter<File>,
+    heard: Deframer,
+    said: Deframer,
+}
+
+impl<'a> Trace<'a> {
+    /// Writes what a line brings to a station that listens so, if there is a trace.
+    pub(crate) fn heard(&mut self, listens: Listening, line: &TimedLine) {
+        let written = self.write_heard(listens, line);
+        self.end_after(written);
+    }
+
+    /// Writes a burst that is sent in answer to the line of this time, if there is a trace.
+    pub(crate) fn said(&mut self, at: u64, burst: &SentBurst) {
+        let written = self.write_said(at, burst);
+        self.end_after(written);
+    }
+
+    /// The trace that goes to a file, after what is there; or none. It has a line for each frame of a block, or one for all that follow each
+    /// other. Errors: `Io` (8) if the file can't be opened, and that is noted; `NoMemory` (9).
+    pub(crate) fn open(
+        context: &mut Context<'a>,
+        name: Option<&str>,
+        frames: bool,
+    ) -> Result<Trace<'a>, ToolFault>
+        ensures { IfErr result IsOutside }
+    {
+        let Some(name) = name else {
+            return Ok(Trace {
+                rt: context.rt(),
+                file: None,
+            });
+        };
+        let opened = OpenOptions::new()
+            .append(true)
+            .create(true)
+            .open(context.rt(), name);
+        let writer = context.checked(opened, Part::Trace)?;
+        let alloc = context.alloc();
+        let file = TraceFile {
+            alloc,
+            records: context.is_json(),
+            frames,
+            writer: BufWriter::new(alloc, writer)?,
+            heard: Deframer::new(alloc),
+            said: Deframer::new(alloc),
+        };
+        Ok(Trace {
+            rt: context.rt(),
+            file: Some(file),
+        })
+    }
+
+    /// Ends the trace if what was to be written of it wasn't, and says so.
+    fn end_after(&mut self, written: Result<(), ToolFault>)
+        ensures stays { OnOk written (self.new.file ≡ self.old.file) }
+        ensures ends { IfErr written (λ fault. self.new.file ≡ None) }
+    {
+        if written.is_ok() {
+            return;
+        }
+        let records = self.file.as_ref().is_some_and(|file| file.records);
+        self.file = None;
+        let words = "the trace can't be written any more and ends here; the call goes on";
+        let _told = notice_as(self.rt, records, words);
+    }
+
+    /// Writes what a line brings to a station that listens so. Errors: `Io` (8) from the file, `NoMemory` (9).
+    fn write_heard(&mut self, listens: Listening, line: &TimedLine) -> Result<(), ToolFault>
+        ensures { IfErr result IsOutside }
+    {
+        let (
+            Some(file),
+            Said::Received {
+                channel,
+                kind,
+                octets,
+                ..
+            },
+        ) = (&mut self.file, &line.said)
+        else {
+            return Ok(());
+        };
+        match heard_as(listens, *channel, *kind) {
+            Heard::Frames => {
+                file.heard.feed(octets)?;
+                let lines = file.lines_at(line.at, false);
+                write_contents(&mut file.heard, lines, &mut file.writer)?;
+            }
+            Heard::Check => file.lines_at(line.at, false).write_check(&mut file.writer)?,
+            Heard::Nothing => {}
+        }
+        file.writer.flush()?;
+        Ok(())
+    }
+
+    /// Writes what a burst says. Errors: `Io` (8) from the file, `NoMemory` (9).
+    fn write_said(&mut self, at: u64, burst: &SentBurst) -> Result<(), ToolFault>
+        ensures { IfErr result IsOutside }
+    {
+        let Some(file) = &mut self.file else {
+            return Ok(());
+        };
+        match Kind::of(burst.carrier) {
+            Kind::Frames => {
+                file.said.feed(&burst.octets)?;
+                let lines = file.lines_at(at, true);
+                write_contents(&mut file.said, lines, &mut file.writer)?;
+            }
+            Kind::Check => file.lines_at(at, true).write_check(&mut file.writer)?,
+        }
+        file.writer.flush()?;
+        Ok(())
+    }
+}
+
+impl TraceFile {
+    /// The lines of what is said or heard at a time.
+    fn lines_at(&self, at: u64, said: bool) -> TraceLines
+        ensures { result ≡ record { alloc = self.now.alloc; records = self.now.records; frames = self.now.frames; at = at; said = said } }
+    {
+        TraceLines {
+            alloc: self.alloc,
+            records: self.records,
+            frames: self.frames,
+            at,
+            said,
+        }
+    }
+}
+
+/// The lines of what is said or heard at a time, as text or as records.
+#[derive(Clone, Copy)]
+struct TraceLines {
+    alloc: Global,
+    records: bool,
+    frames: bool,
+    at: u64,
+    said: bool,
+}
+
+/// Frames of a block whose numbers follow each other, and the octets of data in the last one.
+#[derive(Clone, Copy, Debug, PartialEq, Eq)]
+struct FrameRun {
+    first: u8,
+    last: u8,
+    octets: usize,
+}
+
+impl FrameRun {
+    /// Whether a frame has the number after that of the last one.
+    fn is_before(self, frame: FrameRun) -> bool
+        ensures { result ≡ nat_eq (self.last + 1) frame.first }
+    {
+        u16::from(self.last) + 1 == u16::from(frame.first)
+    }
+
+    /// The frames with a further one.
+    fn with(self, frame: FrameRun) -> FrameRun
+        ensures { result ≡ record { first = self.first; last = frame.last; octets = frame.octets } }
+    {
+        FrameRun {
+            first: self.first,
+            ..frame
+        }
+    }
+}
+
+impl TraceLines {
+    /// The word of what is said or heard.
+    fn word(self) -> &'static str
+        ensures { result.now ≡ said_word self.said }
+    {
+        if self.said { "said" } else { "heard" }
+    }
+
+    /// The frame of a block that a content is, where such a one has no line of its own.
+    fn frame_of(self, content: &[u8]) -> Option<FrameRun>
+        ensures { result ≡ cond (self.records || self.frames) None (frame_read (read_content content.now)) }
+    {
+        if self.records || self.frames {
+            return None;
+        }
+        match read(content) {
+            Ok(Signal::Fcd { number, octets }) => Some(FrameRun {
+                first: number,
+                last: number,
+                octets: octets.len(),
+            }),
+            _ => None,
+        }
+    }
+
+    /// Writes the line of frames that follow each other: `FCD 0..255`; of one alone it is that of its content. Errors: `Io` (8) from the
+    /// writer.
+    fn write_run<W: Write>(self, run: Option<FrameRun>, writer: &mut W) -> Result<(), ToolFault>
+        ensures line { OnOk result (Appends (W.contents writer.old) (W.contents writer.new) (run_line self.at self.said run)) }
+        ensures fault { IfErr result IsOutside }
+    {
+        let Some(
+            FrameRun {
+                first,
+                last,
+                octets,
+            },
+        ) = run
+        else {
+            return Ok(());
+        };
+        let (at, word) = (self.at, self.word());
+        if first == last {
+            writeln!(writer, "{at} {word} FCD {first} {octets}")?;
+        } else {
+            writeln!(writer, "{at} {word} FCD {first}..{last}")?;
+        }
+        Ok(())
+    }
+
+    /// Writes the line of a content: the time, a word, and what the content says. Errors: `Io` (8) from the writer, `NoMemory` (9).
+    fn write_content<W: Write>(self, content: &[u8], writer: &mut W) -> Result<(), ToolFault>
+        ensures { IfErr result IsOutside }
+    {
+        if self.records {
+            return write_traced(self.alloc, self.at, self.said, content, writer);
+        }
+        writeln!(
+            writer,
+            "{} {} {}",
+            self.at,
+            self.word(),
+            ContentText(content)
+        )?;
+        Ok(())
+    }
+
+    /// Writes the line of a training check. Errors: `Io` (8) from the writer, `NoMemory` (9).
+    fn write_check<W: Write>(self, writer: &mut W) -> Result<(), ToolFault>
+        ensures { IfErr result IsOutside }
+    {
+        if self.records {
+            return write_traced_check(self.alloc, self.at, self.said, writer);
+        }
+        writeln!(writer, "{} {} TRAINING", self.at, self.word())?;
+        Ok(())
+    }
+}
+
+/// Writes a line for each content that waits, or one for frames that follow each other. Errors: `Io` (8) from the writer, `NoMemory` (9).
+fn write_contents<W: Write>(
+    deframer: &mut Deframer,
+    lines: TraceLines,
+    writer: &mut W,
+) -> Result<(), ToolFault>
+    ensures fault { IfErr result IsOutside }
+{
+    let mut run: Option<FrameRun> = None;
+    while let Some(content) = deframer.next() {
+        match (run, lines.frame_of(content)) {
+            (Some(before), Some(frame)) if before.is_before(frame) => run = Some(before.with(
+                frame,
+            )),
+            (_, frame) => {
+                lines.write_run(run, writer)?;
+                run = frame;
+                if frame.is_none() {
+                    lines.write_content(content, writer)?;
+                }
+            }
+        }
+    }
+    lines.write_run(run, writer)
+}
