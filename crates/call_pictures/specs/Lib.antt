@@ -4,3 +4,4 @@ pub mod Ladders
 pub mod Pictures
 pub mod Diagrams
 pub mod CapturedCalls
+pub mod PictureRows

@@ -6,6 +6,7 @@ mod captured_call;
 mod diagram;
 mod drawn_fields;
 mod ladder;
+pub mod laws;
 mod picture;
 
 pub use crate::captured_call::{CapturedFrame, CapturedFrames, captured_frames, ladder_of};

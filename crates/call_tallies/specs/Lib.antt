@@ -5,3 +5,4 @@ pub mod Seconds
 pub mod FewTries
 pub mod ManyCalls
 pub mod TriesCounted
+pub mod TallyRows

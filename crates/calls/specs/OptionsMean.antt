@@ -1,5 +1,5 @@
 -- What the options of a call reach, said by what its stations agree on and by the octets of the DIS.
-use Rattle.std.specs.Prelude.{ℕ, ◌≡◌, Bool, true, List, [], ◌∷◌, Result, Ok, Err}
+use Rattle.std.specs.Prelude.{ℕ, ◌≡◌, ◌*◌, Bool, true, List, [], ◌∷◌, Result, Ok, Err}
 use Rattle.std.specs.List.{AllByRecursion}
 use Rattle.raster.specs.Pages.{PagePixels}
 use Rattle.signals.specs.Agreement.{agreed}
@@ -15,8 +15,10 @@ use Rattle.signals.specs.declared.signal.Side.TheVariants.{Answerer}
 use Rattle.stations.specs.Inputs.{framed}
 use Rattle.stations.specs.Layers.{Document}
 use Rattle.line_sim.specs.Line.{World}
+use Rattle.calls.specs.BadLines.{patience_of}
 use Rattle.calls.specs.Calls.{RunsCall, call_world}
 use Rattle.calls.specs.SentBits.{Written}
+use Rattle.calls.specs.declared.losses.BadLine.{BadLine}
 use Rattle.calls.specs.declared.options.CallOptions.{CallOptions}
 
 -- the speed in bit/s of the first training check between two stations with these modems
@@ -67,3 +69,9 @@ OptionsMean = (options : CallOptions) (document : Document) → StartsSo options
 abbrev pub LinesAreAsked : Type 0
 LinesAreAsked = (options : CallOptions) (script images : List ℕ) (before after : Written) (pages : List PagePixels)
     → (run : RunsCall options script images before after pages) → AllByRecursion (λ page. page.fine ≡ options.fine) run.document
+
+-- The law: a call over a bad line sends as many DIS in one wait as its option says, and bears as many RNRs as exchanges of RNR and RR, some
+-- 3 s each, fit into T5, 60 s (T.30, table of timers).
+pub record PatienceIsT5 : Type 0 where
+  pub calls : (line : BadLine) → (patience_of line).calls ≡ line.calls
+  pub busy : (line : BadLine) → 3 * (patience_of line).busy ≡ 60

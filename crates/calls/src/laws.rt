@@ -1,7 +1,7 @@
 //! Laws of the definitions. Nothing runs.
 
 ghost use Rattle.calls.specs.BadLines.{BadCallsEnd};
-ghost use Rattle.calls.specs.OptionsMean.{LinesAreAsked, OptionsMean};
+ghost use Rattle.calls.specs.OptionsMean.{LinesAreAsked, OptionsMean, PatienceIsT5};
 ghost use Rattle.calls.specs.Scripts.{IsLineFault, IsScript, RefusesScript};
 ghost use Rattle.calls.specs.ScriptsMean.{CountsMake, CountsMean, LinesMean, WordsDo};
 ghost use Rattle.calls.specs.Transcripts.{ArePrintedLines};
@@ -46,8 +46,9 @@ pub fn scripts_mean()
 {}
 
 /// For all options of a call: the octets of the DIS that it begins with, and that the stations agree on the code, the frames, the lines and
-/// the speed that the options say, for pages of each width, fine or not.
+/// the speed that the options say, for pages of each width, fine or not. How often it is tried over a bad line.
 pub fn options_mean()
     ensures stations { OptionsMean }
     ensures lines { LinesAreAsked }
+    ensures patience { PatienceIsT5 }
 {}

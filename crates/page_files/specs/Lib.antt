@@ -10,6 +10,7 @@ pub mod LaterPages
 pub mod OwnWidths
 pub mod NoEols
 pub mod NextT6
+pub mod FormatRows
 pub mod Found
 pub mod Identified
 pub mod DecodeRecords

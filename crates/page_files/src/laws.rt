@@ -1,5 +1,6 @@
 //! Laws of the definitions. Nothing runs.
 
+ghost use Rattle.page_files.specs.FormatRows.{FlagsByOctets, FormatsByOctets, WidthsMean};
 ghost use Rattle.page_files.specs.OwnWidths.{PagesSayWidths};
 ghost use Rattle.page_files.specs.RepairsMean.{RowsAreListed, TornIsOneBitOff};
 
@@ -12,4 +13,11 @@ pub fn repairs_mean()
 /// A page of T.4 says its width, so that `identify` needs no list of widths for it (ITU-T T.4, 4.1.2).
 pub fn own_widths()
     ensures { PagesSayWidths }
+{}
+
+/// The formats that `identify` names, by octets; and which widths it tries where a file says none.
+pub fn formats_by_octets()
+    ensures formats { FormatsByOctets }
+    ensures flags { FlagsByOctets }
+    ensures widths { WidthsMean }
 {}
