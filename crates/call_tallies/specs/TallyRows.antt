@@ -49,7 +49,7 @@ pub record WaitsLast : Type 0 where
   pub t4 : waited_in event.CallerTimeout ≡ 3000
   pub caller_t5 : waited_in event.CallerT5 ≡ 60000
   pub t1 : waited_in event.AnswererT1 ≡ 35000
-  pub t2 : waited_in event.AnswererT2 ≡ 6000
+  pub t2 : waited_in event.AnswererT2 ≡ 7000
   pub others : map waited_in (event.DeliverToAnswerer ∷ event.DeliverToCaller ∷ event.LoseToAnswerer ∷ event.LoseToCaller ∷ event.Spoil
       ∷ event.Busy true ∷ event.Busy false ∷ []) ≡ 0 ∷ 0 ∷ 0 ∷ 0 ∷ 0 ∷ 0 ∷ 0 ∷ []
   -- a wait for a DIS is T1, 35 s, of which T4, 3 s, is counted

@@ -1,5 +1,5 @@
 -- Which files of a command aren't apart.
-use Rattle.std.specs.Prelude.{◌&&◌, ◌||◌, Bool, false, nat_eq, codes, string_bytes}
+use Rattle.std.specs.Prelude.{◌≡◌, ◌++◌, ◌&&◌, ◌||◌, ◌∷◌, [], ℕ, Bool, false, List, nat_eq, codes, string_bytes}
 use Rattle.std.specs.Str.{bytes_eq}
 use Rattle.command_files.specs.declared.files.apart.CommandFile.{CommandFile}
 use Rattle.command_files.specs.declared.files.apart.Identity.{Identity}
@@ -24,3 +24,18 @@ are_both_printed one other = is_printed one && is_printed other
 -- two files of a command aren't apart: one of them is written, and they are one place, or both are standard output
 abbrev pub are_one : CommandFile → CommandFile → Bool
 are_one one other = (one.is_written || other.is_written) && (are_both_printed one other || is_same one.identity other.identity)
+
+-- a file is apart from each of these
+abbrev pub IsApartFrom : CommandFile → List CommandFile → Type 0
+IsApartFrom file [] = Unit {0}
+IsApartFrom file (other ∷ others) = (are_one file other ≡ false) × IsApartFrom file others
+
+-- any two of the files are apart
+abbrev pub AreApart : List CommandFile → Type 0
+AreApart [] = Unit {0}
+AreApart (file ∷ files) = IsApartFrom file files × AreApart files
+
+-- a file of this name, which is written or only read, comes after the others
+abbrev pub AddsFile : List ℕ → Bool → List CommandFile → List CommandFile → Type 0
+AddsFile name is_written old new = (file : CommandFile) × (string_bytes file.name ≡ name) × (file.is_written ≡ is_written)
+    × (new ≡ old ++ file ∷ [])

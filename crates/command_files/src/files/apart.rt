@@ -1,7 +1,7 @@
 //! The files of a command that have to be apart: no two that are written are the same file, nor one that is read and one that is written.
 
-ghost use Rattle.command_files.specs.Apart.{are_both_printed, are_one, is_same};
-ghost use Rattle.std.specs.Prelude.{◌≡◌};
+ghost use Rattle.command_files.specs.Apart.{AddsFile, AreApart, IsApartFrom, are_both_printed, are_one, is_same};
+ghost use Rattle.std.specs.Prelude.{◌≡◌, [], IfNone, MatchOption, OnOk, false, true};
 
 use crate::files::STANDARD;
 use std::alloc::AllocError;
@@ -66,15 +66,19 @@ impl fmt::Display for NotApart {
 
 impl<'a> CommandFiles<'a> {
     /// No files yet.
-    pub fn new(rt: &'a HostRuntime) -> CommandFiles<'a> {
+    pub fn new(rt: &'a HostRuntime) -> CommandFiles<'a>
+        ensures { result.files.items ≡ [] }
+    {
         CommandFiles {
             rt,
             files: Vec::new(rt.alloc()),
         }
     }
 
-    /// The first two files that aren't apart, if there are such.
-    pub fn not_apart(&self) -> Option<NotApart> {
+    /// The first two files that aren't apart; None if any two are.
+    pub fn not_apart(&self) -> Option<NotApart>
+        ensures { IfNone result (AreApart self.now.files.items) }
+    {
         let (one, other) = first_two(self.files.as_slice())?;
         Some(NotApart {
             one: one.role,
@@ -83,7 +87,9 @@ impl<'a> CommandFiles<'a> {
         })
     }
 
-    fn add(&mut self, role: &'static str, name: &str, is_written: bool) -> Result<(), AllocError> {
+    fn add(&mut self, role: &'static str, name: &str, is_written: bool) -> Result<(), AllocError>
+        ensures { OnOk result (AddsFile name.now is_written self.old.files.items self.new.files.items) }
+    {
         let alloc = self.rt.alloc();
         let identity = identity_of(self.rt, name, is_written)?;
         let name = String::from_str(alloc, name)?;
@@ -93,19 +99,21 @@ impl<'a> CommandFiles<'a> {
             is_written,
             identity,
         };
-        if self.files.push(file).is_err() {
-            return Err(AllocError);
-        }
+        self.files.push(file)?;
         Ok(())
     }
 
     /// Adds a file that is read. Errors: memory was refused.
-    pub fn reads(&mut self, role: &'static str, name: &str) -> Result<(), AllocError> {
+    pub fn reads(&mut self, role: &'static str, name: &str) -> Result<(), AllocError>
+        ensures { OnOk result (AddsFile name.now false self.old.files.items self.new.files.items) }
+    {
         self.add(role, name, false)
     }
 
     /// Adds a file that is written. Errors: memory was refused.
-    pub fn writes(&mut self, role: &'static str, name: &str) -> Result<(), AllocError> {
+    pub fn writes(&mut self, role: &'static str, name: &str) -> Result<(), AllocError>
+        ensures { OnOk result (AddsFile name.now true self.old.files.items self.new.files.items) }
+    {
         self.add(role, name, true)
     }
 
@@ -140,8 +148,10 @@ impl<'a> CommandFiles<'a> {
     }
 }
 
-/// Returns the first two files that aren't apart.
-fn first_two(files: &[CommandFile]) -> Option<(&CommandFile, &CommandFile)> {
+/// Returns the first two files that aren't apart; None if any two are.
+fn first_two(files: &[CommandFile]) -> Option<(&CommandFile, &CommandFile)>
+    ensures { MatchOption result (AreApart files.now) (λ two. are_one two.0.now two.1.now ≡ true) }
+{
     let mut left = files;
     while let [file, more @ ..] = left {
         if let Some(other) = first_like(file, more) {
@@ -152,12 +162,16 @@ fn first_two(files: &[CommandFile]) -> Option<(&CommandFile, &CommandFile)> {
     None
 }
 
-/// Returns the first file that isn't apart from another one.
-fn first_like<'a>(file: &CommandFile, files: &'a [CommandFile]) -> Option<&'a CommandFile> {
-    for other in files {
+/// Returns the first file that isn't apart from another one; None if that is apart from each.
+fn first_like<'a>(file: &CommandFile, files: &'a [CommandFile]) -> Option<&'a CommandFile>
+    ensures { MatchOption result (IsApartFrom file.now files.now) (λ other. are_one file.now other.now ≡ true) }
+{
+    let mut left = files;
+    while let [other, more @ ..] = left {
         if are_one(file, other) {
             return Some(other);
         }
+        left = more;
     }
     None
 }

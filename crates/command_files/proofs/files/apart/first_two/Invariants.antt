@@ -1,6 +1,10 @@
--- How many turns the loop of `first_two` takes at most.
+-- What holds in the loop of `first_two`, and how many turns it takes at most.
 use Rattle.std.proofs.Common.{length}
+use Rattle.command_files.specs.Apart.{AreApart}
 use Rattle.command_files.proofs.files.apart.first_two.Given as goal
+
+abbrev pub invariant-loop-left : goal.invariant-loop-left
+invariant-loop-left l = AreApart l.left → AreApart l.files
 
 abbrev pub decreases-loop-left : goal.decreases-loop-left
 decreases-loop-left l = length l.left
