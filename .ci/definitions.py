@@ -36,8 +36,6 @@ MOST_LINES = 100
 MOST_WORDS = 25_000
 # The definitions with cases that say nothing: how many, and why.
 EMPTY_CASES = {
-    ("conversations", "Reading", "TakesNext"): (2, "open: what was taken of the line when memory is refused or the reader fails"),
-    ("conversations", "Talking", "IfRefused"): (1, "open: the same faults; it speaks of lines that were refused before anything was done"),
     ("page_code", "RowCoders", "HoldsBefore"): (1, "a one-dimensional row is coded without the row before it"),
     ("page_code", "RowReaders", "IsBefore"): (1, "a one-dimensional row is read without the row before it"),
 }

@@ -17,7 +17,7 @@ import tempfile
 HERE = os.path.dirname(os.path.abspath(__file__))
 TOP = os.path.dirname(os.path.dirname(HERE))
 SIZES = [16, 32, 64]
-LINEAR = {("zeros", "page")}
+LINEAR = {("zeros", "page"), ("runs", "page"), ("fill", "page")}
 
 
 def build_library(folder):

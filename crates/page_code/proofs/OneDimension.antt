@@ -10,6 +10,7 @@ pub mod WorkedPages
 pub mod Reading
 pub mod SeesEol
 pub mod RowsOn
+pub mod OpenRows
 pub mod ReadsItsCode
 pub mod RowsWords
 pub mod LineEnds

@@ -17,12 +17,16 @@ use Rattle.page_code.specs.Codings.{IsLongestIn, ReadsIn, read_rows}
 use Rattle.page_code.specs.PageCodes.{GivesPage, GivesRows, IsOnlyAnswer, ReadsPage, RefusesPage}
 use Rattle.raster.specs.declared.coding.Coding.TheVariants.{OneDim, T6}
 use Rattle.page_code.specs.RowsSoFar.{AreRowsSoFar, AreWholeRows, BeginWith, IsFurther, IsReadTo, RowsStay, after_rows, between_rows}
-use Rattle.page_code.specs.PageReaders.{PageReading, StandsFor, GoesOnTo, IsLike, StandsAsBefore}
+use Rattle.page_code.specs.PageReaders.{PageReading, StandsFor, GoesOnTo, IsLike, IsPassed, StandsAsBefore}
 use Rattle.page_code.specs.OneDimension.Fronts.{item_word, Step}
 use Rattle.page_code.specs.OneDimension.Fronts.PageState.{first}
 use Rattle.page_code.specs.TwoDimensions.Fronts.{page_item_word, PageStep, page_begin}
 use Rattle.page_code.proofs.CodingLaws.{reads_exactly, refuses_no_page, refuses_at_longest}
-use Rattle.page_code.proofs.FrontEnds.{leads_more}
+use Rattle.page_code.specs.declared.one_dim.open_row.OpenRow.{OpenRow}
+use Rattle.page_code.specs.declared.one_dim.open_row.OpenRow.TheVariants.{Zeros}
+use Rattle.page_code.proofs.FrontEnds.{leads_more, leads_within}
+use Rattle.page_code.proofs.OneDimension.OpenRows.{open_on}
+use Rattle.page_code.proofs.OneDimension.OpenRows as open_rows
 use Rattle.page_code.proofs.GivesPage.{gives_only, gives_reads, gives_refuses, gives_rows}
 use Rattle.page_code.specs.TurnedCodes.{AreTurned, IsTurnedCode}
 use Rattle.page_code.proofs.TurnedOctets.{are_turned, turned_of_more}
@@ -74,6 +78,20 @@ rows_none : (coding : Coding) (width : ℕ) → IsWidth width → AreRowsSoFar c
 rows_none OneDim width wide = one_dim.rows_none width wide
 rows_none T6 width wide = t6.rows_none width wide
 
+-- what was passed comes in more bits
+passed_more : (coding : Coding) (width : ℕ) (bits more : List Bool) (rows : List (List Color)) (place : ℕ) (row : OpenRow)
+    → IsReadTo coding width bits rows place → IsPassed coding width bits rows place row
+    → IsPassed coding width (bits ++ more) rows place row
+unfolding IsReadTo
+passed_more OneDim width bits more rows place row read passed = open_on width bits more rows place row (leads_within item_word (Step width)
+    first (after_rows rows) bits place read) passed
+passed_more T6 width bits more rows place row read passed = passed
+
+nothing_passed : (coding : Coding) (width : ℕ) (bits : List Bool) (rows : List (List Color)) (place : ℕ)
+    → IsPassed coding width bits rows place (Zeros 0)
+nothing_passed OneDim width bits rows place = open_rows.nothing_passed width bits rows place
+nothing_passed T6 width bits rows place = refl
+
 -- what is kept of the octets so far is kept of all
 pub goes_on_to : (reader : PageReading) (all : List ℕ) → GoesOnTo reader all
     → IsReadTo reader.coding reader.page.width (bits_of reader.order all) reader.page.rows reader.place
@@ -85,28 +103,41 @@ goes_on_to reader all on =
     subst (λ b. IsReadTo reader.coding reader.page.width b reader.page.rows reader.place) (sym joined) (read_more reader.coding
     reader.page.width bits more reader.page.rows reader.place on.stands.kept)
 
+-- what was passed of the octets so far comes in all
+pub passed_of_all : (reader : PageReading) (all : List ℕ) → GoesOnTo reader all
+    → IsPassed reader.coding reader.page.width (bits_of reader.order all) reader.page.rows reader.place reader.passed
+passed_of_all reader all on =
+    let bits = bits_of reader.order on.octets in
+    let more = bits_of reader.order on.more in
+    let joined : bits_of reader.order all ≡ bits ++ more = ap (bits_of reader.order) on.begins ∙ bits_of-join reader.order on.octets on.more
+    in
+    subst (λ b. IsPassed reader.coding reader.page.width b reader.page.rows reader.place reader.passed) (sym joined) (passed_more
+    reader.coding reader.page.width bits more reader.page.rows reader.place reader.passed on.stands.kept on.stands.passed)
+
 -- what is kept turned of the octets so far is kept of all
 pub keeps_of_all : (reader : PageReading) (all : List ℕ) → GoesOnTo reader all → AreTurned reader.turned all
 keeps_of_all reader all on = rw on.begins (turned_of_more reader.turned on.octets on.more on.stands.turned)
 
 -- a reader of no rows stands for no octets
 pub stands_for_none : (reader : PageReading) → IsWidth reader.page.width → reader.page.rows ≡ [] → reader.place ≡ 0 → reader.count ≡ 0
-    → reader.turned ≡ [] → StandsFor reader []
-stands_for_none reader wide rows place count turned =
+    → reader.turned ≡ [] → reader.passed ≡ Zeros 0 → StandsFor reader []
+stands_for_none reader wide rows place count turned passed =
     let none : bits_of reader.order [] ≡ [] = bits_in-none reader.order [] in
     record {
       kept = rw (rows, place) (read_none reader.coding reader.page.width (bits_of reader.order []));
+      passed = rw passed (nothing_passed reader.coding reader.page.width (bits_of reader.order []) reader.page.rows reader.place);
       counted = rw (count, none) (rows_none reader.coding reader.page.width wide);
       turned = rw turned refl;
     }
 
 -- a reader that forgot its rows, and not how many there are, stands for what it stood for
 pub stands_again : (old new : PageReading) → IsLike old new → new.page.rows ≡ [] → new.place ≡ 0 → new.count ≡ old.count
-    → new.turned ≡ [] → StandsAsBefore old new
-stands_again old new like rows place count turned = (
+    → new.turned ≡ [] → new.passed ≡ Zeros 0 → StandsAsBefore old new
+stands_again old new like rows place count turned passed = (
   like,
   λ octets stands. record {
     kept = rw (rows, place) (read_none new.coding new.page.width (bits_of new.order octets));
+    passed = rw passed (nothing_passed new.coding new.page.width (bits_of new.order octets) new.page.rows new.place);
     counted = rw (like.coding, like.order, like.width, count) stands.counted;
     turned = rw turned refl;
   },
@@ -115,12 +146,13 @@ stands_again old new like rows place count turned = (
 -- The reader's calls
 
 -- a reader as clauses see it
-abbrev pub reading_of : Coding → Order → Progress → ℕ → List ℕ → PageReading
-reading_of coding order progress count turned = record {
+abbrev pub reading_of : Coding → Order → Progress → OpenRow → ℕ → List ℕ → PageReading
+reading_of coding order progress passed count turned = record {
   coding = coding;
   order = order;
   page = progress.page;
   place = progress.place;
+  passed = passed;
   count = count;
   turned = turned;
 }
@@ -128,22 +160,27 @@ reading_of coding order progress count turned = record {
 -- a new reader
 pub begins : (coding : Coding) (order : Order) (width : ℕ) (fine : Bool) (progress : Progress) (turned : List ℕ) → IsWidth width
     → progress ≡ record { page = record { width = width; fine = fine; rows = [] }; place = 0 } → turned ≡ []
-    → StandsFor (reading_of coding order progress 0 turned) []
+    → StandsFor (reading_of coding order progress (Zeros 0) 0 turned) []
 begins coding order width fine progress turned wide is none = rw none (subst (λ (p : Progress). StandsFor
-    (reading_of coding order p 0 []) []) (sym is) (stands_for_none (reading_of coding order (record { page = record { width = width; fine = fine; rows = [] }; place = 0 }) 0 [])
-    wide refl refl refl refl))
+    (reading_of coding order p (Zeros 0) 0 []) []) (sym is) (stands_for_none (reading_of coding order (record { page = record { width = width; fine = fine; rows = [] }; place = 0 }) (Zeros 0) 0 [])
+    wide refl refl refl refl refl))
 
-module _ (coding : Coding) (order : Order) (old : Progress) (count : ℕ) (kept : List ℕ) (now : PageReading)
-    (view : reading_of coding order old count kept ≡ now) where
+module _ (coding : Coding) (order : Order) (old : Progress) (passed : OpenRow) (count : ℕ) (kept : List ℕ) (now : PageReading)
+    (view : reading_of coding order old passed count kept ≡ now) where
   pub reads_from : (all : List ℕ) → GoesOnTo now all → IsReadTo coding old.page.width (bits_of order all) old.page.rows old.place
-  reads_from all on = goes_on_to (reading_of coding order old count kept) all (subst (λ (r : PageReading). GoesOnTo r all) (sym view) on)
+  reads_from all on = goes_on_to (reading_of coding order old passed count kept) all (subst (λ (r : PageReading). GoesOnTo r all) (sym view) on)
 
   pub keeps_from : (all : List ℕ) → GoesOnTo now all → AreTurned kept all
-  keeps_from all on = keeps_of_all (reading_of coding order old count kept) all (subst (λ (r : PageReading). GoesOnTo r all) (sym view) on)
+  keeps_from all on = keeps_of_all (reading_of coding order old passed count kept) all (subst (λ (r : PageReading). GoesOnTo r all) (sym view) on)
 
-  pub is_like : (new : Progress) (n : ℕ) (turned : List ℕ) → new.page.width ≡ old.page.width → new.page.fine ≡ old.page.fine
-      → IsLike now (reading_of coding order new n turned)
-  is_like new n turned width fine = record {
+  pub passed_from : (all : List ℕ) → GoesOnTo now all
+      → IsPassed coding old.page.width (bits_of order all) old.page.rows old.place passed
+  passed_from all on = passed_of_all (reading_of coding order old passed count kept) all (subst (λ (r : PageReading). GoesOnTo r all) (sym
+      view) on)
+
+  pub is_like : (new : Progress) (row : OpenRow) (n : ℕ) (turned : List ℕ) → new.page.width ≡ old.page.width
+      → new.page.fine ≡ old.page.fine → IsLike now (reading_of coding order new row n turned)
+  is_like new row n turned width fine = record {
     coding = ap (λ (r : PageReading). r.coding) view;
     order = ap (λ (r : PageReading). r.order) view;
     width = width ∙ ap (λ (r : PageReading). r.page.width) view;
@@ -152,25 +189,38 @@ module _ (coding : Coding) (order : Order) (old : Progress) (count : ℕ) (kept 
 
   pub read_further : (all : List ℕ) (new : Progress) (n : ℕ) (turned : List ℕ) → IsFurther coding (bits_of order all) old new
       → AreRowsSoFar coding new.page.width (bits_of order all) (length new.page.rows) → n ≡ length new.page.rows
-      → IsTurnedCode order all turned → StandsFor (reading_of coding order new n turned) all
+      → IsTurnedCode order all turned → StandsFor (reading_of coding order new (Zeros 0) n turned) all
   read_further all new n turned further counted is code = record {
     kept = further.read;
+    passed = nothing_passed coding new.page.width (bits_of order all) new.page.rows new.place;
     counted = rw is counted;
     turned = are_turned order all turned code;
+  }
+
+  -- a reader that passed on in the next row
+  pub passed_on : (all : List ℕ) → GoesOnTo now all → (row : OpenRow) (n : ℕ)
+      → IsPassed coding old.page.width (bits_of order all) old.page.rows old.place row
+      → AreRowsSoFar coding old.page.width (bits_of order all) (length old.page.rows) → n ≡ length old.page.rows
+      → StandsFor (reading_of coding order old row n kept) all
+  passed_on all on row n goes_on counted is = record {
+    kept = reads_from all on;
+    passed = goes_on;
+    counted = rw is counted;
+    turned = keeps_from all on;
   }
 
   -- a reader that has no rows again
   module _ (fresh : Progress) (width : ℕ) (fine : Bool) (turned : List ℕ) (none : turned ≡ [])
       (is : fresh ≡ record { page = record { width = width; fine = fine; rows = [] }; place = 0 })
       (width_is : width ≡ old.page.width) (fine_is : fine ≡ old.page.fine) where
-    pub fresh_like : (n : ℕ) → IsLike now (reading_of coding order fresh n turned)
-    fresh_like n = is_like fresh n turned (ap (λ (p : Progress). p.page.width) is ∙ width_is) (ap (λ (p : Progress). p.page.fine) is ∙ fine_is)
+    pub fresh_like : (n : ℕ) → IsLike now (reading_of coding order fresh (Zeros 0) n turned)
+    fresh_like n = is_like fresh (Zeros 0) n turned (ap (λ (p : Progress). p.page.width) is ∙ width_is) (ap (λ (p : Progress). p.page.fine) is ∙ fine_is)
 
-    pub stands_still : StandsAsBefore now (reading_of coding order fresh count turned)
-    stands_still = stands_again now (reading_of coding order fresh count turned) (fresh_like count) (ap (λ (p : Progress). p.page.rows) is) (ap (λ
-        (p : Progress). p.place) is) (ap (λ (r : PageReading). r.count) view) none
+    pub stands_still : StandsAsBefore now (reading_of coding order fresh (Zeros 0) count turned)
+    stands_still = stands_again now (reading_of coding order fresh (Zeros 0) count turned) (fresh_like count) (ap (λ (p : Progress). p.page.rows) is) (ap (λ
+        (p : Progress). p.place) is) (ap (λ (r : PageReading). r.count) view) none refl
 
-    pub stands_empty : IsWidth old.page.width → StandsFor (reading_of coding order fresh 0 turned) []
+    pub stands_empty : IsWidth old.page.width → StandsFor (reading_of coding order fresh (Zeros 0) 0 turned) []
     stands_empty wide = begins coding order width fine fresh turned (rw width_is wide) is none
 
   -- what is answered at the end

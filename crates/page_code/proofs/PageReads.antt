@@ -8,6 +8,7 @@ use Rattle.raster.specs.declared.coding.Coding.{Coding}
 use Rattle.page_code.specs.declared.page.Progress.{Progress}
 use Rattle.page_code.specs.Codings.{read_rows}
 use Rattle.page_code.specs.RowsSoFar.{AreRowsSoFar, IsReadTo, ReadsOn}
+use Rattle.page_code.specs.declared.one_dim.open_row.OpenRow.{OpenRow}
 use Rattle.page_code.specs.PageReaders.{HasRowsBefore, IsPageRead, IsPageRefused, IsRead, PageReading}
 use Rattle.page_code.specs.declared.page_reader.PageRead.{PageRead}
 use Rattle.page_code.proofs.PageReaders.{finish_only, finish_reads, finish_refuses, reading_of, salvaged}
@@ -55,8 +56,8 @@ rows_before coding bits old new fault wide differs (inr on) = record {
 }
 
 -- what a reader reads octets as
-pub read_now : (coding : Coding) (order : Order) (old : Progress) (count : ℕ) (kept : List ℕ) (now : PageReading)
-    → reading_of coding order old count kept ≡ now → (all : List ℕ) (read : PageRead) → IsRead coding old.page.width old.page.fine (bits_of order all) read
+pub read_now : (coding : Coding) (order : Order) (old : Progress) (passed : OpenRow) (count : ℕ) (kept : List ℕ) (now : PageReading)
+    → reading_of coding order old passed count kept ≡ now → (all : List ℕ) (read : PageRead) → IsRead coding old.page.width old.page.fine (bits_of order all) read
     → IsRead now.coding now.page.width now.page.fine (bits_of now.order all) read
-read_now coding order old count kept now view all read is =
+read_now coding order old passed count kept now view all read is =
     subst (λ (r : PageReading). IsRead r.coding r.page.width r.page.fine (bits_of r.order all) read) view is

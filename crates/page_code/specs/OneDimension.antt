@@ -4,6 +4,7 @@ pub mod OwnRuns
 pub mod Fronts
 pub mod Laws
 pub mod Reading
+pub mod OpenRows
 pub mod Repairs
 pub mod Repairing
 pub mod Kinds

@@ -6,6 +6,10 @@ use Rattle.raster.specs.Packed.{bits_of}
 use Rattle.raster.specs.Pages.{PagePixels}
 use Rattle.run_tables.specs.declared.fault.CodeFaultKind.TheVariants.{NoMemory}
 use Rattle.raster.specs.declared.coding.Coding.{Coding}
+use Rattle.raster.specs.declared.coding.Coding.TheVariants.{OneDim, T6}
+use Rattle.page_code.specs.declared.one_dim.open_row.OpenRow.{OpenRow}
+use Rattle.page_code.specs.declared.one_dim.open_row.OpenRow.TheVariants.{Zeros}
+use Rattle.page_code.specs.OneDimension.OpenRows.{IsOpenRow}
 use Rattle.page_code.specs.declared.page_reader.PageRead.{PageRead}
 use Rattle.page_code.specs.declared.page_reader.PageRead.TheVariants.{Page, Refused}
 use Rattle.page_code.specs.declared.page_reader.RefusedCode.{RefusedCode}
@@ -14,20 +18,27 @@ use Rattle.page_code.specs.PageCodes.{ReadsPage, RefusesPage}
 use Rattle.page_code.specs.RowsSoFar.{AreRowsSoFar, AreWholeRows, IsReadTo}
 use Rattle.page_code.specs.TurnedCodes.{AreTurned}
 
--- A reader of a page that comes in pieces: the code, the order of bits, the page read so far, the place in the bits after its rows, the
--- number of whole rows found, and the octets that are kept turned.
+-- A reader of a page that comes in pieces: the code, the order of bits, the page read so far, the place in the bits after its rows, what
+-- was passed of the next row, the number of whole rows found, and the octets that are kept turned.
 pub record PageReading : Type 0 where
   pub coding : Coding
   pub order : Order
   pub page : PagePixels
   pub place : ℕ
+  pub passed : OpenRow
   pub count : ℕ
   pub turned : List ℕ
 
--- The reader has read these octets: their bits begin with the rows that it keeps, and spell the number of whole rows that it found; the
--- octets that it keeps turned are the first of them.
+-- what was passed of the row after these rows comes there; in T.6 nothing is passed
+abbrev pub IsPassed : Coding → ℕ → List Bool → List (List Color) → ℕ → OpenRow → Type 0
+IsPassed OneDim width bits rows place row = IsOpenRow width bits rows place row
+IsPassed T6 width bits rows place row = row ≡ Zeros 0
+
+-- The reader has read these octets: their bits begin with the rows that it keeps, and what it passed of the next row comes after them; they
+-- spell the number of whole rows that it found; the octets that it keeps turned are the first of them.
 pub record StandsFor (reader : PageReading) (octets : List ℕ) : Type 0 where
   pub kept : IsReadTo reader.coding reader.page.width (bits_of reader.order octets) reader.page.rows reader.place
+  pub passed : IsPassed reader.coding reader.page.width (bits_of reader.order octets) reader.page.rows reader.place reader.passed
   pub counted : AreRowsSoFar reader.coding reader.page.width (bits_of reader.order octets) reader.count
   pub turned : AreTurned reader.turned octets
 

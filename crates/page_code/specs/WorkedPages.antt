@@ -1,10 +1,12 @@
--- Pages that were coded by hand from the tables, as they are written and read: each end of a T.4 page (ITU-T T.4, 4.1.4), each kind of
--- mode of T.6 (2.2).
+-- Pages that were coded by hand from the tables, as they are written and read: each end of a T.4 page (ITU-T T.4, 4.1.4), rows
+-- without their end, each kind of mode of T.6 (2.2).
 use Rattle.std.specs.Prelude.{◌≡◌, ◌++◌, ◌∷◌, [], List, Ok, Err, codes}
 use Rattle.raster.specs.declared.row.Color.{Color}
 use Rattle.raster.specs.declared.row.Color.TheVariants.{White, Black}
 use Rattle.run_tables.specs.Codes.{text}
 use Rattle.run_tables.specs.declared.fault.CodeFaultKind.TheVariants.{BadCode}
+use Rattle.page_code.specs.declared.one_dim.open_row.OpenRow.TheVariants.{Zeros, Runs}
+use Rattle.page_code.specs.OneDimension.OpenRows.{IsOpenRow}
 use Rattle.page_code.specs.OneDimension.Pages.{page_words}
 use Rattle.page_code.specs.OneDimension.Fronts.{read_page as read_one_dim}
 use Rattle.page_code.specs.TwoDimensions.Code.{page_code}
@@ -40,6 +42,16 @@ pub record AreOneDimPages : Type 0 where
   -- EOL, white 2, black 2, white 4, and six EOLs
   pub written : page_words (stripe ∷ []) ≡ text (codes "000000000001" ++ codes "0111" ++ codes "11" ++ codes "1011" ++
       codes "000000000001000000000001000000000001" ++ codes "000000000001000000000001000000000001")
+
+-- what was passed of T.4 rows of 8 pixels that have no end yet, coded by hand
+pub record AreOpenRows : Type 0 where
+  -- an EOL, white 0 and black 0: the next run is white, and all pixels are left
+  pub no_pixels : IsOpenRow 8 (text (codes "000000000001" ++ codes "00110101" ++ codes "0000110111" ++ codes "0011")) [] 0
+      (Runs (record { at = 30; color = White; left = 8 }))
+  -- no EOL, and white 2: the next run is black, of 6 pixels at most
+  pub white : IsOpenRow 8 (text (codes "0111" ++ codes "0")) [] 0 (Runs (record { at = 4; color = Black; left = 6 }))
+  -- fill
+  pub fill : IsOpenRow 8 (text (codes "0000000000000")) [] 0 (Zeros 13)
 
 -- T.6 pages of rows of 8 pixels, coded by hand: by vertical modes, pass mode and horizontal mode
 pub record AreT6Pages : Type 0 where

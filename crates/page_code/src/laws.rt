@@ -2,7 +2,7 @@
 
 ghost use Rattle.page_code.specs.RowsSoFar.{RowsStay};
 ghost use Rattle.page_code.specs.Codings.{GivesCodedRows, ReadsCode, ReadsExactly, RefusesAtLongest, RefusesExactly, RefusesNoPage};
-ghost use Rattle.page_code.specs.WorkedPages.{AreOneDimPages, AreT6Pages};
+ghost use Rattle.page_code.specs.WorkedPages.{AreOneDimPages, AreOpenRows, AreT6Pages};
 
 pub mod one_dim;
 pub mod t6;
@@ -40,8 +40,10 @@ pub fn rows_stay()
     ensures { RowsStay }
 {}
 
-/// Pages that were coded by hand from the tables: each end of a T.4 page, and the modes of T.6.
+/// Pages that were coded by hand from the tables: each end of a T.4 page, T.4 rows without their end, and the
+/// modes of T.6.
 pub fn worked_pages()
     ensures one_dim { AreOneDimPages }
+    ensures open_rows { AreOpenRows }
     ensures t6 { AreT6Pages }
 {}

@@ -13,6 +13,7 @@ ghost use Rattle.std.specs.Prelude.{◌≡◌, ◌≤◌, ◌<◌, ◌+◌, ◌*
 
 pub(crate) mod eol;
 pub(crate) mod one_row;
+pub(crate) mod open_row;
 pub(crate) mod repair;
 
 use crate::coding::{PageCode, decode_in, encode_in};

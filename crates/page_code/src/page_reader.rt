@@ -2,15 +2,16 @@
 
 ghost use Rattle.page_code.specs.Codings.{read_rows};
 ghost use Rattle.page_code.specs.PageCodes.{GivesPage, GivesRows, IsOnlyAnswer, ReadsPage, RefusesPage};
-ghost use Rattle.page_code.specs.PageReaders.{GoesOnTo, IsLike, IsRead, StandsAfter, StandsAsBefore, StandsFor};
+ghost use Rattle.page_code.specs.PageReaders.{GoesOnTo, IsLike, IsPassed, IsRead, StandsAfter, StandsAsBefore, StandsFor};
 ghost use Rattle.page_code.specs.RowsSoFar.{AreRowsSoFar, AreWholeRows, IsFurther, IsReadTo, ReadsOn};
 ghost use Rattle.page_code.specs.TurnedCodes.{AreTurned, IsTurnedCode};
 ghost use Rattle.raster.specs.Packed.{bits_of};
 ghost use Rattle.raster.specs.Pixels.{IsWidth};
 ghost use Rattle.run_tables.specs.declared.fault.CodeFaultKind.TheVariants.{NoMemory};
 ghost use Rattle.std.specs.Bool.{OnTrue};
-ghost use Rattle.std.specs.Prelude.{◌≡◌, ◌≢◌, [], List, ℕ, IfErr, IfOk, OnErr, OnOk, length};
+ghost use Rattle.std.specs.Prelude.{◌≡◌, ◌≢◌, [], List, ℕ, IfErr, IfOk, IfSome, OnErr, OnOk, OnSome, length};
 
+use crate::one_dim::open_row::{self, OpenRow};
 use crate::page::Progress;
 use crate::turned::{code_of, turned_code};
 use crate::{one_dim, t6};
@@ -69,6 +70,9 @@ pub struct PageReader {
     coding: Coding,
     order: Order,
     progress: Progress,
+    passed: OpenRow,
+    /// Whether the last octets brought a whole row.
+    grew: bool,
     count: u32,
     turned: Vec<u8>,
 }
@@ -84,6 +88,7 @@ impl Model for PageReader {
       order = reader.order;
       page = reader.progress.page;
       place = reader.progress.place;
+      passed = reader.passed;
       count = reader.count;
       turned = reader.turned.items;
     } };
@@ -100,6 +105,26 @@ fn is_stuck(coding: Coding, octets: &[u8], order: Order, to: &Progress) -> bool
     match coding {
         Coding::OneDim => false,
         Coding::T6 => t6::read::is_stuck(octets, order, to),
+    }
+}
+
+/// The row after the whole rows, passed on from where it was passed before, if that shows that no more rows
+/// can be read. None if the row is whole, or can be: then it is read from its beginning. Only T.4 needs this.
+fn pass_on(
+    coding: Coding,
+    octets: &[u8],
+    order: Order,
+    to: &Progress,
+    before: OpenRow,
+) -> Option<OpenRow>
+    requires read { IsReadTo coding to.now.page.width (bits_of order octets.now) to.now.page.rows to.now.place }
+    requires before { IsPassed coding to.now.page.width (bits_of order octets.now) to.now.page.rows to.now.place before }
+    ensures passed { IfSome result (IsPassed coding to.now.page.width (bits_of order octets.now) to.now.page.rows to.now.place) }
+    ensures rows { OnSome result (AreRowsSoFar coding to.now.page.width (bits_of order octets.now) (length to.now.page.rows)) }
+{
+    match coding {
+        Coding::OneDim => open_row::pass(octets, order, to, before),
+        Coding::T6 => None,
     }
 }
 
@@ -259,6 +284,8 @@ impl PageReader {
             coding,
             order,
             progress: Progress::new(alloc, width, fine),
+            passed: OpenRow::Zeros(0),
+            grew: false,
             count: 0,
             turned: Vec::new(alloc),
         }
@@ -274,6 +301,17 @@ impl PageReader {
         ensures kept { OnOk result (length self.new.page.rows ≡ self.new.count) }
         ensures err { OnErr result (StandsAsBefore self.old self.new) }
     {
+        // a row that is new is most often whole with the next octets, and isn't passed before
+        if !self.grew {
+            let passed = pass_on(self.coding, all, self.order, &self.progress, self.passed);
+            if let Some(passed) = passed {
+                self.passed = passed;
+                self.count = self.progress.page.rows().len() as u32;
+                return Ok(());
+            }
+        }
+        self.passed = OpenRow::Zeros(0);
+        let before = self.progress.page.rows().len();
         let width = self.progress.page.width();
         let fine = self.progress.page.fine();
         let kept = mem::replace(&mut self.turned, Vec::new(self.alloc));
@@ -289,7 +327,9 @@ impl PageReader {
             self.progress = Progress::new(self.alloc, width, fine);
             return Err(AllocError);
         };
-        self.count = self.progress.page.rows().len() as u32;
+        let rows = self.progress.page.rows().len();
+        self.count = rows as u32;
+        self.grew = rows > before;
         self.turned = turned;
         Ok(())
     }
@@ -315,6 +355,7 @@ impl PageReader {
         let fine = self.progress.page.fine();
         let begun = Progress::new(self.alloc, width, fine);
         let progress = mem::replace(&mut self.progress, begun);
+        self.passed = OpenRow::Zeros(0);
         let kept = mem::replace(&mut self.turned, Vec::new(self.alloc));
         match read_to_end_turned(self.alloc, self.coding, all, self.order, kept, progress) {
             Ok(answer) => {
@@ -339,6 +380,7 @@ impl PageReader {
         let fine = self.progress.page.fine();
         let begun = Progress::new(self.alloc, width, fine);
         let progress = mem::replace(&mut self.progress, begun);
+        self.passed = OpenRow::Zeros(0);
         let kept = mem::replace(&mut self.turned, Vec::new(self.alloc));
         match read_whole_turned(self.alloc, self.coding, all, self.order, kept, progress) {
             Ok(PageRead::Page(page, used)) => {

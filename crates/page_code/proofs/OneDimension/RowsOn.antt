@@ -46,10 +46,10 @@ use Rattle.page_code.proofs.OneDimension.ReadsAll.{PageWay, ends_some, later_way
 use Rattle.page_code.proofs.OneDimension.ReadsOnly.{reads_only}
 
 -- what is refused or ends doesn't go on
-refused_goes : (l : PageLook) (kind : CodeFaultKind) (i : PageItem) (t : PageState) → l ≡ refuse kind → l ≡ go i t → ⊥
+pub refused_goes : (l : PageLook) (kind : CodeFaultKind) (i : PageItem) (t : PageState) → l ≡ refuse kind → l ≡ go i t → ⊥
 refused_goes l kind i t is e = let both : ◌≡◌ {A = PageLook} (refuse kind) (go i t) = sym is ∙ e in cc
 
-stopped_goes : (l : PageLook) (rows : List (List Color)) (n : ℕ) (i : PageItem) (t : PageState) → l ≡ stop rows n → l ≡ go i t → ⊥
+pub stopped_goes : (l : PageLook) (rows : List (List Color)) (n : ℕ) (i : PageItem) (t : PageState) → l ≡ stop rows n → l ≡ go i t → ⊥
 stopped_goes l rows n i t is e = let both : ◌≡◌ {A = PageLook} (stop rows n) (go i t) = sym is ∙ e in cc
 
 -- Rows stay
@@ -83,7 +83,7 @@ walk_grows width (i ∷ is) s t walk = omega (arith, step_grows width s i walk.0
 abbrev pub Kept : ℕ → List Bool → List (List Color) → ℕ → Type 0
 Kept width bits rows place = LeadsTo item_word (Step width) first (after_rows rows) bits place
 
-after_some : (rows : List (List Color)) → 0 < length rows → after_rows rows ≡ row_end rows
+pub after_some : (rows : List (List Color)) → 0 < length rows → after_rows rows ≡ row_end rows
 after_some [] some = absurd (omega arith)
 after_some (row ∷ rows) some = refl
 
@@ -128,7 +128,7 @@ rows_way width rows lead bits some wide few leads spells =
     spells.front) ++ spells.after)) (sym same) way)
 
 -- where nothing goes on, the rows before it are those that the bits spell
-counted : (width : ℕ) (bits : List Bool) (rows : List (List Color)) (place at : ℕ) (end : PageState) → IsWidth width
+pub counted : (width : ℕ) (bits : List Bool) (rows : List (List Color)) (place at : ℕ) (end : PageState) → IsWidth width
     → length rows ≤ 20000 → Kept width bits rows place → LeadsTo item_word (Step width) first end bits at → rows_of end ≡ rows
     → ((i : PageItem) (t : PageState) → look width end (drop at bits) ≡ go i t → ⊥) → AreRowsSoFar OneDim width bits (length rows)
 unfolding BeginWith
@@ -157,7 +157,7 @@ leads_read width bits at end leads =
     (ap (λ n. reading width end n leads.rest) place ∙ ap (reading width end at) (sym (leads_rest item_word (Step width) first end bits at
     leads))))
 
-passes_on : (width : ℕ) (bits : List Bool) (rows : List (List Color)) (place : ℕ) (state : PageState) (at : ℕ)
+pub passes_on : (width : ℕ) (bits : List Bool) (rows : List (List Color)) (place : ℕ) (state : PageState) (at : ℕ)
     → Kept width bits rows place → Passes bits width rows place state at → LeadsTo item_word (Step width) first state bits at
 passes_on width bits rows place state at kept passes = leads_on item_word (Step width) first (after_rows rows) bits place kept state
     passes.0
@@ -197,14 +197,12 @@ row_on width bits rows row place at used wide kept found reads =
     (leads_on item_word (Step width) first found.0 bits at leads (row_end (rows ++ row ∷ [])) way.items reads.rest (at + used) way.walk
     (reads.split ∙ ap (λ l. l ++ reads.rest) (sym way.spelled)) (omega (arith, reads.used_is, ap length way.spelled)))
 
--- a row is refused
-pub row_off : (width : ℕ) (bits : List Bool) (rows : List (List Color)) (place at within : ℕ) (kind : CodeFaultKind) → IsWidth width
-    → length rows ≤ 20000 → Kept width bits rows place → FindsRow bits width rows place (Row at)
-    → IsLongestRow width (drop at bits) within kind
-    → (read_rows OneDim width bits ≡ Err (at + within, kind)) × AreRowsSoFar OneDim width bits (length rows)
-unfolding read_rows
-row_off width bits rows place at within kind wide few kept found longest = from longest.items longest.front.walk longest.front.spelled
-    longest.place_is
+-- where whole codes of a row lead, none goes on
+pub row_stops : (width : ℕ) (bits : List Bool) (rows : List (List Color)) (place at within : ℕ) (kind : CodeFaultKind) (there : RowState)
+    → IsWidth width → length rows ≤ 20000 → Kept width bits rows place → FindsRow bits width rows place (Row at)
+    → (codes : LeadsTo code_bits (RowStep width) row_begin there (drop at bits) within) → row_look width there codes.rest ≡ refuse kind
+    → (read_page width bits ≡ Err (at + within, kind)) × AreRowsSoFar OneDim width bits (length rows)
+row_stops width bits rows place at within kind there wide few kept found way none = from way.items way.walk way.spelled way.place_is
   where
     leads : LeadsTo item_word (Step width) first found.0 bits at
     leads = passes_on width bits rows place found.0 at kept found.3
@@ -227,11 +225,11 @@ row_off width bits rows place at within kind wide few kept found longest = from 
       counted width bits rows place (at + within) end wide few kept there same (λ i t e. refused_goes _ kind i t seen e),
     )
 
-    from : (codes : List RunItem) → Walk (RowStep width) row_begin codes longest.front.end
-        → drop at bits ≡ spell code_bits codes ++ longest.front.rest → within ≡ length (spell code_bits codes)
+    from : (codes : List RunItem) → Walk (RowStep width) row_begin codes there
+        → drop at bits ≡ spell code_bits codes ++ way.rest → within ≡ length (spell code_bits codes)
         → (read_page width bits ≡ Err (at + within, kind)) × AreRowsSoFar OneDim width bits (length rows)
     from [] walk spelled is =
-        let seen : row_look width row_begin longest.front.rest ≡ refuse kind = rw (← walk) at longest.kind_is in
+        let seen : row_look width row_begin way.rest ≡ refuse kind = rw (← walk) at none in
         let same : at ≡ at + within = omega (arith, is) in
         let here : look width found.0 (drop at bits) ≡ refuse kind = begin_refused width found.0 rows (drop at bits) kind found.1 found.2
         (ap
@@ -241,25 +239,39 @@ row_off width bits rows place at within kind wide few kept found longest = from 
         look width found.0 (drop n bits) ≡ refuse kind) same here)
     from (code ∷ codes) walk spelled is =
         let words : spell item_word (map coded (code ∷ codes)) ≡ spell code_bits (code ∷ codes) = spell-coded (code ∷ codes) in
-        let split : drop at bits ≡ spell item_word (map coded (code ∷ codes)) ++ longest.front.rest = spelled ∙
-        ap (λ l. l ++ longest.front.rest) (sym words) in
+        let split : drop at bits ≡ spell item_word (map coded (code ∷ codes)) ++ way.rest = spelled ∙
+        ap (λ l. l ++ way.rest) (sym words) in
         let far : at + within ≡ at + length (spell item_word (map coded (code ∷ codes))) = omega (arith, is, ap length words) in
-        let end : PageState = put rows longest.front.end in
-        let rest = drop_on bits (spell item_word (map coded (code ∷ codes))) longest.front.rest at (at + within) split far in
-        ended end (leads_on item_word (Step width) first found.0 bits at leads end (map coded (code ∷ codes)) longest.front.rest (at +
-        within) (begin_walk width found.0 rows code codes longest.front.end found.1 walk) split far) (put_rows longest.front.end
-        longest.front.rest longest.kind_is) (ap (look width end) rest ∙ put_refused width rows longest.front.end longest.front.rest kind
-        longest.kind_is)
+        let end : PageState = put rows there in
+        let rest = drop_on bits (spell item_word (map coded (code ∷ codes))) way.rest at (at + within) split far in
+        ended end (leads_on item_word (Step width) first found.0 bits at leads end (map coded (code ∷ codes)) way.rest (at +
+        within) (begin_walk width found.0 rows code codes there found.1 walk) split far) (put_rows there way.rest none) (ap (look width
+        end) rest ∙ put_refused width rows there way.rest kind none)
+
+-- a row is refused
+pub row_off : (width : ℕ) (bits : List Bool) (rows : List (List Color)) (place at within : ℕ) (kind : CodeFaultKind) → IsWidth width
+    → length rows ≤ 20000 → Kept width bits rows place → FindsRow bits width rows place (Row at)
+    → IsLongestRow width (drop at bits) within kind
+    → (read_rows OneDim width bits ≡ Err (at + within, kind)) × AreRowsSoFar OneDim width bits (length rows)
+unfolding read_rows
+row_off width bits rows place at within kind wide few kept found longest = row_stops width bits rows place at within kind longest.front.end
+    wide few kept found (record {
+      items = longest.items;
+      rest = longest.front.rest;
+      walk = longest.front.walk;
+      spelled = longest.front.spelled;
+      place_is = longest.place_is;
+    }) longest.kind_is
 
 -- What is found after rows
 
 -- nothing was passed
-stays : (bits : List Bool) (width : ℕ) (rows : List (List Color)) (place : ℕ) (state : PageState) → place ≤ length bits
+pub stays : (bits : List Bool) (width : ℕ) (rows : List (List Color)) (place : ℕ) (state : PageState) → place ≤ length bits
     → after_rows rows ≡ state → Passes bits width rows place state place
 stays bits width rows place state within is = ([], drop place bits, is, refl, omega arith, within)
 
 -- an EOL was passed
-passes_eol : (bits : List Bool) (width : ℕ) (rows : List (List Color)) (place eol_bits : ℕ) → place ≤ length bits
+pub passes_eol : (bits : List Bool) (width : ℕ) (rows : List (List Color)) (place eol_bits : ℕ) → place ≤ length bits
     → SeesEol (drop place bits) (Present eol_bits) → Passes bits width rows place (row_start rows) (place + eol_bits)
 passes_eol bits width rows place eol_bits within sees =
     let split = zeros_split (drop place bits) sees.0 sees.1 in (
@@ -347,7 +359,7 @@ sees_full bits place count full stands = (
         → cond b (look_in_row width rows [] White None (drop place bits)) (refuse TooManyCodedRows) ≡ refuse TooManyCodedRows
     over width rows b is = rw is refl
 
-none_ends : (rows : List (List Color)) (more : ℕ) → length rows ≡ 0 → ends_with rows more ≡ refuse NoRows
+pub none_ends : (rows : List (List Color)) (more : ℕ) → length rows ≡ 0 → ends_with rows more ≡ refuse NoRows
 none_ends [] more h = refl
 none_ends (row ∷ rows) more h = absurd (omega arith)
 

@@ -22,7 +22,7 @@ pub(crate) enum Eol {
 
 /// The number of 0 bits before the first 1 of a word, or 64.
 #[inline(always)]
-fn zeros_of(word: u64) -> u32
+pub(crate) fn zeros_of(word: u64) -> u32
     ensures { IsFirstInWord word 0 false result }
 {
     word.leading_zeros()
