@@ -5,3 +5,4 @@ pub mod FaultKinds
 pub mod Explanations
 pub mod FaultRecords
 pub mod KindsMean
+pub mod ExplanationRows

@@ -1,5 +1,6 @@
 //! Laws of the definitions. Nothing runs.
 
+ghost use Rattle.faults.specs.ExplanationRows.{ReasonsByOctets, TriesByOctets};
 ghost use Rattle.faults.specs.Explanations.{IsOneLine, explained};
 ghost use Rattle.faults.specs.KindsMean.{BareWords, ImagesHaveKinds, KindsHaveNumbers, NumbersHaveKinds, PagesHaveKinds};
 ghost use Rattle.faults.specs.declared.explain.Known.{Known};
@@ -19,4 +20,10 @@ pub fn kinds_of_faults()
     ensures images { ImagesHaveKinds }
     ensures pages { PagesHaveKinds }
     ensures words { BareWords }
+{}
+
+/// Words that no file of a test shows, by octets: the system's reasons, and what is tried where the first row of a page is refused.
+pub fn explained_by_octets()
+    ensures reasons { ReasonsByOctets }
+    ensures tries { TriesByOctets }
 {}
