@@ -3,7 +3,7 @@ pub mod FrameWords
 pub mod FrameLines
 pub mod FramesWritten
 pub mod TalkedLines
-mod HexPieces
+pub mod Written
 pub mod FullAnswerer
 pub mod GivenLines
 pub mod Led

@@ -5,7 +5,10 @@ use Rattle.std.specs.Io.KnownBytes.{Consumes, IsAtEnd, Keeps}
 use Rattle.std.proofs.KnownBytes.{Consumes-kept, Consumes-nil, Consumes-trans}
 use Rattle.std.proofs.lemmas.List.{append-nil}
 use Rattle.std.proofs.lemmas.Bool.Decides.{nat_tests}
-use Rattle.conversations.specs.Reading.{HasNoFeed, TakesLine, TakesNext, TakesPlain, TakesTooMany}
+use Rattle.std.specs.Prelude.{Result, Err, IsErrAnd}
+use Rattle.conversations.specs.Reading.{HasNoFeed, TakesLine, TakesNext, TakesPart, TakesPlain, TakesTooMany}
+use Rattle.conversations.specs.declared.reading.ReadFault.{ReadFault}
+use Rattle.conversations.specs.declared.reading.ReadFault.TheVariants.{NoMemory, TooLong, Failed}
 
 -- this much of a line was taken
 pub record SoFar (line : List ℕ) (old now : Option (List ℕ)) (count : ℕ) : Type 0 where
@@ -121,3 +124,28 @@ plain_some line longer shown room count old new joined plain within few is taken
       let cut = length-take-le count shown within in omega (arith, long, cut, few, is, m);
   taken = taken;
 }
+
+-- nothing more is taken, and this much of a line was
+pub part_taken : (line kept : List ℕ) (old now new : Option (List ℕ)) (count : ℕ) → SoFar line old now count → Consumes now new []
+    → kept ≡ line → TakesPart old new kept
+part_taken line kept old now new count so_far came is = subst (TakesPart old new) (sym is) (record {
+  one = so_far.one;
+  most = so_far.most;
+  taken = nothing_more line old now new count so_far came;
+})
+
+-- what a fault leaves of a line
+pub part_left : (line : List ℕ) (old new : Option (List ℕ)) (fault : ReadFault) (result : Result Bool ReadFault) → fault ≢ TooLong →
+    IsErrAnd result (λ found. found ≡ fault) → TakesPart old new line → TakesNext old new line result
+part_left line old new fault (Ok there) other is part = absurd is
+part_left line old new NoMemory (Err found) other is part = rw is (inl part)
+part_left line old new TooLong (Err found) other is part = absurd (other refl)
+part_left line old new (Failed kind) (Err found) other is part = rw is part
+
+-- an octet more was taken, and there was no room for it
+pub octet_lost : (line kept : List ℕ) (octet : ℕ) (old now new : Option (List ℕ)) (count : ℕ) → SoFar line old now count
+    → length line < 400000 → Consumes now new (octet ∷ []) → octet ≢ 10 → kept ≡ line → TakesNext old new kept (Err NoMemory)
+octet_lost line kept octet old now new count so_far room came other is =
+    let more = one_more line (line ++ octet ∷ []) octet old now new count so_far room came other refl in
+    subst (λ (l : List ℕ). TakesNext old new l (Err NoMemory)) (sym is)
+    (inr (octet, record { one = more.one; most = more.most; taken = more.taken }))

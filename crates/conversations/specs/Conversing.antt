@@ -3,7 +3,7 @@ use Rattle.std.specs.Prelude.{ℕ, ◌≡◌, ◌⊎◌, ◌+◌, ◌-◌, ◌^�
 use Rattle.std.specs.Io.KnownBytes.{Consumes, IsAtEnd}
 use Rattle.conversations.specs.Conversations.{Behaviour, ConversationFields, IsOutOfTime, RefusesLine, TakesLine}
 use Rattle.conversations.specs.Lines.{Says, SaysNothing}
-use Rattle.conversations.specs.Reading.{TakesTooMany}
+use Rattle.conversations.specs.Reading.{TakesPart, TakesTooMany}
 use Rattle.conversations.specs.Reading.{TakesLine as ReadsLine}
 use Rattle.conversations.specs.Talking.{Answers, BreaksOff, Keeping}
 use Rattle.conversations.specs.declared.conversing.ConverseFault.{ConverseFault}
@@ -99,17 +99,19 @@ pub record RefusesLineOf (S K : Type 0) (t : Talker S K) (old new : TalkState S 
   pub count : number ≡ length lines + 1
   pub refused : RefusesNext S K t last new
 
--- lines are answered, and then the reader fails: all but what is left to be read is as it was
+-- lines are answered, and then the next can't be read whole: a beginning of it is taken, and all but what is left to be read is as it was
 pub record FailsToRead (S K : Type 0) (t : Talker S K) (old new : TalkState S K) : Type 0 where
   pub lines : List (List ℕ)
   pub last : TalkState S K
   pub answered : AnswersAll t lines old last
+  pub line : List ℕ
+  pub taken : TakesPart last.input new.input line
   pub rest : new ≡ record last { input = new.input }
 
--- a line is read, and its answer fails on the way: what it brought is kept before anything is written
+-- a line is read, and its answer fails on the way: what it brought is kept before anything is written, and a beginning of the answer is
 abbrev pub BreaksNext : {S K : Type 0} → Talker S K → TalkState S K → TalkState S K → Type 0
 BreaksNext t old new = (line : List ℕ) × ReadsLine old.input new.input line
-    × BreaksOff t.station t.keeping line old.conversation new.conversation old.keeper new.keeper old.output new.output
+    × BreaksOff t.station t.keeping t.lends line old.conversation new.conversation old.keeper new.keeper old.output new.output
 
 -- lines are answered, and then the answer to one fails on the way
 pub record Breaks (S K : Type 0) (t : Talker S K) (old new : TalkState S K) : Type 0 where

@@ -1,5 +1,5 @@
 -- What is taken from a reader, line by line.
-use Rattle.std.specs.Prelude.{◌≡◌, ◌≢◌, ◌⊎◌, ◌<◌, ◌≤◌, ◌++◌, ◌∷◌, [], ⊤, ℕ, Bool, true, false, List, Option, Result, Ok, Err, length, slice_index}
+use Rattle.std.specs.Prelude.{◌≡◌, ◌≢◌, ◌⊎◌, ◌<◌, ◌≤◌, ◌++◌, ◌∷◌, [], ℕ, Bool, true, false, List, Option, Result, Ok, Err, length, slice_index}
 use Rattle.std.specs.Io.KnownBytes.{Consumes, IsAtEnd}
 use Rattle.conversations.specs.declared.reading.ReadFault.{ReadFault}
 use Rattle.conversations.specs.declared.reading.ReadFault.TheVariants.{NoMemory, TooLong, Failed}
@@ -29,11 +29,18 @@ pub record TakesTooMany (old new : Option (List ℕ)) (line : List ℕ) : Type 0
   pub all : length line ≡ 400000
   pub taken : Consumes old new (line ++ octet ∷ [])
 
--- what is taken of a reader for the next line: that line with its LF; nothing at the end; or, without an LF among them, one octet more than
--- the 400,000 that a line may have
+-- a beginning of a line was taken, of at most 400,000 octets without an LF among them, and no octet more
+pub record TakesPart (old new : Option (List ℕ)) (line : List ℕ) : Type 0 where
+  pub one : HasNoFeed line
+  pub most : length line ≤ 400000
+  pub taken : Consumes old new line
+
+-- What is taken of a reader for the next line: that line with its LF; nothing at the end; or, without an LF among them, one octet more than
+-- the 400,000 that a line may have. Where the reader fails a beginning of the line was taken. Where memory is refused it was too, and maybe
+-- the octet after it, for which there was no room.
 abbrev pub TakesNext : Option (List ℕ) → Option (List ℕ) → List ℕ → Result Bool ReadFault → Type 0
 TakesNext old new line (Ok true) = TakesLine old new line
 TakesNext old new line (Ok false) = Consumes old new [] × IsAtEnd new
 TakesNext old new line (Err TooLong) = TakesTooMany old new line
-TakesNext old new line (Err NoMemory) = ⊤
-TakesNext old new line (Err (Failed kind)) = ⊤
+TakesNext old new line (Err NoMemory) = TakesPart old new line ⊎ ((octet : ℕ) × TakesPart old new (line ++ octet ∷ []))
+TakesNext old new line (Err (Failed kind)) = TakesPart old new line

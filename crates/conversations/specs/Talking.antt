@@ -1,9 +1,9 @@
 -- The answer to a line: what the station makes of it, and the lines that are written.
-use Rattle.std.specs.Prelude.{ℕ, ◌≡◌, ◌⊎◌, ◌++◌, ◌∷◌, [], ◌↔◌, ⊤, Bool, true, false, IsTrue, IsSome, List, Option, Some, None, Ok, flat_map}
+use Rattle.std.specs.Prelude.{ℕ, ◌≡◌, ◌⊎◌, ◌++◌, ◌∷◌, [], ◌↔◌, Bool, true, false, IsTrue, IsSome, List, Option, Some, None, Ok, flat_map}
 use Rattle.std.specs.Io.KnownBytes.{Appends}
 use Rattle.conversations.specs.Conversations.{Behaviour, ConversationFields, IsOutOfTime, RefusesLine, SendsIfBegun, TakesLine, refused_so, next_quiet}
 use Rattle.conversations.specs.Lines.{Says, SaysNothing}
-use Rattle.conversations.specs.Writing.{burst_line, on_lines, rest_lines}
+use Rattle.conversations.specs.Writing.{AppendsPart, burst_line, on_lines, rest_lines}
 use Rattle.conversations.specs.declared.line.Said.{Said}
 use Rattle.conversations.specs.declared.line.TimedLine.{TimedLine}
 use Rattle.conversations.specs.declared.talking.AnswerFault.{AnswerFault}
@@ -22,6 +22,12 @@ abbrev pub GivesAll : {S : Type 0} → Side → BurstsOf S → ConversationField
 GivesAll side lends old [] new = GivesNext side lends old None new
 GivesAll {S} side lends old (burst ∷ bursts) new =
     (mid : ConversationFields S) × GivesNext side lends old (Some burst) mid × GivesAll side lends mid bursts new
+
+-- bursts are given one after the other, and others may be left
+abbrev pub GivesSome : {S : Type 0} → Side → BurstsOf S → ConversationFields S → List SentBurst → ConversationFields S → Type 0
+GivesSome side lends old [] new = new ≡ old
+GivesSome {S} side lends old (burst ∷ bursts) new =
+    (mid : ConversationFields S) × GivesNext side lends old (Some burst) mid × GivesSome side lends mid bursts new
 
 -- what a conversation says after its bursts, by what its station shows
 abbrev pub rest_text : {S : Type 0} → Side → ConversationFields S → Shown → List ℕ
@@ -42,6 +48,21 @@ pub record WritesTurn (S : Type 0) (side : Side) (lends : BurstsOf S) (shows : S
   pub rest : List ℕ
   pub says_rest : SaysRest side shows new over rest
   pub writes : Appends before after (flat_map (burst_line old.says.frames) bursts ++ rest)
+
+-- bursts of a turn are given, and nothing is said after them while others may be left; or all are, and this is said after them
+abbrev pub GivesSoFar : {S : Type 0} → Side → BurstsOf S → (S → Shown → Type 0) → ConversationFields S → List SentBurst →
+    ConversationFields S → List ℕ → Type 0
+GivesSoFar side lends shows old bursts new rest = (GivesSome side lends old bursts new × (rest ≡ []))
+    ⊎ (GivesAll side lends old bursts new × ((over : Bool) × SaysRest side shows new over rest))
+
+-- a turn is written in part: bursts that are left are given, some or all, and of their lines, with what is said after all of them, a
+-- beginning is written and nothing else
+pub record WritesPart (S : Type 0) (side : Side) (lends : BurstsOf S) (shows : S → Shown → Type 0) (old new : ConversationFields S)
+    (before after : Option (List ℕ)) : Type 0 where
+  pub bursts : List SentBurst
+  pub rest : List ℕ
+  pub gives : GivesSoFar side lends shows old bursts new rest
+  pub writes : AppendsPart before after (flat_map (burst_line old.says.frames) bursts ++ rest)
 
 -- a relation that says how what a line brought is kept: the keeper and the conversation before, what the line says, both after, and if all
 -- was kept
@@ -81,9 +102,25 @@ pub record Answers (S K : Type 0) (b : Behaviour S) (k : Keeping S K) (lends : B
   pub withholds : Withholds b.side lends ready late left
   pub writes : WritesTurn S b.side lends b.shows left new told after over
 
--- a line was taken, and what it brought was kept, all of it or not
-pub record KeepsLine (S K : Type 0) (b : Behaviour S) (k : Keeping S K) (line : List ℕ) (old : ConversationFields S) (keeper kept_in : K) :
-    Type 0 where
+-- what the keeper says was written in part, and nothing else: bursts may have been given, but none was sent
+abbrev pub TellsPart : {S K : Type 0} → Behaviour S → Keeping S K → BurstsOf S → ConversationFields S → ConversationFields S → K →
+    Option (List ℕ) → Option (List ℕ) → Type 0
+TellsPart b k lends ready new kept_in before after =
+    AppendsPart before after (k.tells kept_in) × ((bursts : List SentBurst) × GivesSome b.side lends ready bursts new)
+
+-- all that the keeper says was written, and then, once an answer that is late was withheld, the turn in part
+pub record TellsAll (S K : Type 0) (b : Behaviour S) (k : Keeping S K) (lends : BurstsOf S) (ready new : ConversationFields S) (kept_in : K)
+    (before after : Option (List ℕ)) : Type 0 where
+  pub late : Bool
+  pub left : ConversationFields S
+  pub told : Option (List ℕ)
+  pub tells : Appends before told (k.tells kept_in)
+  pub withholds : Withholds b.side lends ready late left
+  pub writes : WritesPart S b.side lends b.shows left new told after
+
+-- A line was taken, and what it brought was kept, all of it or not. Then the answer failed: a beginning of it was written, and nothing else.
+pub record KeepsLine (S K : Type 0) (b : Behaviour S) (k : Keeping S K) (lends : BurstsOf S) (line : List ℕ)
+    (old new : ConversationFields S) (keeper kept_in : K) (before after : Option (List ℕ)) : Type 0 where
   pub timed : TimedLine
   pub heard : ConversationFields S
   pub ready : ConversationFields S
@@ -92,6 +129,7 @@ pub record KeepsLine (S K : Type 0) (b : Behaviour S) (k : Keeping S K) (line : 
   pub can_come : k.takes keeper timed.said ≡ true
   pub takes : TakesLine S b old timed heard
   pub keeps_so : k.keeps keeper (refused_so b heard) timed.said kept_in ready kept
+  pub writes : TellsPart b k lends ready new kept_in before after ⊎ TellsAll S K b k lends ready new kept_in before after
 
 -- nothing was done but that the line may have been heard in part, since memory was refused
 abbrev pub KeepsNothing : {S K : Type 0} → Behaviour S → List ℕ → ConversationFields S → ConversationFields S → K → K →
@@ -100,31 +138,29 @@ KeepsNothing {S} b line old new keeper kept_in before after = (kept_in ≡ keepe
     × ((new ≡ old) ⊎ ((timed : TimedLine) × Says line timed × RefusesLine S b old timed new))
 
 -- An answer failed on the way. What the line brought was kept before anything was written: nothing was kept, and nothing written; or it was
--- kept, and then the answer failed.
-abbrev pub BreaksOff : {S K : Type 0} → Behaviour S → Keeping S K → List ℕ → ConversationFields S → ConversationFields S → K → K →
-    Option (List ℕ) → Option (List ℕ) → Type 0
-BreaksOff {S} {K} b k line old new keeper kept_in before after =
-    KeepsNothing b line old new keeper kept_in before after ⊎ KeepsLine S K b k line old keeper kept_in
+-- kept, and then a beginning of the answer was written.
+abbrev pub BreaksOff : {S K : Type 0} → Behaviour S → Keeping S K → BurstsOf S → List ℕ → ConversationFields S → ConversationFields S →
+    K → K → Option (List ℕ) → Option (List ℕ) → Type 0
+BreaksOff {S} {K} b k lends line old new keeper kept_in before after =
+    KeepsNothing b line old new keeper kept_in before after ⊎ KeepsLine S K b k lends line old new keeper kept_in before after
 
 -- why octets aren't answered, by what became of it: they are no line of a station, or no line that can come now, or their time can't follow;
 -- or the answer failed on the way
-abbrev pub IsNoAnswer : {S K F : Type 0} → Behaviour S → Keeping S K → List ℕ → ConversationFields S → ConversationFields S → K → K →
-    Option (List ℕ) → Option (List ℕ) → AnswerFault F → Type 0
-IsNoAnswer b k line old new keeper kept_in before after NoLine = SaysNothing line
-IsNoAnswer b k line old new keeper kept_in before after NotHeld =
+abbrev pub IsNoAnswer : {S K F : Type 0} → Behaviour S → Keeping S K → BurstsOf S → List ℕ → ConversationFields S →
+    ConversationFields S → K → K → Option (List ℕ) → Option (List ℕ) → AnswerFault F → Type 0
+IsNoAnswer b k lends line old new keeper kept_in before after NoLine = SaysNothing line
+IsNoAnswer b k lends line old new keeper kept_in before after NotHeld =
     (timed : TimedLine) × Says line timed × (k.takes keeper timed.said ≡ false)
-IsNoAnswer b k line old new keeper kept_in before after OutOfTime = (timed : TimedLine) × Says line timed × IsOutOfTime old timed
-IsNoAnswer b k line old new keeper kept_in before after NoMemory = BreaksOff b k line old new keeper kept_in before after
-IsNoAnswer b k line old new keeper kept_in before after (Writer kind) = BreaksOff b k line old new keeper kept_in before after
-IsNoAnswer b k line old new keeper kept_in before after (Follower why) = BreaksOff b k line old new keeper kept_in before after
+IsNoAnswer b k lends line old new keeper kept_in before after OutOfTime = (timed : TimedLine) × Says line timed × IsOutOfTime old timed
+IsNoAnswer b k lends line old new keeper kept_in before after NoMemory = BreaksOff b k lends line old new keeper kept_in before after
+IsNoAnswer b k lends line old new keeper kept_in before after (Writer kind) = BreaksOff b k lends line old new keeper kept_in before after
+IsNoAnswer b k lends line old new keeper kept_in before after (Follower why) = BreaksOff b k lends line old new keeper kept_in before after
 
--- the condition holds if octets were refused before anything was done: they were no line, or one that can't come now
-abbrev pub IfRefused : {F : Type 0} → AnswerFault F → Type 0 → Type 0
-IfRefused NoLine A = A
-IfRefused NotHeld A = A
-IfRefused OutOfTime A = A
-IfRefused fault A = ⊤
-
--- the fault is another one than a refused line: it came after the line was taken, or says nothing of it
-abbrev pub IsLate : {F : Type 0} → AnswerFault F → Type 0
-IsLate fault = IfRefused fault ⊥
+-- octets were refused before anything was done: they are no line, or one that can't come now
+abbrev pub is_refused : {F : Type 0} → AnswerFault F → Bool
+is_refused NoLine = true
+is_refused NotHeld = true
+is_refused OutOfTime = true
+is_refused NoMemory = false
+is_refused (Writer kind) = false
+is_refused (Follower why) = false

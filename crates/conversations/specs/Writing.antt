@@ -1,6 +1,7 @@
 -- What a station as a process writes: a line for each burst that is sent, and a word after them.
-use Rattle.std.specs.Prelude.{◌++◌, ◌∷◌, [], ◌&&◌, ℕ, Bool, true, false, cond, List, Option, Some, None, codes}
+use Rattle.std.specs.Prelude.{◌≡◌, ◌++◌, ◌∷◌, [], ◌&&◌, ℕ, Bool, true, false, cond, List, MatchResult, Option, Result, Some, None, codes}
 use Rattle.std.specs.Fmt.{decimal}
+use Rattle.std.specs.Io.KnownBytes.{Appends}
 use Rattle.hex.specs.Hex.{encode_upper}
 use Rattle.stations.specs.declared.carrier.Carrier.{Carrier}
 use Rattle.stations.specs.declared.carrier.Carrier.TheVariants.{V21, Training, Page}
@@ -17,6 +18,14 @@ use Rattle.conversations.specs.Hearing.{expected_first, expected_then}
 use Rattle.conversations.specs.Lines.{channel_name, kind_name, spaced}
 use Rattle.stations.specs.declared.listening.Listening.{Listening}
 use Rattle.stations.specs.declared.stopping.CallEnd.{CallEnd}
+
+-- a beginning of a text was written, and nothing else
+abbrev pub AppendsPart : Option (List ℕ) → Option (List ℕ) → List ℕ → Type 0
+AppendsPart before after text = (part : List ℕ) × (rest : List ℕ) × (text ≡ part ++ rest) × Appends before after part
+
+-- a text was written; or that failed, and a beginning of it was
+abbrev pub WritesText : {T E : Type 0} → Option (List ℕ) → Option (List ℕ) → List ℕ → Result T E → Type 0
+WritesText before after text result = MatchResult result (λ _. Appends before after text) (λ _. AppendsPart before after text)
 
 -- the carrier that a burst goes by
 abbrev pub channel_of : Carrier → Channel

@@ -238,10 +238,7 @@ fn write_first<'a>(
         return Err(LineRefused::NoLine);
     };
     let (word, after) = cut_word(rest);
-    let content = match read_content(alloc, word) {
-        Ok(content) => content,
-        Err(refused) => return Err(refused),
-    };
+    let content = read_content(alloc, word)?;
     if write_frame(&content, writer).is_err() {
         return Err(LineRefused::NoMemory);
     }
@@ -256,10 +253,7 @@ fn write_frames(alloc: Global, text: &[u8], writer: &mut BitWriter) -> Result<()
 {
     let mut rest = text;
     while !rest.is_empty() {
-        match write_first(alloc, rest, writer) {
-            Ok(after) => rest = after,
-            Err(refused) => return Err(refused),
-        }
+        rest = write_first(alloc, rest, writer)?;
     }
     Ok(())
 }
@@ -275,10 +269,7 @@ fn read_frames(alloc: Global, text: &[u8]) -> Result<Bits, LineRefused>
         (λ refused. refused ≡ NoLine → (count : ℕ) → (octets : List ℕ) → AreCoded text.now count octets → ⊥) }
 {
     let mut writer = BitWriter::new(alloc, Order::LsbFirst);
-    match write_frames(alloc, text, &mut writer) {
-        Ok(()) => {}
-        Err(refused) => return Err(refused),
-    }
+    write_frames(alloc, text, &mut writer)?;
     let count = writer.bits();
     if count > u128::from(u64::MAX) {
         return Err(LineRefused::NoMemory); // so many bits are in no memory

@@ -3,7 +3,7 @@
 ghost use Rattle.conversations.specs.Reading.{HasNoFeed, TakesNext, TakesPlain};
 ghost use Rattle.conversations.specs.declared.reading.ReadFault.TheVariants.{TooLong};
 ghost use Rattle.std.specs.Io.KnownBytes.{Consumes, IsAtEnd};
-ghost use Rattle.std.specs.Prelude.{◌≡◌, ◌≢◌, ◌≤◌, Err, IfOk, None, Ok, length, option_to_list, take};
+ghost use Rattle.std.specs.Prelude.{◌≡◌, ◌≢◌, ◌≤◌, [], Err, IfOk, None, Ok, OnErr, length, option_to_list, take};
 
 use crate::line::MOST_OCTETS;
 use std::alloc::AllocError;
@@ -39,6 +39,7 @@ impl From<AllocError> for ReadFault {
 fn next_octet<R: Read>(reader: &mut R) -> Result<Option<u8>, ReadFault>
     ensures taken { IfOk result (λ octet. Consumes (R.remaining reader.old) (R.remaining reader.new) (option_to_list octet)) }
     ensures end { result ≡ Ok None → IsAtEnd (R.remaining reader.new) }
+    ensures kept { OnErr result (Consumes (R.remaining reader.old) (R.remaining reader.new) []) }
     ensures fault { result ≢ Err TooLong }
 {
     let mut octet = [0];
@@ -72,9 +73,11 @@ fn plain_count(octets: &[u8], most: usize) -> usize
 }
 
 /// Takes what the reader has at hand of a line, up to an LF or as much as a line may have, and appends it. Takes nothing if the reader is
-/// interrupted.
+/// interrupted, or if it errs.
 fn take_plain<R: BufRead>(reader: &mut R, line: &mut Vec<u8>) -> Result<(), ReadFault>
     ensures taken { IfOk result (λ _. TakesPlain (R.remaining reader.old) (R.remaining reader.new) line.old.items line.new.items) }
+    ensures kept { OnErr result (Consumes (R.remaining reader.old) (R.remaining reader.new) []) }
+    ensures line { OnErr result (line.new.items ≡ line.old.items) }
     ensures fault { result ≢ Err TooLong }
 {
     let room = MOST_OCTETS.saturating_sub(line.len());
@@ -95,7 +98,7 @@ fn take_plain<R: BufRead>(reader: &mut R, line: &mut Vec<u8>) -> Result<(), Read
 
 /// Reads the next line, without its LF, in place of what `line` holds, and returns true if there was one. What follows the last LF is a
 /// line too, unless it is empty. Takes what the reader has at hand at once, and holds at most 400,000 octets. Errs with `TooLong`,
-/// `NoMemory` or `Failed`.
+/// `NoMemory` or `Failed`: `line` is then what was taken of the line, but for the octet after it, if one too many came.
 pub fn next_line<R: BufRead>(reader: &mut R, line: &mut Vec<u8>) -> Result<bool, ReadFault>
     ensures { TakesNext (R.remaining reader.old) (R.remaining reader.new) line.new.items result }
 {

@@ -1,13 +1,14 @@
 //! A station that talks: it takes a line of text, keeps what that brings, and writes the bursts of its turn and a word.
 
 ghost use Rattle.conversations.specs.Conversations.{ConversationFields, behaviour};
-ghost use Rattle.conversations.specs.Talking.{Answers, IfRefused, IsLate, IsNoAnswer, Withholds, WritesTurn, keeping};
+ghost use Rattle.conversations.specs.Talking.{Answers, GivesSome, IsNoAnswer, Withholds, WritesPart, WritesTurn, is_refused, keeping};
 ghost use Rattle.conversations.specs.declared.line.Said.{Said as SaidValue};
-ghost use Rattle.std.specs.Prelude.{◌≡◌, ℕ, Bool, IfErr, IfOk, List, OnOk, is_none};
+ghost use Rattle.std.specs.Prelude.{◌≡◌, ℕ, Bool, IfErr, IfOk, List, OnErr, OnOk, false, is_none, true};
+ghost use Rattle.terminals.specs.declared.sending.SentBurst.{SentBurst as SentValue};
 
 use crate::conversation::{Conversation, TakeFault};
 use crate::line::{LineRefused, Said, TimedLine, read_line};
-use crate::writing::{write_rest, write_sent};
+use crate::writing::{write_octets, write_rest, write_sent};
 use stations::Listening;
 use std::alloc::{AllocError, Global};
 use std::io;
@@ -111,7 +112,7 @@ pub struct Answered<E> {
 
 /// Writes the bursts that are left of the turn, in order, a line each, and then `done` if the call is over, else what the station says
 /// beside and `wait`; returns true for `done`. `at` is the time of the answered line, in milliseconds. Errs with `Writer`, `NoMemory` or
-/// `Follower`; a part of the answer may be written then.
+/// `Follower`; a beginning of the answer may be written then, and nothing else.
 pub fn write_turn<S: Stoppable, W: Write, F: Follower>(
     alloc: Global,
     conversation: &mut Conversation<S>,
@@ -121,7 +122,9 @@ pub fn write_turn<S: Stoppable, W: Write, F: Follower>(
 ) -> Result<bool, AnswerFault<F::Failed>>
     ensures ok { IfOk result (λ over.
         WritesTurn S S.sends S.lends S.shows conversation.old conversation.new (W.contents writer.old) (W.contents writer.new) over) }
-    ensures late { IfErr result IsLate }
+    ensures part { OnErr result
+        (WritesPart S S.sends S.lends S.shows conversation.old conversation.new (W.contents writer.old) (W.contents writer.new)) }
+    ensures late { IfErr result (λ fault. is_refused fault ≡ false) }
 {
     let frames = conversation.says().frames;
     for _burst in 0..MOST_BURSTS {
@@ -149,7 +152,9 @@ fn comes_late<S: Stoppable, F: Follower>(
 
 /// Gives the bursts that are left of the turn, if the answer comes too late, so that none of them is sent. Errs if memory is refused.
 fn withhold<S: Stoppable>(conversation: &mut Conversation<S>, late: bool) -> Result<(), AllocError>
-    ensures { OnOk result (Withholds S.sends S.lends conversation.old late conversation.new) }
+    ensures ok { OnOk result (Withholds S.sends S.lends conversation.old late conversation.new) }
+    ensures err { OnErr result
+        ((bursts : List SentValue) × GivesSome S.sends S.lends conversation.old bursts conversation.new) }
 {
     if !late {
         return Ok(());
@@ -166,7 +171,7 @@ fn withhold<S: Stoppable>(conversation: &mut Conversation<S>, late: bool) -> Res
 /// then writes what the keeper says, the bursts of the turn and a word. If something can't be kept, the answer is what the conversation says
 /// after that; if it comes too late, its bursts aren't sent. Errs with `NoLine`, with `NotHeld` if the keeper can't take the line, or with
 /// `OutOfTime` if the time can't follow: nothing has changed. Errs with `NoMemory`, `Writer` or `Follower`: something is written only if what
-/// the line brought was kept before.
+/// the line brought was kept before, and it is a beginning of the answer.
 pub fn answer<S: Stoppable, K: Keeper<S>, W: Write, F: Follower>(
     alloc: Global,
     line: &[u8],
@@ -180,10 +185,10 @@ pub fn answer<S: Stoppable, K: Keeper<S>, W: Write, F: Follower>(
         conversation.old conversation.new keeper.old keeper.new (W.contents writer.old) (W.contents writer.new) (is_none answer.unkept)
         answer.over) }
     ensures none { IfErr result (λ fault. IsNoAnswer (behaviour S.sends S.steps S.shows S.cut_off S.stop_says)
-        (keeping K.keeps K.takes K.tells) line.now conversation.old conversation.new keeper.old keeper.new (W.contents writer.old)
-        (W.contents writer.new) fault) }
-    ensures unchanged { IfErr result (λ fault. IfRefused fault
-        ((conversation.new ≡ conversation.old) × (keeper.new ≡ keeper.old) × (writer.new ≡ writer.old))) }
+        (keeping K.keeps K.takes K.tells) S.lends line.now conversation.old conversation.new keeper.old keeper.new
+        (W.contents writer.old) (W.contents writer.new) fault) }
+    ensures unchanged { IfErr result (λ fault. is_refused fault ≡ true →
+        (conversation.new ≡ conversation.old) × (keeper.new ≡ keeper.old) × (writer.new ≡ writer.old)) }
 {
     let timed = match read_line(alloc, line) {
         Ok(timed) => timed,
@@ -206,7 +211,7 @@ pub fn answer<S: Stoppable, K: Keeper<S>, W: Write, F: Follower>(
     }
     conversation.refuse();
     let unkept = keeper.keep(conversation, &timed.said);
-    writer.write_all(keeper.told())?;
+    write_octets(writer, keeper.told())?;
     let late = comes_late(conversation, timed.at, follower);
     withhold(conversation, late)?;
     let over = write_turn(alloc, conversation, timed.at, writer, follower)?;

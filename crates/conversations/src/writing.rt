@@ -1,19 +1,19 @@
 //! What a station as a process writes: the bursts that are sent, and a word after them.
 
 ghost use Rattle.conversations.specs.FrameLines.{contents_text};
-ghost use Rattle.conversations.specs.Writing.{burst_line, channel_of, frames_line, hear_line, hear_lines, kind_of, on_lines, rest_lines};
-ghost use Rattle.conversations.specs.Writing.{then_line, tx_line, wait_line};
+ghost use Rattle.conversations.specs.Writing.{WritesText, burst_line, channel_of, frames_line, hear_line, hear_lines, kind_of, on_lines};
+ghost use Rattle.conversations.specs.Writing.{rest_lines, then_line, tx_line, wait_line};
 ghost use Rattle.hex.specs.Hex.{encode_upper};
-ghost use Rattle.std.specs.Io.KnownBytes.{Appends};
-ghost use Rattle.std.specs.Prelude.{◌≡◌, ◌↔◌, IfOk, IsSome, IsTrue, OnOk};
+ghost use Rattle.std.specs.Prelude.{◌≡◌, ◌↔◌, ◌++◌, ◌∷◌, IfOk, IsSome, IsTrue, flat_map};
 
 use crate::carrier::{Channel, Kind};
 use crate::hearing::{Expected, expected_first, expected_then};
 use hdlc::Deframer;
+use itoa::Buffer;
 use stations::{Carrier, Listening};
 use std::alloc::Global;
 use std::io;
-use std::io::Write;
+use std::io::{ErrorKind, Write};
 use terminals::{SentBurst, Shown};
 
 /// How many octets are written in hex at a time.
@@ -63,53 +63,94 @@ impl Kind {
     }
 }
 
+/// Writes octets, as `Write::write_all` does. Errs if the writer fails; a beginning of them may be written then.
+pub(crate) fn write_octets<W: Write>(writer: &mut W, octets: &[u8]) -> io::Result<()>
+    ensures { WritesText (W.contents writer.old) (W.contents writer.new) octets.now result }
+{
+    let mut rest = octets;
+    for _turn in 0..u64::MAX {
+        if rest.is_empty() {
+            return Ok(());
+        }
+        match writer.write(rest) {
+            Ok(0) => return Err(io::Error::from(ErrorKind::WriteZero)),
+            Ok(count) => rest = &rest[count..],
+            Err(error) => {
+                if error.kind() != ErrorKind::Interrupted {
+                    return Err(error);
+                }
+            }
+        }
+    }
+    Err(io::Error::from(ErrorKind::TimedOut))
+}
+
+/// Writes words one after the other, as they are. Errs as `write_octets` does.
+fn write_words<W: Write>(writer: &mut W, words: &[&str]) -> io::Result<()>
+    ensures { WritesText (W.contents writer.old) (W.contents writer.new) (flat_map (λ word. word.now) words.now) result }
+{
+    for word in words {
+        write_octets(writer, word.as_bytes())?;
+    }
+    Ok(())
+}
+
 /// Writes octets in hexadecimal digits, in capitals.
 fn write_hex<W: Write>(alloc: Global, octets: &[u8], writer: &mut W) -> io::Result<()>
-    ensures { OnOk result (Appends (W.contents writer.old) (W.contents writer.new) (encode_upper octets.now)) }
+    ensures { WritesText (W.contents writer.old) (W.contents writer.new) (encode_upper octets.now) result }
 {
     let mut rest = octets;
     while !rest.is_empty() {
         let (piece, after) = rest.split_at(rest.len().min(PIECE));
         let digits = hex::encode_upper(alloc, piece)?;
-        writer.write_all(digits.as_bytes())?;
+        write_octets(writer, digits.as_bytes())?;
         rest = after;
     }
     Ok(())
 }
 
 /// Writes the line of a burst that is sent, `tx CARRIER KIND BITS HEX` and LF. Holds the digits of 1,024 octets at a time. Errs if the
-/// writer fails or memory is refused; a part of the line may be written then.
+/// writer fails or memory is refused; a beginning of the line may be written then.
 pub fn write_burst<W: Write>(alloc: Global, burst: &SentBurst, writer: &mut W) -> io::Result<()>
-    ensures { OnOk result (Appends (W.contents writer.old) (W.contents writer.new) (tx_line burst.now)) }
+    ensures { WritesText (W.contents writer.old) (W.contents writer.new) (tx_line burst.now) result }
 {
     let channel = Channel::of(burst.carrier).name();
     let kind = Kind::of(burst.carrier).name();
-    write!(writer, "tx {channel} {kind} {} ", burst.bits)?;
+    let mut digits = Buffer::new();
+    let bits = digits.format(burst.bits);
+    write_words(writer, &["tx ", channel, " ", kind, " ", bits, " "])?;
     write_hex(alloc, &burst.octets, writer)?;
-    writer.write_all(b"\n")
+    write_octets(writer, b"\n")
+}
+
+/// Writes a content after a space.
+fn write_content<W: Write>(alloc: Global, content: &[u8], writer: &mut W) -> io::Result<()>
+    ensures { WritesText (W.contents writer.old) (W.contents writer.new) (32 ∷ encode_upper content.now) result }
+{
+    write_octets(writer, b" ")?;
+    write_hex(alloc, content, writer)
 }
 
 /// Writes the contents that wait, each after a space.
 fn write_contents<W: Write>(alloc: Global, ear: &mut Deframer, writer: &mut W) -> io::Result<()>
-    ensures { OnOk result (Appends (W.contents writer.old) (W.contents writer.new) (contents_text ear.old.queue)) }
+    ensures { WritesText (W.contents writer.old) (W.contents writer.new) (contents_text ear.old.queue) result }
 {
     while let Some(content) = ear.next() {
-        writer.write_all(b" ")?;
-        write_hex(alloc, content, writer)?;
+        write_content(alloc, content, writer)?;
     }
     Ok(())
 }
 
 /// Writes the line of a burst by V.21 as the contents of its good frames, `tx v21 frames HEX HEX ..` and LF. Errs if the writer fails or
-/// memory is refused; a part of the line may be written then.
+/// memory is refused; a beginning of the line may be written then.
 fn write_frames<W: Write>(alloc: Global, burst: &SentBurst, writer: &mut W) -> io::Result<()>
-    ensures { OnOk result (Appends (W.contents writer.old) (W.contents writer.new) (frames_line burst.now)) }
+    ensures { WritesText (W.contents writer.old) (W.contents writer.new) (frames_line burst.now) result }
 {
     let mut ear = Deframer::new(alloc);
     ear.feed(&burst.octets)?;
-    writer.write_all(b"tx v21 frames")?;
+    write_octets(writer, b"tx v21 frames")?;
     write_contents(alloc, &mut ear, writer)?;
-    writer.write_all(b"\n")
+    write_octets(writer, b"\n")
 }
 
 /// Writes the line of a burst that is sent, as contents if `frames` says so and it goes by V.21. Errs as `write_burst` does.
@@ -119,7 +160,7 @@ pub(crate) fn write_sent<W: Write>(
     burst: &SentBurst,
     writer: &mut W,
 ) -> io::Result<()>
-    ensures { OnOk result (Appends (W.contents writer.old) (W.contents writer.new) (burst_line frames burst.now)) }
+    ensures { WritesText (W.contents writer.old) (W.contents writer.new) (burst_line frames burst.now) result }
 {
     match burst.carrier {
         Carrier::V21 if frames => write_frames(alloc, burst, writer),
@@ -129,16 +170,16 @@ pub(crate) fn write_sent<W: Write>(
 
 /// Writes a line of what a station expects. Errs if the writer fails.
 fn write_hear<W: Write>(writer: &mut W, expected: Expected) -> io::Result<()>
-    ensures { OnOk result (Appends (W.contents writer.old) (W.contents writer.new) (hear_line expected)) }
+    ensures { WritesText (W.contents writer.old) (W.contents writer.new) (hear_line expected) result }
 {
     let channel = expected.channel.name();
     let kind = expected.kind.name();
-    write!(writer, "hear {channel} {kind}\n")
+    write_words(writer, &["hear ", channel, " ", kind, "\n"])
 }
 
 /// Writes the line of what may be expected too, if there is anything. Errs if the writer fails.
 fn write_then<W: Write>(writer: &mut W, expected: Option<Expected>) -> io::Result<()>
-    ensures { OnOk result (Appends (W.contents writer.old) (W.contents writer.new) (then_line expected)) }
+    ensures { WritesText (W.contents writer.old) (W.contents writer.new) (then_line expected) result }
 {
     match expected {
         Some(expected) => write_hear(writer, expected),
@@ -148,7 +189,7 @@ fn write_then<W: Write>(writer: &mut W, expected: Option<Expected>) -> io::Resul
 
 /// Writes what a station expects, a line for each thing, what comes first in front; nothing if it isn't wanted. Errs if the writer fails.
 fn write_hears<W: Write>(writer: &mut W, wanted: bool, listens: Listening) -> io::Result<()>
-    ensures { OnOk result (Appends (W.contents writer.old) (W.contents writer.new) (hear_lines wanted listens)) }
+    ensures { WritesText (W.contents writer.old) (W.contents writer.new) (hear_lines wanted listens) result }
 {
     if !wanted {
         return Ok(());
@@ -159,11 +200,11 @@ fn write_hears<W: Write>(writer: &mut W, wanted: bool, listens: Listening) -> io
 
 /// Writes `wait`, with a time in milliseconds if one is named. Errs if the writer fails.
 fn write_wait<W: Write>(writer: &mut W, at: Option<u128>) -> io::Result<()>
-    ensures { OnOk result (Appends (W.contents writer.old) (W.contents writer.new) (wait_line at)) }
+    ensures { WritesText (W.contents writer.old) (W.contents writer.new) (wait_line at) result }
 {
     match at {
-        Some(at) => write!(writer, "wait {at}\n"),
-        None => writer.write_all(b"wait\n"),
+        Some(at) => write_words(writer, &["wait ", Buffer::new().format(at), "\n"]),
+        None => write_octets(writer, b"wait\n"),
     }
 }
 
@@ -176,7 +217,7 @@ fn write_on<W: Write>(
     listens: Listening,
     at: Option<u128>,
 ) -> io::Result<()>
-    ensures { OnOk result (Appends (W.contents writer.old) (W.contents writer.new) (on_lines says begun listens at)) }
+    ensures { WritesText (W.contents writer.old) (W.contents writer.new) (on_lines says begun listens at) result }
 {
     write_hears(writer, says.hears && begun, listens)?;
     write_wait(writer, if says.waits { at } else { None })
@@ -191,13 +232,13 @@ pub(crate) fn write_rest<W: Write>(
     shown: Shown,
     at: Option<u128>,
 ) -> io::Result<bool>
-    ensures writes { OnOk result (Appends (W.contents writer.old) (W.contents writer.new)
-        (rest_lines shown.end (on_lines says begun shown.listens at))) }
+    ensures writes { WritesText (W.contents writer.old) (W.contents writer.new)
+        (rest_lines shown.end (on_lines says begun shown.listens at)) result }
     ensures over { IfOk result (λ over. IsTrue over ↔ IsSome shown.end) }
 {
     match shown.end {
         Some(_) => {
-            writer.write_all(b"done\n")?;
+            write_octets(writer, b"done\n")?;
             writer.flush()?;
             Ok(true)
         }

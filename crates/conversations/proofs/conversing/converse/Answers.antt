@@ -1,10 +1,11 @@
 -- What the check asks of `converse`.
 use Rattle.std.proofs.Common.{◌≡◌, true, false, inl, inr, refl, rules}
-use Rattle.std.specs.Prelude.{Ok, is_none}
-use Rattle.conversations.proofs.TalkedLines.{one_more, stopped, told_so}
+use Rattle.std.specs.Prelude.{Ok, Err, is_none}
+use Rattle.conversations.specs.declared.reading.ReadFault.TheVariants.{NoMemory}
+use Rattle.conversations.proofs.TalkedLines.{one_more, stopped, told_so, unread, unread_so}
 use Rattle.conversations.proofs.conversing.converse.Goals as goal
 use Rattle.conversations.specs.Conversing.{talk_state}
-use Rattle.conversations.specs.Reading.{TakesLine, TakesNext, TakesTooMany}
+use Rattle.conversations.specs.Reading.{TakesLine, TakesNext, TakesPart, TakesTooMany}
 
 pub returns-in-Ok-clause-ends : goal.returns-in-Ok-clause-ends
 returns-in-Ok-clause-ends g c =
@@ -34,14 +35,12 @@ returns-in-Err-TooLong-clause-stops g c =
     }
 
 pub returns-in-Err-Failed-clause-stops : goal.returns-in-Err-Failed-clause-stops
-returns-in-Err-Failed-clause-stops g c = record {
-  lines = c.loop-number.invariant.lines;
-  last =
-      talk_state (g.R.Read.remaining c.loop-number.reader) c.loop-number.conversation c.loop-number.keeper
-      (g.W.Write.contents c.loop-number.writer);
-  answered = c.loop-number.invariant.answered;
-  rest = refl;
-}
+returns-in-Err-Failed-clause-stops g c =
+    let part : TakesPart (g.R.Read.remaining c.loop-number.reader) (g.R.Read.remaining c.next_line.new.reader)
+    c.next_line.new.line.items = search rules in
+    unread _ _ (g.R.Read.remaining c.loop-number.reader) (g.R.Read.remaining c.next_line.new.reader)
+    (g.W.Write.contents c.loop-number.writer) c.loop-number.conversation c.loop-number.keeper c.loop-number.number
+    c.next_line.new.line.items c.loop-number.invariant part
 
 pub returns-in-Err-answer-clause-stops : goal.returns-in-Err-answer-clause-stops
 returns-in-Err-answer-clause-stops g c =
@@ -110,11 +109,9 @@ returns-in-Err-clause-stops g c = inr (inl (record {
 }))
 
 pub returns-in-Err-NoMemory-clause-stops : goal.returns-in-Err-NoMemory-clause-stops
-returns-in-Err-NoMemory-clause-stops g c = inl (record {
-  lines = c.loop-number.invariant.lines;
-  last =
-      talk_state (g.R.Read.remaining c.loop-number.reader) c.loop-number.conversation c.loop-number.keeper
-      (g.W.Write.contents c.loop-number.writer);
-  answered = c.loop-number.invariant.answered;
-  rest = refl;
-})
+returns-in-Err-NoMemory-clause-stops g c =
+    let part : TakesNext (g.R.Read.remaining c.loop-number.reader) (g.R.Read.remaining c.next_line.new.reader)
+    c.next_line.new.line.items (Err NoMemory) = search rules in
+    inl (unread_so _ _ (g.R.Read.remaining c.loop-number.reader) (g.R.Read.remaining c.next_line.new.reader)
+    (g.W.Write.contents c.loop-number.writer) c.loop-number.conversation c.loop-number.keeper c.loop-number.number
+    c.next_line.new.line.items c.loop-number.invariant part)

@@ -1,11 +1,12 @@
 -- What the check asks of `answer`.
-use Rattle.std.proofs.Common.{inr, rules, subst}
+use Rattle.std.proofs.Common.{[], append-nil, inl, inr, refl, rules, subst, sym}
 use Rattle.std.proofs.lemmas.Result.{err_from_is_err_and}
 use Rattle.std.specs.Prelude.{is_none}
 use Rattle.conversations.proofs.TalkedLines.{broken_late}
 use Rattle.conversations.proofs.talking.answer.Goals as goal
 use Rattle.conversations.specs.Conversations.{behaviour}
 use Rattle.conversations.specs.Talking.{keeping}
+use Rattle.conversations.specs.Writing.{AppendsPart}
 
 pub returns-clause-ok : goal.returns-clause-ok
 returns-clause-ok g c = record {
@@ -14,7 +15,7 @@ returns-clause-ok g c = record {
   ready = c.keep-unkept.new.conversation;
   late = c.comes_late-late.result;
   left = c.withhold.new.conversation;
-  told = g.W.Write.contents c.write_all.new.self;
+  told = g.W.Write.contents c.write_octets.new.writer;
   says = search rules;
   can_come = search rules;
   takes = search rules;
@@ -26,9 +27,9 @@ returns-clause-ok g c = record {
   writes = c.in_ok-over.ensures.ok;
 }
 
-pub returns-in_err-write_all-clause-none : goal.returns-in_err-write_all-clause-none
-returns-in_err-write_all-clause-none g c =
-    let p = err_from_is_err_and c.from_residual-in_err-write_all.result c.from_residual-in_err-write_all.ensures.1 in
+pub returns-in_err-write_octets-clause-none : goal.returns-in_err-write_octets-clause-none
+returns-in_err-write_octets-clause-none g c =
+    let p = err_from_is_err_and c.from_residual-in_err-write_octets.result c.from_residual-in_err-write_octets.ensures.1 in
     rw (p.1, p.2) (inr (record {
       timed = c.in-Ok.timed;
       heard = c.take.new.self;
@@ -40,6 +41,7 @@ returns-in_err-write_all-clause-none g c =
       keeps_so =
           subst (λ v. g.K.Keeper.keeps c.args.keeper.now v c.in-Ok.timed.said c.keep-unkept.new.self c.keep-unkept.new.conversation (is_none c.keep-unkept.result))
           c.refuse.ensures c.keep-unkept.ensures;
+      writes = inl (subst (AppendsPart _ _) c.told.ensures c.in_err-write_octets.ensures, ([], refl));
     }))
 
 pub returns-in_err-withhold-clause-none : goal.returns-in_err-withhold-clause-none
@@ -56,6 +58,7 @@ returns-in_err-withhold-clause-none g c =
       keeps_so =
           subst (λ v. g.K.Keeper.keeps c.args.keeper.now v c.in-Ok.timed.said c.keep-unkept.new.self c.keep-unkept.new.conversation (is_none c.keep-unkept.result))
           c.refuse.ensures c.keep-unkept.ensures;
+      writes = inl ((_, [], sym (append-nil _), search rules), c.in_err-withhold.ensures.err);
     }))
 
 pub returns-in_err-over-clause-none : goal.returns-in_err-over-clause-none
@@ -63,7 +66,7 @@ returns-in_err-over-clause-none g c =
     let p = err_from_is_err_and c.from_residual-in_err-over.result c.from_residual-in_err-over.ensures.1 in
     rw (p.1, p.2) (broken_late
     (behaviour g.S.Station.sends g.S.Station.steps g.S.Stoppable.shows g.S.Stoppable.cut_off g.S.Stoppable.stop_says)
-    (keeping g.K.Keeper.keeps g.K.Keeper.takes g.K.Keeper.tells) c.args.line.now c.args.conversation.now _ c.args.keeper.now
+    (keeping g.K.Keeper.keeps g.K.Keeper.takes g.K.Keeper.tells) g.S.Station.lends c.args.line.now c.args.conversation.now _ c.args.keeper.now
     c.keep-unkept.new.self _ _ c.in_err-over.field-0.0 c.in_err-over.ensures.late (record {
       timed = c.in-Ok.timed;
       heard = c.take.new.self;
@@ -75,4 +78,12 @@ returns-in_err-over-clause-none g c =
       keeps_so =
           subst (λ v. g.K.Keeper.keeps c.args.keeper.now v c.in-Ok.timed.said c.keep-unkept.new.self c.keep-unkept.new.conversation (is_none c.keep-unkept.result))
           c.refuse.ensures c.keep-unkept.ensures;
+      writes = inr (record {
+        late = c.comes_late-late.result;
+        left = c.withhold.new.conversation;
+        told = g.W.Write.contents c.write_octets.new.writer;
+        tells = search rules;
+        withholds = search rules;
+        writes = c.in_err-over.ensures.part;
+      });
     }))
