@@ -4,10 +4,12 @@
     .ci/prove.py
 
 `rt ci` over the whole repository gives each proof one processor while others are ready, and edits the rest, so the longest chain of
-crates takes as long as one processor needs for it. Here three runs of `rt ci` go side by side: one has the longest chain, crate by crate,
-one the crates beside it, and one, at a low priority, the edits and tests of what is proved, in which the others help once they are done.
-Each is over a copy with the crates that are wanted, and keeps what passes: the gate's own `rt ci`, over the whole checkout, takes it from
-there. Prints the minutes and processor minutes of each. Ends with status 1, and with what `rt ci` said, if something fails."""
+crates takes as long as one processor needs for it. Here runs of `rt ci` go side by side: one has the longest chain, crate by crate, with
+half of the processors; as many runs as that is have the crates beside it; and as many again, at a low priority, have the edits and tests of
+what is proved, in which the others help once they are done. All but the chain's give a proof one processor: more end it sooner, and cost up
+to twice as much in all. Each run is over a copy with the crates that are wanted, and keeps what passes: the gate's own `rt ci`, over the
+whole checkout, takes it from there. Prints the minutes and processor minutes of each. Ends with status 1, and with what `rt ci` said, if
+something fails."""
 import os
 import re
 import shutil
@@ -21,6 +23,7 @@ from pathlib import Path
 TOP = Path(__file__).resolve().parent.parent
 # Nothing stands on these, and they are proved beside the edits.
 OF_TESTS = re.compile(r".*_tests|uses|stream_tool")
+PROCESSORS = sorted(os.sched_getaffinity(0))
 
 
 def read_crates():
@@ -42,15 +45,21 @@ def size_of(name):
     return sum(file.stat().st_size for part in ("src", "specs", "proofs") for file in (TOP / "crates" / name / part).rglob("*.*"))
 
 
+def texts_above(crates):
+    """How much text each crate has with the longest chain of crates that stand on it."""
+    found = {}
+    for name in reversed(crates):
+        above = [found[other] for other, (_line, deps) in crates.items() if name in deps]
+        found[name] = size_of(name) + max(above, default=0)
+    return found
+
+
 def longest_chain(crates):
     """The crates of the chain with the most text, lowest first."""
-    sizes, before = {}, {}
-    for name, (_line, deps) in crates.items():
-        before[name] = max(deps, key=lambda dep: sizes[dep], default=None)
-        sizes[name] = size_of(name) + sizes.get(before[name], 0)
-    chain = [max(sizes, key=sizes.get)]
-    while before[chain[0]]:
-        chain.insert(0, before[chain[0]])
+    texts, chain, left = texts_above(crates), [], list(crates)
+    while left:
+        chain.append(max(left, key=texts.get))
+        left = [name for name, (_line, deps) in crates.items() if chain[-1] in deps]
     return chain
 
 
@@ -63,6 +72,17 @@ def copy_crates(crates, name, has_edits, to):
     (to / "crates.txt").write_text("".join(line + "\n" for other, (line, _deps) in crates.items() if other in wanted))
     shutil.copy(TOP / "HANDLES", to / "HANDLES")
     (to / ".git").mkdir()
+
+
+def with_half(command):
+    """The command with half of the processors, all of which `rt ci` gives to a proof if nothing else waits."""
+    half = ",".join(map(str, PROCESSORS[: len(PROCESSORS) // 2]))
+    return ["taskset", "-c", half, *command] if len(PROCESSORS) > 3 else with_one(command)
+
+
+def with_one(command):
+    """The command with one processor for a proof, and one check at a time."""
+    return ["env", "RT_JOBS=1", *command]
 
 
 class Run:
@@ -79,18 +99,12 @@ class Run:
             self.proved.add(name)
             self.changed.notify_all()
 
-    def wait_for(self, names):
-        """Waits until these crates are proved, and returns whether none has failed."""
-        with self.changed:
-            self.changed.wait_for(lambda: self.failed or names <= self.proved)
-            return not self.failed
-
-    def prove(self, name, has_edits=False, niceness=0):
+    def prove(self, name, has_edits=False, niceness=0, share=with_one):
         """Proves a crate and those below it that aren't kept, or tries its edits and tests, and says how long that took."""
         begun = time.monotonic()
         with tempfile.TemporaryDirectory(prefix="prove-") as room, tempfile.TemporaryFile("w+") as said:
             copy_crates(self.crates, name, has_edits, Path(room))
-            command = ["nice", "-n", str(niceness), "rt", "ci"]
+            command = share(["nice", "-n", str(niceness), "rt", "ci"])
             run = subprocess.Popen(command, cwd=room, stdin=subprocess.DEVNULL, stdout=said, stderr=subprocess.STDOUT)
             _pid, status, used = os.wait4(run.pid, 0)
             run.returncode = os.waitstatus_to_exitcode(status)
@@ -104,22 +118,25 @@ class Run:
         print(f"prove: {name}: {does} {ends}, {minutes:.1f} minutes, {cpu:.1f} of a processor", flush=True)
         return not run.returncode
 
-    def prove_all(self, names):
-        for name in names:
-            if self.wait_for(set()):
-                self.ended(name, self.prove(name))
+    def prove_all(self, names, share=with_one):
+        """Proves these crates, in their order, which other lanes may take from too, and then tries edits and tests."""
+        while name := self.next_of(names, lambda name: below(self.crates, name) - {name}):
+            self.ended(name, self.prove(name, share=share))
         self.try_all()
 
-    def next_try(self):
-        """The next crate whose edits and tests are to be tried, which is left no more; None if there is none."""
+    def next_of(self, names, needs):
+        """The first of these crates for which all that it needs is proved, which is left no more; None if none is left, or one has failed."""
+        is_ready = lambda name: needs(name) & self.of_proof <= self.proved
         with self.changed:
-            return self.to_try.pop(0) if self.to_try else None
+            self.changed.wait_for(lambda: self.failed or not names or any(map(is_ready, names)))
+            found = None if self.failed else next(filter(is_ready, names), None)
+            if found:
+                names.remove(found)
+            return found
 
     def try_all(self):
         """Tries the edits and the tests of crates once they are proved, with what the proofs leave of the processors."""
-        while name := self.next_try():
-            if not self.wait_for(below(self.crates, name) & self.of_proof):
-                return
+        while name := self.next_of(self.to_try, lambda name: below(self.crates, name)):
             if not self.prove(name, True, 10):
                 self.ended(name, False)
 
@@ -128,18 +145,16 @@ def main():
     crates = read_crates()
     run = Run(crates)
     of_tests = [name for name in crates if name not in run.of_proof]
-    chain = longest_chain({name: told for name, told in crates.items() if name in run.of_proof})
-    # what the chain's last crate stands on comes first
-    needed = below(crates, chain[-1])
-    beside = sorted((name for name in crates if name in run.of_proof and name not in chain), key=lambda name: name not in needed)
+    proved = {name: told for name, told in crates.items() if name in run.of_proof}
+    chain, texts = longest_chain(proved), texts_above(proved)
+    beside = sorted((name for name in proved if name not in chain), key=texts.get, reverse=True)
     print(f"prove: the longest chain is {' '.join(chain)}", flush=True)
     with_edits = [name for name in crates if any((TOP / "crates" / name / "must-fail").glob("*.edit"))]
     run.to_try = with_edits + of_tests
-    lanes = [
-        threading.Thread(target=run.prove_all, args=(chain,)),
-        threading.Thread(target=run.prove_all, args=(beside,)),
-        threading.Thread(target=run.try_all),
-    ]
+    others = max(1, len(PROCESSORS) // 2)
+    lanes = [threading.Thread(target=run.prove_all, args=(chain, with_half))]
+    lanes += [threading.Thread(target=run.prove_all, args=(beside,)) for _ in range(others)]
+    lanes += [threading.Thread(target=run.try_all) for _ in range(others)]
     for lane in lanes:
         lane.start()
     for lane in lanes:
