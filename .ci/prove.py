@@ -74,10 +74,9 @@ def copy_crates(crates, name, has_edits, to):
     (to / ".git").mkdir()
 
 
-def with_half(command):
-    """The command with half of the processors, all of which `rt ci` gives to a proof if nothing else waits."""
-    half = ",".join(map(str, PROCESSORS[: len(PROCESSORS) // 2]))
-    return ["taskset", "-c", half, *command] if len(PROCESSORS) > 3 else with_one(command)
+def as_it_is(command):
+    """The command as it is: with four processors or more `rt ci` gives half of them to a crate's proof if nothing else waits."""
+    return command if len(PROCESSORS) > 3 else with_one(command)
 
 
 def with_one(command):
@@ -152,7 +151,7 @@ def main():
     with_edits = [name for name in crates if any((TOP / "crates" / name / "must-fail").glob("*.edit"))]
     run.to_try = with_edits + of_tests
     others = max(1, len(PROCESSORS) // 2)
-    lanes = [threading.Thread(target=run.prove_all, args=(chain, with_half))]
+    lanes = [threading.Thread(target=run.prove_all, args=(chain, as_it_is))]
     lanes += [threading.Thread(target=run.prove_all, args=(beside,)) for _ in range(others)]
     lanes += [threading.Thread(target=run.try_all) for _ in range(others)]
     for lane in lanes:
