@@ -3,12 +3,15 @@
 use Rattle.std.specs.Prelude.{ℕ, ◌≡◌, [], ◌∷◌, Bool, true, false, cond, List, Option, Some, None, Result, Ok, Err, map, drop, option_map}
 use Rattle.std.specs.List.{count_by, filter_map}
 use Rattle.std.specs.Option.{is_none}
+use Rattle.hdlc.specs.Gaps.{good}
 use Rattle.line_sim.specs.Entries.{signal_fields, signal_kind}
 use Rattle.line_sim.specs.declared.event.Entry.{Entry}
 use Rattle.line_sim.specs.declared.event.Event.{Event}
 use Rattle.line_sim.specs.declared.event.Event.TheVariants.{DeliverToAnswerer, DeliverToCaller}
 use Rattle.line_sim.specs.declared.event.Kind.{Kind}
 use Rattle.line_sim.specs.declared.event.Kind.TheVariants.{Dis, Dcs, Cfr, Ftt, Pps, Mcf, Ppr, Rnr, Rr}
+use Rattle.raster.specs.Packed.{bits_of}
+use Rattle.raster.specs.declared.packed.Order.{Order}
 use Rattle.signals.specs.Reading.{read_content}
 use Rattle.signals.specs.Signals.{PlainSignal}
 use Rattle.signals.specs.declared.fault.SignalFault.{SignalFault}
@@ -19,6 +22,7 @@ use Rattle.call_pictures.specs.DrawnFields.{drawn_entry}
 use Rattle.call_pictures.specs.declared.captured_call.Before.{Before}
 use Rattle.call_pictures.specs.declared.captured_call.Before.TheVariants.{Nothing, Command, Answer}
 use Rattle.call_pictures.specs.declared.captured_call.CapturedFrame.{CapturedFrame}
+use Rattle.call_pictures.specs.declared.captured_call.CapturedFrames.{CapturedFrames}
 use Rattle.call_pictures.specs.declared.captured_call.LineFrame.{LineFrame}
 
 -- ---- the frames of a capture
@@ -39,6 +43,11 @@ frames_of contents = filter_map content_frame contents
 -- how many good frames there are beside those: their signal isn't known or can't be read
 abbrev pub others_of : List (List ℕ) → ℕ
 others_of contents = count_by (λ content. is_none (content_frame content)) contents
+
+-- these are the frames of a capture with the bits in this order
+abbrev pub AreFramesOf : Order → List ℕ → CapturedFrames → Type 0
+AreFramesOf order octets frames = (frames.known.items ≡ frames_of (good (bits_of order octets)))
+    × (frames.others ≡ others_of (good (bits_of order octets)))
 
 -- ---- the order
 

@@ -1,11 +1,10 @@
 //! The picture of a call of which both directions were captured: its frames, in the order in which they are drawn.
 
-ghost use Rattle.call_pictures.specs.CapturedCalls.{IsDrawnOf, before_after, content_frame, entry_of, frames_of, is_answer, left_after};
-ghost use Rattle.call_pictures.specs.CapturedCalls.{next_frame, others_of};
+ghost use Rattle.call_pictures.specs.CapturedCalls.{AreFramesOf, IsDrawnOf, before_after, content_frame, entry_of, frames_of};
+ghost use Rattle.call_pictures.specs.CapturedCalls.{is_answer, left_after, next_frame, others_of};
+ghost use Rattle.captures.specs.Contents.{ReadsAll};
 ghost use Rattle.faults.specs.Faults.{IsOutside};
-ghost use Rattle.hdlc.specs.Gaps.{good};
-ghost use Rattle.raster.specs.Packed.{bits_of};
-ghost use Rattle.std.specs.Prelude.{◌≡◌, ◌+◌, ◌++◌, ◌∷◌, [], IfErr, IfOk, IfSome, OnOk, None, Some};
+ghost use Rattle.std.specs.Prelude.{◌≡◌, ◌+◌, ◌++◌, ◌∷◌, [], IfErr, IfOk, OnOk, None, Some};
 
 use crate::ladder::Ladder;
 use calls::after;
@@ -72,10 +71,8 @@ pub fn captured_frames<R: Read>(
     reader: &mut R,
     order: Order,
 ) -> Result<CapturedFrames, ToolFault>
-    ensures known { IfOk result (λ frames. IfSome (R.remaining reader.old) (λ octets.
-        frames.known.items ≡ frames_of (good (bits_of order octets)))) }
-    ensures others { IfOk result (λ frames. IfSome (R.remaining reader.old) (λ octets.
-        frames.others ≡ others_of (good (bits_of order octets)))) }
+    ensures found { IfOk result (λ frames. ReadsAll (R.remaining reader.old) (R.remaining reader.new) (λ octets.
+        AreFramesOf order octets frames)) }
     ensures fault { IfErr result IsOutside }
 {
     let mut contents = ContentReader::new(alloc, order);

@@ -1,5 +1,5 @@
 -- The lines of frames while the contents of a line come.
-use Rattle.std.proofs.Common.{◌≡◌, ◌+◌, ◌-◌, ◌^◌, ℕ, Bool, List, [], ◌∷◌, ◌++◌, Option, length, min}
+use Rattle.std.proofs.Common.{◌≡◌, ◌+◌, ◌-◌, ◌^◌, ℕ, Bool, List, [], ◌∷◌, Option, length, min}
 use Rattle.std.proofs.Common.{ap, sym, ◌∙◌, subst, arith, refl}
 use Rattle.std.specs.Prelude.{◌<◌, ◌↔◌, IsTrue}
 use Rattle.std.proofs.KnownBytes.{Appends-nil, Appends-trans}

@@ -1,5 +1,5 @@
 -- The numbers that are marked in a map, as the items of an array; and that no record has a float.
-use Rattle.std.proofs.Common.{◌≡◌, ◌+◌, ◌++◌, ◌∷◌, [], ℕ, Bool, true, false, List, add-one, ap, ◌∙◌, sym, subst, cond, map, refl}
+use Rattle.std.proofs.Common.{◌≡◌, ◌+◌, ◌++◌, ◌∷◌, [], ℕ, Bool, true, false, List, add-one, ap, ◌∙◌, sym, cond, map, refl}
 use Rattle.std.specs.Prelude.{◌||◌, Option, Result, Ok, Err}
 use Rattle.std.proofs.lemmas.List.{map-append}
 use Rattle.serde_json.specs.Data.{Data}

@@ -1,5 +1,6 @@
 -- The good contents of a line, one after the other, and what of them a reader of the line has given.
-use Rattle.std.specs.Prelude.{ℕ, ◌≡◌, ◌-◌, ◌^◌, ◌++◌, ◌∷◌, [], Bool, true, false, List, Option, Some, None, drop, length, min}
+use Rattle.std.specs.Prelude.{ℕ, ◌≡◌, ◌-◌, ◌^◌, ◌++◌, ◌∷◌, [], Bool, true, false, List, Option, drop, length, min}
+use Rattle.std.specs.Io.KnownBytes.{Consumes, IsAtEnd}
 use Rattle.hdlc.specs.DeframerState.{DeframerState, IsAfter}
 use Rattle.hdlc.specs.Gaps.{good}
 use Rattle.raster.specs.Packed.{bits_of}
@@ -21,12 +22,17 @@ pub record HasRead (reader : ContentReading) (line left : List ℕ) (coming : Li
   pub coming_is : coming ≡ drop given (good (bits_of reader.order line))
   pub octets_are : reader.octets ≡ min (2 ^ 64 - 1) (length read)
 
--- the same, by the octets that the reader below has left, where those are known
-abbrev pub StandsIn : ContentReading → Option (List ℕ) → List ℕ → List (List ℕ) → Type 0
-StandsIn reader (Some left) line coming = HasRead reader line left coming
-StandsIn reader None line coming = ⊥
+-- Octets are read of those that the reader below has left, where these are known; and then, whatever is left of the line after them, this
+-- holds of the line, of what is left of it, and of the good contents that weren't given.
+abbrev pub ReadsPiece : ContentReading → Option (List ℕ) → Option (List ℕ) → (List ℕ → List ℕ → List (List ℕ) → Type 0) → Type 0
+ReadsPiece reader before after Holds = (piece : List ℕ) × Consumes before after piece
+    × ((line left : List ℕ) (coming : List (List ℕ)) → HasRead reader line (piece ++ left) coming → Holds line left coming)
 
--- The next content of a line is given, if there is one. If there is none, all of the line was read.
-abbrev pub GivesNext : Bool → ContentReading → Option (List ℕ) → List ℕ → List (List ℕ) → Type 0
-GivesNext true reader left line coming = (rest : List (List ℕ)) × (coming ≡ reader.content ∷ rest) × StandsIn reader left line rest
-GivesNext false reader left line coming = (coming ≡ []) × HasRead reader line [] []
+-- The next content of a line is given, if there is one. If there is none, and nothing is left, all of the line was read.
+abbrev pub GivesNext : Bool → ContentReading → List ℕ → List ℕ → List (List ℕ) → Type 0
+GivesNext true reader line left coming = (rest : List (List ℕ)) × (coming ≡ reader.content ∷ rest) × HasRead reader line left rest
+GivesNext false reader line left coming = left ≡ [] → (coming ≡ []) × HasRead reader line [] []
+
+-- all octets that a reader had left were read, and are a line of which this holds
+abbrev pub ReadsAll : Option (List ℕ) → Option (List ℕ) → (List ℕ → Type 0) → Type 0
+ReadsAll before after Holds = (line : List ℕ) × Consumes before after line × IsAtEnd after × Holds line

@@ -1,7 +1,8 @@
 -- What the command that lists frames writes of bits.
 use Rattle.std.specs.Prelude.{ℕ, ◌+◌, ◌-◌, ◌^◌, ◌++◌, ◌∷◌, [], Bool, List, Option, Some, None, codes, if◌then◌else◌, length, min}
-use Rattle.std.specs.Prelude.{◌≡◌, ◌<◌, cond, false, nat_lt, take}
+use Rattle.std.specs.Prelude.{◌≡◌, ◌<◌, ◌↔◌, IsTrue, nat_lt, take}
 use Rattle.std.specs.Fmt.{decimal}
+use Rattle.std.specs.Io.KnownBytes.{Appends}
 use Rattle.hex.specs.Hex.{encode_lower}
 use Rattle.hdlc.specs.Gaps.{count_of, good}
 use Rattle.hdlc.specs.declared.counts.Class.{Class}
@@ -85,3 +86,8 @@ plain_list most = record { most = most; order = LsbFirst; form = Plain }
 -- more than 64 octets have no good frame in this bit order, so the other one is worth a try
 abbrev pub IsOtherOrderWorth : Order → List ℕ → Type 0
 IsOtherOrderWorth order octets = (64 < length octets) × (length (good (bits_of order octets)) ≡ 0)
+
+-- the frames in octets were listed, and it is told whether the other order is worth a try
+abbrev pub ListsFrames : ListOptions → List ℕ → Option (List ℕ) → Option (List ℕ) → Bool → Type 0
+ListsFrames how octets before after worth =
+    Appends before after (listing how (bits_of how.order octets)) × (IsTrue worth ↔ IsOtherOrderWorth how.order octets)

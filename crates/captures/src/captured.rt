@@ -4,6 +4,7 @@ ghost use Rattle.captures.specs.Captured.{Takes, after_dcs, after_lack, after_pa
 ghost use Rattle.captures.specs.Captured.{gathers, gives_up, hears, hears_block, hears_fcd, hears_pps, hears_read, is_taken, is_waiting};
 ghost use Rattle.captures.specs.Captured.{judges, judges_by, lacking, later_one, left_open, no_dcs, overlaid, page_in, pages_before};
 ghost use Rattle.captures.specs.Captured.{refuses, takes_block, turns_from, turns_page, turns_to, with_block};
+ghost use Rattle.captures.specs.Contents.{ReadsAll};
 ghost use Rattle.faults.specs.Faults.{IsOutside};
 ghost use Rattle.captures.specs.Fronts.{AppendsFront, IsFrontAt, IsFrontBefore, IsFrontOfSignal, IsLostFront, IsOpenFront, goes_on};
 ghost use Rattle.captures.specs.Fronts.{open_frames};
@@ -13,7 +14,7 @@ ghost use Rattle.raster.specs.Packed.{bits_of};
 ghost use Rattle.raster.specs.declared.packed.Order.TheVariants.{LsbFirst};
 ghost use Rattle.signals.specs.Reading.{read_content};
 ghost use Rattle.signals.specs.Signals.{plain};
-ghost use Rattle.std.specs.Prelude.{◌≡◌, ◌+◌, ◌++◌, ◌∷◌, [], ℕ, IfErr, IfOk, IfSome};
+ghost use Rattle.std.specs.Prelude.{◌≡◌, ◌+◌, ◌++◌, ◌∷◌, [], ℕ, IfErr, IfOk};
 ghost use Rattle.std.specs.Prelude.{None, OnOk, Some, cond, false, map, nat_eq, option_map, true};
 ghost use Rattle.partial_page.specs.Assembling.{all_there, last_counted};
 ghost use Rattle.partial_page.specs.Assembling.{asked_by};
@@ -771,7 +772,7 @@ pub fn captured_in<R: Read>(
     reader: &mut R,
     order: Order,
 ) -> Result<Vec<Captured>, ToolFault>
-    ensures found { IfOk result (λ found. IfSome (R.remaining reader.old) (λ octets.
+    ensures found { IfOk result (λ found. ReadsAll (R.remaining reader.old) (R.remaining reader.new) (λ octets.
         found.items ≡ captured (good (bits_of order octets)))) }
     ensures fault { IfErr result IsOutside }
 {

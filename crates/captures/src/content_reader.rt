@@ -1,6 +1,6 @@
 //! The contents of the good frames in a line's bits, one after the other, over any reader: what every command that hears a line reads.
 
-ghost use Rattle.captures.specs.Contents.{GivesNext, HasRead, StandsIn};
+ghost use Rattle.captures.specs.Contents.{GivesNext, HasRead, ReadsPiece};
 ghost use Rattle.captures.specs.Frames.{counts_of};
 ghost use Rattle.faults.specs.Faults.{IsOutside};
 ghost use Rattle.hdlc.specs.DeframerState.{IsAfter};
@@ -162,8 +162,7 @@ impl ContentReader {
     /// Reads a piece, and returns whether the line goes on.
     fn fill<R: Read>(&mut self, reader: &mut R) -> Result<bool, ToolFault>
         ensures order { OnOk result (self.new.order ≡ self.old.order) }
-        ensures stands { OnOk result ((line : List ℕ) (coming : List (List ℕ)) → StandsIn self.old (R.remaining reader.old) line coming
-            → StandsIn self.new (R.remaining reader.new) line coming) }
+        ensures stands { OnOk result (ReadsPiece self.old (R.remaining reader.old) (R.remaining reader.new) (HasRead self.new)) }
         ensures end { IfOk result (λ more. more ≡ false → IsAtEnd (R.remaining reader.new) × (self.new ≡ self.old)) }
         ensures fault { IfErr result IsOutside }
     {
@@ -181,8 +180,9 @@ impl ContentReader {
     /// the line was read. Errors: `Io` (8) from the reader, or if it doesn't end in 2^64 reads; `NoMemory` (9).
     pub fn advance<R: Read>(&mut self, reader: &mut R) -> Result<bool, ToolFault>
         ensures order { OnOk result (self.new.order ≡ self.old.order) }
-        ensures next { IfOk result (λ more. (line : List ℕ) (coming : List (List ℕ))
-            → StandsIn self.old (R.remaining reader.old) line coming → GivesNext more self.new (R.remaining reader.new) line coming) }
+        ensures next { IfOk result (λ more.
+            ReadsPiece self.old (R.remaining reader.old) (R.remaining reader.new) (GivesNext more self.new)) }
+        ensures end { IfOk result (λ more. more ≡ false → IsAtEnd (R.remaining reader.new)) }
         ensures fault { IfErr result IsOutside }
     {
         for _read in 0..u64::MAX {

@@ -1,15 +1,16 @@
 //! The frames in bits listed, and the pages that they carry given on, both as they come.
 
 ghost use Rattle.captures.specs.Captured.{at_end, captured, hears_read};
+ghost use Rattle.captures.specs.Contents.{ReadsAll};
 ghost use Rattle.faults.specs.Faults.{IsOutside};
 ghost use Rattle.captures.specs.Found.{GivesOn, TakesEach};
-ghost use Rattle.captures.specs.Frames.{IsOtherOrderWorth, frame_line, listing};
+ghost use Rattle.captures.specs.Frames.{ListsFrames, frame_line};
 ghost use Rattle.captures.specs.declared.captured.Captured.{Captured};
 ghost use Rattle.hdlc.specs.Gaps.{good};
 ghost use Rattle.raster.specs.Packed.{bits_of};
 ghost use Rattle.signals.specs.Reading.{read_content};
 ghost use Rattle.std.specs.Io.KnownBytes.{Appends};
-ghost use Rattle.std.specs.Prelude.{◌≡◌, ◌↔◌, IfErr, IfOk, IfSome, IsTrue, OnOk};
+ghost use Rattle.std.specs.Prelude.{◌≡◌, IfErr, IfOk, OnOk};
 
 use crate::captured::{Capture, Captured};
 use crate::content_reader::ContentReader;
@@ -82,11 +83,9 @@ pub fn pages_engine<R: Read, W: Write, S: FoundStore>(
     how: ListOptions,
     store: &mut S,
 ) -> Result<bool, ToolFault>
-    ensures listed { OnOk result (IfSome (R.remaining reader.old) (λ octets.
-        Appends (W.contents writer.old) (W.contents writer.new) (listing how (bits_of how.order octets)))) }
-    ensures worth { IfOk result (λ worth. IfSome (R.remaining reader.old) (λ octets. IsTrue worth ↔ IsOtherOrderWorth how.order octets)) }
-    ensures given { OnOk result (IfSome (R.remaining reader.old) (λ octets.
-        TakesEach S.takes store.old (captured (good (bits_of how.order octets))) store.new)) }
+    ensures given { IfOk result (λ worth. ReadsAll (R.remaining reader.old) (R.remaining reader.new) (λ octets.
+        ListsFrames how octets (W.contents writer.old) (W.contents writer.new) worth
+        × TakesEach S.takes store.old (captured (good (bits_of how.order octets))) store.new)) }
     ensures fault { IfErr result IsOutside }
 {
     let mut contents = ContentReader::new(alloc, how.order);

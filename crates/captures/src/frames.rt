@@ -1,12 +1,13 @@
 //! What `frames` does: it lists the frames in bits, over any reader and any writer.
 
+ghost use Rattle.captures.specs.Contents.{ReadsAll};
 ghost use Rattle.faults.specs.Faults.{IsOutside};
-ghost use Rattle.captures.specs.Frames.{IsOtherOrderWorth, counts_line, frame_line, last_line, listing, plain_line};
+ghost use Rattle.captures.specs.Frames.{ListsFrames, counts_line, frame_line, last_line, listing, plain_line};
 ghost use Rattle.captures.specs.Frames.{plain_list};
 ghost use Rattle.raster.specs.Packed.{bits_of};
 ghost use Rattle.raster.specs.declared.packed.Order.TheVariants.{LsbFirst};
 ghost use Rattle.std.specs.Io.KnownBytes.{Appends, Keeps};
-ghost use Rattle.std.specs.Prelude.{◌≡◌, ◌<◌, ◌↔◌, IfErr, IfOk, IfSome, IsTrue, OnOk};
+ghost use Rattle.std.specs.Prelude.{◌≡◌, ◌<◌, ◌↔◌, IfErr, IfOk, IsTrue, OnOk};
 
 use crate::content_reader::ContentReader;
 use crate::records::{write_counts_record, write_frame_record};
@@ -145,9 +146,8 @@ pub fn list_engine<R: Read, W: Write>(
     writer: &mut W,
     how: ListOptions,
 ) -> Result<bool, ToolFault>
-    ensures listed { OnOk result (IfSome (R.remaining reader.old) (λ octets.
-        Appends (W.contents writer.old) (W.contents writer.new) (listing how (bits_of how.order octets)))) }
-    ensures worth { IfOk result (λ worth. IfSome (R.remaining reader.old) (λ octets. IsTrue worth ↔ IsOtherOrderWorth how.order octets)) }
+    ensures listed { IfOk result (λ worth. ReadsAll (R.remaining reader.old) (R.remaining reader.new) (λ octets.
+        ListsFrames how octets (W.contents writer.old) (W.contents writer.new) worth)) }
     ensures fault { IfErr result IsOutside }
 {
     let mut contents = ContentReader::new(alloc, how.order);
@@ -170,7 +170,7 @@ pub fn frames_engine<R: Read, W: Write>(
     writer: &mut W,
     most: Option<usize>,
 ) -> Result<(), ToolFault>
-    ensures listed { OnOk result (IfSome (R.remaining reader.old) (λ octets.
+    ensures listed { OnOk result (ReadsAll (R.remaining reader.old) (R.remaining reader.new) (λ octets.
         Appends (W.contents writer.old) (W.contents writer.new) (listing (plain_list most) (bits_of LsbFirst octets)))) }
     ensures fault { IfErr result IsOutside }
 {

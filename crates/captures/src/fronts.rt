@@ -1,15 +1,16 @@
 //! The frames in bits listed, and the pages that they carry given on, also the rows before a gap of those that aren't whole.
 
 ghost use Rattle.captures.specs.Captured.{hears_read};
+ghost use Rattle.captures.specs.Contents.{ReadsAll};
 ghost use Rattle.faults.specs.Faults.{IsOutside};
-ghost use Rattle.captures.specs.Frames.{IsOtherOrderWorth, frame_line, listing};
+ghost use Rattle.captures.specs.Frames.{ListsFrames, frame_line};
 ghost use Rattle.captures.specs.Fronts.{GivesFront, IsFrontPage, Salvages, SalvagesAll, SalvagesEnd};
 ghost use Rattle.hdlc.specs.Gaps.{good};
 ghost use Rattle.raster.specs.Packed.{bits_of};
 ghost use Rattle.raster.specs.Pages.{PagePixels};
 ghost use Rattle.signals.specs.Reading.{read_content};
 ghost use Rattle.std.specs.Io.KnownBytes.{Appends};
-ghost use Rattle.std.specs.Prelude.{ℕ, ◌≡◌, ◌↔◌, IfErr, IfOk, IfSome, IsTrue, OnOk};
+ghost use Rattle.std.specs.Prelude.{ℕ, ◌≡◌, IfErr, IfOk, OnOk};
 
 use crate::captured::Capture;
 use crate::content_reader::ContentReader;
@@ -120,11 +121,9 @@ pub fn salvage_pages_engine<R: Read, W: Write, S: FoundStore + FrontStore>(
     how: ListOptions,
     store: &mut S,
 ) -> Result<bool, ToolFault>
-    ensures listed { OnOk result (IfSome (R.remaining reader.old) (λ octets.
-        Appends (W.contents writer.old) (W.contents writer.new) (listing how (bits_of how.order octets)))) }
-    ensures worth { IfOk result (λ worth. IfSome (R.remaining reader.old) (λ octets. IsTrue worth ↔ IsOtherOrderWorth how.order octets)) }
-    ensures given { OnOk result (IfSome (R.remaining reader.old) (λ octets.
-        SalvagesAll S.takes S.fronts (good (bits_of how.order octets)) store.old store.new)) }
+    ensures given { IfOk result (λ worth. ReadsAll (R.remaining reader.old) (R.remaining reader.new) (λ octets.
+        ListsFrames how octets (W.contents writer.old) (W.contents writer.new) worth
+        × SalvagesAll S.takes S.fronts (good (bits_of how.order octets)) store.old store.new)) }
     ensures fault { IfErr result IsOutside }
 {
     let mut contents = ContentReader::new(alloc, how.order);

@@ -21,18 +21,10 @@ loop-content-preserved g c =
     (subst (λ (l : List ℕ). new.known.items ≡ old.known.items ++ frames_of (l ∷ [])) c.content.ensures c.in_ok-take.ensures.known)
     (subst (λ (l : List ℕ). new.others ≡ old.others + others_of (l ∷ [])) c.content.ensures c.in_ok-take.ensures.others) left)
 
-pub returns-then-not-more-clause-known : goal.returns-then-not-more-clause-known
-returns-then-not-more-clause-known g c =
+pub returns-then-not-more-clause-found : goal.returns-then-not-more-clause-found
+returns-then-not-more-clause-found g c =
     let frames = c.loop-content.frames in
     no_more (g.R.Read.remaining c.args.reader.now) (g.R.Read.remaining c.loop-content.reader) (g.R.Read.remaining c.advance.new.reader)
     c.loop-content.contents c.advance.new.self c.in_ok-more.more (TakesLeft c.args.order frames.known.items frames.others) _
-    c.loop-content.invariant c.if-not-more.true c.in_ok-more.ensures.next
-    (λ line read left. (all_taken c.args.order frames.known.items frames.others line left).0)
-
-pub returns-then-not-more-clause-others : goal.returns-then-not-more-clause-others
-returns-then-not-more-clause-others g c =
-    let frames = c.loop-content.frames in
-    no_more (g.R.Read.remaining c.args.reader.now) (g.R.Read.remaining c.loop-content.reader) (g.R.Read.remaining c.advance.new.reader)
-    c.loop-content.contents c.advance.new.self c.in_ok-more.more (TakesLeft c.args.order frames.known.items frames.others) _
-    c.loop-content.invariant c.if-not-more.true c.in_ok-more.ensures.next
-    (λ line read left. (all_taken c.args.order frames.known.items frames.others line left).1)
+    c.loop-content.invariant c.if-not-more.true c.in_ok-more.ensures.next c.in_ok-more.ensures.end
+    (λ line read left. all_taken c.args.order frames.known.items frames.others line left)

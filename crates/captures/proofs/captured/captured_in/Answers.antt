@@ -1,5 +1,5 @@
 -- What the check asks of `captured_in`.
-use Rattle.std.proofs.Common.{◌≡◌, ◌++◌, ◌∙◌, ℕ, List, subst}
+use Rattle.std.proofs.Common.{◌∙◌, ℕ, List, subst}
 use Rattle.signals.specs.Reading.{read_content}
 use Rattle.captures.specs.Captured.{Takes, hears_read}
 use Rattle.captures.proofs.Contents.{before_first, no_more, one_more}
@@ -34,6 +34,6 @@ pub returns-then-not-more-clause-found : goal.returns-then-not-more-clause-found
 returns-then-not-more-clause-found g c =
     no_more (g.R.Read.remaining c.args.reader.now) (g.R.Read.remaining c.loop-content.reader) (g.R.Read.remaining c.advance.new.reader)
     c.loop-content.contents c.advance.new.self c.in_ok-more.more (OutLeft c.args.order c.loop-content.out.items c.loop-content.capture) _
-    c.loop-content.invariant.1 c.if-not-more.true c.in_ok-more.ensures.next
+    c.loop-content.invariant.1 c.if-not-more.true c.in_ok-more.ensures.next c.in_ok-more.ensures.end
     (λ line read left. all_found c.args.order c.loop-content.out.items c.end.new.out.items c.loop-content.capture line
     c.in_ok-end.ensures.named left)

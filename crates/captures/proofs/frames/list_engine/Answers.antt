@@ -1,5 +1,5 @@
 -- What the check asks of `list_engine`.
-use Rattle.std.proofs.Common.{ℕ, List, ◌+◌, ◌∙◌, subst}
+use Rattle.std.proofs.Common.{◌+◌, ◌∙◌, subst}
 use Rattle.std.proofs.KnownBytes.{Appends-kept}
 use Rattle.std.specs.Io.KnownBytes.{Appends}
 use Rattle.captures.specs.Frames.{frame_line}
@@ -35,16 +35,11 @@ returns-then-not-more-clause-listed g c =
     no_more (g.R.Read.remaining c.args.reader.now) (g.R.Read.remaining c.loop-number.reader) (g.R.Read.remaining c.advance.new.reader)
     c.loop-number.contents c.advance.new.self c.in_ok-more.more
     (LinesLeft c.args.how (g.W.Write.contents c.args.writer.now) (g.W.Write.contents c.loop-number.writer) c.loop-number.number)
-    _ c.loop-number.invariant.1 c.if-not-more.true c.in_ok-more.ensures.next
-    (λ line read left. all_listed c.args.how (g.W.Write.contents c.args.writer.now) (g.W.Write.contents c.loop-number.writer)
-    (g.W.Write.contents c.write_counts.new.writer) c.loop-number.number c.advance.new.self c.counts.result line
-    (c.in_ok-more.ensures.order ∙ c.loop-number.invariant.0) c.counts.ensures c.in_ok-write_counts.ensures.line read left)
-
-pub returns-then-not-more-clause-worth : goal.returns-then-not-more-clause-worth
-returns-then-not-more-clause-worth g c =
-    no_more (g.R.Read.remaining c.args.reader.now) (g.R.Read.remaining c.loop-number.reader) (g.R.Read.remaining c.advance.new.reader)
-    c.loop-number.contents c.advance.new.self c.in_ok-more.more
-    (LinesLeft c.args.how (g.W.Write.contents c.args.writer.now) (g.W.Write.contents c.loop-number.writer) c.loop-number.number)
-    _ c.loop-number.invariant.1 c.if-not-more.true c.in_ok-more.ensures.next
-    (λ line read left. worth_told c.args.how (g.W.Write.contents c.args.writer.now) (g.W.Write.contents c.loop-number.writer)
-    c.loop-number.number c.octets.result c.advance.new.self c.has_no_frame.result line c.octets.ensures c.has_no_frame.ensures read left)
+    _ c.loop-number.invariant.1 c.if-not-more.true c.in_ok-more.ensures.next c.in_ok-more.ensures.end
+    (λ line read left. (
+      all_listed c.args.how (g.W.Write.contents c.args.writer.now) (g.W.Write.contents c.loop-number.writer)
+          (g.W.Write.contents c.write_counts.new.writer) c.loop-number.number c.advance.new.self c.counts.result line
+          (c.in_ok-more.ensures.order ∙ c.loop-number.invariant.0) c.counts.ensures c.in_ok-write_counts.ensures.line read left,
+      worth_told c.args.how (g.W.Write.contents c.args.writer.now) (g.W.Write.contents c.loop-number.writer) c.loop-number.number
+          c.octets.result c.advance.new.self c.has_no_frame.result line c.octets.ensures c.has_no_frame.ensures read left,
+    ))

@@ -49,33 +49,24 @@ loop-number-preserved g c = (
       )),
 )
 
-pub returns-then-not-more-clause-listed : goal.returns-then-not-more-clause-listed
-returns-then-not-more-clause-listed g c =
-    no_more (g.R.Read.remaining c.args.reader.now) (g.R.Read.remaining c.loop-number.reader) (g.R.Read.remaining c.advance.new.reader)
-    c.loop-number.contents c.advance.new.self c.in_ok-more.more
-    (λ line coming. LinesLeft c.args.how (g.W.Write.contents c.args.writer.now) (g.W.Write.contents c.loop-number.writer) c.loop-number.number line coming
-    × SalvageLeft g.S.FoundStore.takes g.S.FrontStore.fronts c.args.how.order c.args.store.now c.loop-number.store c.loop-number.capture line coming)
-    _ c.loop-number.invariant.1 c.if-not-more.true c.in_ok-more.ensures.next
-    (λ line read left. all_listed c.args.how (g.W.Write.contents c.args.writer.now) (g.W.Write.contents c.loop-number.writer)
-    (g.W.Write.contents c.write_counts.new.writer) c.loop-number.number c.advance.new.self c.counts.result line
-    (c.in_ok-more.ensures.order ∙ c.loop-number.invariant.0) c.counts.ensures c.in_ok-write_counts.ensures.line read left.0)
-
-pub returns-then-not-more-clause-worth : goal.returns-then-not-more-clause-worth
-returns-then-not-more-clause-worth g c =
-    no_more (g.R.Read.remaining c.args.reader.now) (g.R.Read.remaining c.loop-number.reader) (g.R.Read.remaining c.advance.new.reader)
-    c.loop-number.contents c.advance.new.self c.in_ok-more.more
-    (λ line coming. LinesLeft c.args.how (g.W.Write.contents c.args.writer.now) (g.W.Write.contents c.loop-number.writer) c.loop-number.number line coming
-    × SalvageLeft g.S.FoundStore.takes g.S.FrontStore.fronts c.args.how.order c.args.store.now c.loop-number.store c.loop-number.capture line coming)
-    _ c.loop-number.invariant.1 c.if-not-more.true c.in_ok-more.ensures.next
-    (λ line read left. worth_told c.args.how (g.W.Write.contents c.args.writer.now) (g.W.Write.contents c.loop-number.writer)
-    c.loop-number.number c.octets.result c.advance.new.self c.has_no_frame.result line c.octets.ensures c.has_no_frame.ensures read left.0)
-
 pub returns-then-not-more-clause-given : goal.returns-then-not-more-clause-given
 returns-then-not-more-clause-given g c =
+    let before = g.W.Write.contents c.args.writer.now in
+    let now = g.W.Write.contents c.loop-number.writer in
+    let number = c.loop-number.number in
     no_more (g.R.Read.remaining c.args.reader.now) (g.R.Read.remaining c.loop-number.reader) (g.R.Read.remaining c.advance.new.reader)
     c.loop-number.contents c.advance.new.self c.in_ok-more.more
-    (λ line coming. LinesLeft c.args.how (g.W.Write.contents c.args.writer.now) (g.W.Write.contents c.loop-number.writer) c.loop-number.number line coming
-    × SalvageLeft g.S.FoundStore.takes g.S.FrontStore.fronts c.args.how.order c.args.store.now c.loop-number.store c.loop-number.capture line coming)
-    _ c.loop-number.invariant.1 c.if-not-more.true c.in_ok-more.ensures.next
-    (λ line read left. all_salvaged g.S.FoundStore.takes g.S.FrontStore.fronts c.args.how.order c.args.store.now c.loop-number.store
-    c.salvage_end.new.store c.loop-number.capture line c.in_ok-salvage_end.ensures.given left.1)
+    (λ line coming. LinesLeft c.args.how before now number line coming
+    × SalvageLeft g.S.FoundStore.takes g.S.FrontStore.fronts c.args.how.order c.args.store.now c.loop-number.store
+    c.loop-number.capture line coming)
+    _ c.loop-number.invariant.1 c.if-not-more.true c.in_ok-more.ensures.next c.in_ok-more.ensures.end
+    (λ line read left. (
+      (
+        all_listed c.args.how before now (g.W.Write.contents c.write_counts.new.writer) number c.advance.new.self c.counts.result line
+            (c.in_ok-more.ensures.order ∙ c.loop-number.invariant.0) c.counts.ensures c.in_ok-write_counts.ensures.line read left.0,
+        worth_told c.args.how before now number c.octets.result c.advance.new.self c.has_no_frame.result line c.octets.ensures
+            c.has_no_frame.ensures read left.0,
+      ),
+      all_salvaged g.S.FoundStore.takes g.S.FrontStore.fronts c.args.how.order c.args.store.now c.loop-number.store
+          c.salvage_end.new.store c.loop-number.capture line c.in_ok-salvage_end.ensures.given left.1,
+    ))

@@ -1,5 +1,5 @@
 -- What the check asks of `counts`.
-use Rattle.std.proofs.Common.{◌≡◌, [], List, ℕ, subst}
+use Rattle.std.proofs.Common.{◌≡◌, [], subst}
 use Rattle.captures.specs.Contents.{ContentReading, HasRead}
 use Rattle.captures.specs.Frames.{counts_of}
 use Rattle.raster.specs.Packed.{bits_of}
