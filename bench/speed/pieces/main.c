@@ -1,5 +1,5 @@
-/* main zeros|runs|fill page|rows KIB PIECE: reads so many KiB of a row that doesn't end, in pieces of PIECE octets: only 0 bits in T.6; in
- * T.4 runs of no pixels; in T.4 fill before an EOL. Ends with status 1 where there is a row. */
+/* main zeros|runs|fill|eol page|rows KIB PIECE: reads so many KiB of a row that doesn't end, in pieces of PIECE octets: only 0 bits in T.6;
+ * in T.4 runs of no pixels, fill before an EOL, or an EOL and fill. Ends with status 1 where there is a row. */
 #include <stdint.h>
 #include <stdio.h>
 #include <stdlib.h>
@@ -35,5 +35,6 @@ int main(int count, char **words)
     if (size > sizeof octets) return 2;
     int runs = !strcmp(words[1], "runs"), zeros = !strcmp(words[1], "zeros");
     if (runs) put_runs(size);
+    if (!strcmp(words[1], "eol")) octets[1] = 16;
     return counted(!strcmp(words[2], "rows"), size, (uint64_t)atoi(words[4]), zeros ? 2 : 1) != 1;
 }

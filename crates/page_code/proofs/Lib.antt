@@ -11,4 +11,5 @@ pub mod PageReads
 pub mod HandCoded
 pub mod RowCoders
 pub mod RowReaders
+pub mod PassedRows
 mod TurnedOctets

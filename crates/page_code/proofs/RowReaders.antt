@@ -64,7 +64,7 @@ use Rattle.page_code.proofs.TwoDimensions.StepsOn.{last_added}
 -- ---- places in the bits at hand and in all bits
 
 -- what is left at a place further on is the same too
-left_on : (bits held : List Bool) (far at n : ℕ) → drop (far + at) bits ≡ drop at held → drop (far + at + n) bits ≡ drop (at + n) held
+pub left_on : (bits held : List Bool) (far at n : ℕ) → drop (far + at) bits ≡ drop at held → drop (far + at + n) bits ≡ drop (at + n) held
 left_on bits held far at n same = sym (drop-drop n (far + at) bits) ∙ (ap (drop n) same ∙ drop-drop n at held)
 
 -- ---- one dimension: where a row begins

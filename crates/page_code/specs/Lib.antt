@@ -6,6 +6,7 @@ pub mod TurnedCodes
 pub mod PageReaders
 pub mod RowCoders
 pub mod RowReaders
+pub mod PassedRows
 pub mod OneDimension
 pub mod TwoDimensions
 pub mod WorkedPages

@@ -111,6 +111,12 @@ FindsNext coding held old new before next (Ok (Refused fault)) =
     → read_rows coding old.width bits ≡ Err (far + fault.place, fault.kind))
 FindsNext coding held old new before next (Err error) = (new ≡ old) × (next ≡ before)
 
+-- in one dimension, a refusal is found at a row's place, with its own place in the bits at hand
+abbrev pub IsFoundRefused : List Bool → RowPlace → CodeFault → Type 0
+IsFoundRefused held to fault = (fault.place ≤ length held)
+    × ((before : List Color) (rows : List (List Color)) (bits : List Bool) (far : ℕ) → GoesOnIn OneDim to before held rows bits far
+    → read_rows OneDim to.width bits ≡ Err (far + fault.place, fault.kind))
+
 -- a refusal other than NoMemory, or memory was refused
 abbrev pub IsRefusal : {E : Type 0} → CodeFault → Result NextRow E → Type 0
 IsRefusal fault (Ok (Row row)) = ⊥

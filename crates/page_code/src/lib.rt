@@ -8,6 +8,7 @@ mod one_dim;
 mod page;
 mod page_reader;
 mod page_rows;
+mod passed_row;
 mod row_coder;
 mod t6;
 mod turned;

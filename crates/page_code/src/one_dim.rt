@@ -2,14 +2,14 @@
 
 ghost use Rattle.page_code.specs.OneDimension.Fronts.{read_page as read_bits};
 ghost use Rattle.page_code.specs.OneDimension.Pages.{eol_word, row_words, rows_words, eol_words, page_words, rtc};
-ghost use Rattle.page_code.specs.OneDimension.Reading.{FindsRow, ReadsRowOfPage, SeesStart};
+ghost use Rattle.page_code.specs.OneDimension.Reading.{FindsRow, ReadsRowOfPage, SeesEol, SeesStart};
 ghost use Rattle.page_code.specs.RowsSoFar.{IsReadTo, ReadsOn};
 ghost use Rattle.raster.specs.Packed.{Bits, bits_of};
 ghost use Rattle.raster.specs.Pages.{max_rows};
 ghost use Rattle.raster.specs.Pixels.{IsWidth};
 ghost use Rattle.raster.specs.declared.row.Color.{Color};
 ghost use Rattle.run_tables.specs.Written.{Appends, KeepsBits};
-ghost use Rattle.std.specs.Prelude.{◌≡◌, ◌≤◌, ◌<◌, ◌+◌, ◌*◌, ◌++◌, ◌∷◌, [], ℕ, List, length, OnErr, OnOk, All};
+ghost use Rattle.std.specs.Prelude.{◌≡◌, ◌≤◌, ◌<◌, ◌+◌, ◌*◌, ◌++◌, ◌∷◌, [], ℕ, List, drop, length, OnErr, OnOk, All};
 
 pub(crate) mod eol;
 pub(crate) mod one_row;
@@ -42,13 +42,14 @@ enum Start {
     Refused(CodeFault),
 }
 
-/// What is found at a place after an EOL, after `rows` rows.
-fn start_at(octets: &[u8], order: Order, place: u128, rows: usize) -> Start
-    requires { place ≤ 8 * length octets.now }
+/// What is found at a place after an EOL, after `rows` rows, where this is found of an EOL.
+fn start_by(octets: &[u8], order: Order, place: u128, rows: usize, eol: Eol) -> Start
+    requires within { place ≤ 8 * length octets.now }
+    requires eol { SeesEol (drop place (bits_of order octets.now)) eol }
     ensures { SeesStart (bits_of order octets.now) place rows result }
 {
     // other software ends a page with no EOL or one (then only 0 bits may follow) or with two to six; a seventh is left unread
-    match eol_at(octets, order, place) {
+    match eol {
         Eol::Absent => {
             if rows < MAX_ROWS {
                 Start::Row(place)
@@ -72,6 +73,15 @@ fn start_at(octets: &[u8], order: Order, place: u128, rows: usize) -> Start
             }
         }
     }
+}
+
+/// What is found at a place after an EOL, after `rows` rows.
+fn start_at(octets: &[u8], order: Order, place: u128, rows: usize) -> Start
+    requires { place ≤ 8 * length octets.now }
+    ensures { SeesStart (bits_of order octets.now) place rows result }
+{
+    let eol = eol_at(octets, order, place);
+    start_by(octets, order, place, rows, eol)
 }
 
 /// What is found after the rows read so far: the first row begins at the page's beginning or after one EOL,

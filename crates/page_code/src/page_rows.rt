@@ -1,11 +1,13 @@
 //! Reading of a page row by row from octets that come in pieces, in memory that doesn't grow with its rows.
 
+ghost use Rattle.page_code.specs.PassedRows.{IsPassedRow};
 ghost use Rattle.page_code.specs.RowReaders.{BeginsReading, FindsNext, IsRefusal, ReadsNext, TakesOctets, max_held};
 ghost use Rattle.raster.specs.Packed.{bits_of};
 ghost use Rattle.raster.specs.Pages.{max_rows};
 ghost use Rattle.raster.specs.Pixels.{IsWidth};
-ghost use Rattle.std.specs.Prelude.{◌≡◌, ◌≤◌, ◌*◌, IfOk, OnOk, OnErr, length};
+ghost use Rattle.std.specs.Prelude.{◌≡◌, ◌≤◌, ◌*◌, ◌++◌, IfOk, OnOk, OnErr, drop, length};
 
+use crate::passed_row::PassedRow;
 use crate::t6::lines::Lines;
 use crate::{one_dim, t6};
 use raster::packed::Order;
@@ -50,11 +52,12 @@ pub(crate) fn refused(fault: CodeFault) -> Result<NextRow, AllocError>
     }
 }
 
-/// The lists in which a row is read: the runs of one dimension, and the lines of T.6.
+/// What a row is read with: the runs of one dimension, the lines of T.6, and what was passed of the row.
 #[derive(Drop)]
 struct Lists {
     runs: Vec<u32>,
     lines: Lines,
+    passed: PassedRow,
 }
 
 /// The next row, the page's end or a refusal, counted from the beginning of the bits at hand.
@@ -69,16 +72,57 @@ fn find_next(
     requires within { to.old.at ≤ 8 * length octets.now }
     requires few { to.old.rows ≤ max_rows }
     requires width { IsWidth to.old.width }
-    ensures { FindsNext coding (bits_of order octets.now) to.old to.new lists.old.lines.reference lists.new.lines.reference result }
+    requires passed { IsPassedRow to.old.width to.old.rows (drop to.old.at (bits_of order octets.now)) lists.old.passed }
+    ensures passed { IsPassedRow to.old.width to.old.rows (drop to.old.at (bits_of order octets.now)) lists.new.passed }
+    ensures finds { FindsNext coding (bits_of order octets.now) to.old to.new lists.old.lines.reference lists.new.lines.reference result }
 {
     match coding {
-        Coding::OneDim => one_dim::one_row::next_row(alloc, octets, order, to, &mut lists.runs),
-        Coding::T6 => t6::read::one_row::next_row(alloc, octets, order, to, &mut lists.lines),
+        Coding::OneDim => one_dim::one_row::next_row(
+            alloc,
+            octets,
+            order,
+            to,
+            &mut lists.runs,
+            &mut lists.passed,
+        ),
+        Coding::T6 => t6::read::one_row::next_row(
+            alloc,
+            octets,
+            order,
+            to,
+            &mut lists.lines,
+            &mut lists.passed,
+        ),
     }
 }
 
+/// Appends octets to those that are left after the first `gone`, and returns how many before these are still there. Errs if memory is
+/// refused, which leaves the octets as they were. Those that are gone are removed when the others are no more than they are, so that no
+/// octet is moved more than once for each that is given up.
+fn append(
+    alloc: Global,
+    held: &mut Vec<u8>,
+    gone: usize,
+    octets: &[u8],
+) -> Result<usize, AllocError>
+    requires { gone ≤ length held.old.items }
+    ensures within { IfOk result (λ now. now ≤ length held.new.items) }
+    ensures joined { IfOk result (λ now. drop now held.new.items ≡ drop gone held.old.items ++ octets.now) }
+    ensures same { OnErr result (held.new.items ≡ held.old.items) }
+{
+    if gone < held.len() - gone {
+        held.extend_from_slice(octets)?;
+        return Ok(gone);
+    }
+    let mut left = Vec::new(alloc);
+    left.extend_from_slice(&held[gone..])?;
+    left.extend_from_slice(octets)?;
+    *held = left;
+    Ok(0)
+}
+
 /// Reads a page row by row from octets that come in pieces. It holds the row before the next one and the
-/// octets that weren't read yet, 65,536 at most, whatever the page has.
+/// octets that weren't read yet, 65,536 at most, whatever the page has; and as many at most that were read.
 #[derive(Drop)]
 pub struct RowReader {
     alloc: Global,
@@ -87,6 +131,8 @@ pub struct RowReader {
     place: RowPlace,
     start: u128,
     held: Vec<u8>,
+    /// The number of octets at the beginning of `held` that were given up and aren't removed yet.
+    gone: usize,
     lists: Lists,
 }
 
@@ -94,7 +140,9 @@ impl Model for RowReader {
     ghost use Rattle.page_code.specs.RowReaders.{RowReading, max_held};
     ghost use Rattle.raster.specs.Pages.{max_rows};
     ghost use Rattle.raster.specs.Pixels.{IsWidth};
-    ghost use Rattle.std.specs.Prelude.{◌≤◌, ◌*◌, ◌+◌, length};
+    ghost use Rattle.page_code.specs.PassedRows.{IsPassedRow};
+    ghost use Rattle.raster.specs.Packed.{bits_of};
+    ghost use Rattle.std.specs.Prelude.{◌≤◌, ◌*◌, ◌+◌, drop, length};
 
     ghost Value = { RowReading };
 
@@ -105,16 +153,19 @@ impl Model for RowReader {
       count = reader.place.rows;
       before = reader.lists.lines.reference;
       start = reader.start;
-      held = reader.held.items;
+      held = drop reader.gone reader.held.items;
       at = reader.place.at;
     } };
 
     ghost invariant = { λ reader. record {
       width : IsWidth reader.place.width;
       rows : reader.place.rows ≤ max_rows;
-      within : reader.place.at ≤ 8 * length reader.held.items;
-      few : length reader.held.items ≤ max_held;
+      gone : reader.gone ≤ length reader.held.items;
+      within : reader.place.at ≤ 8 * length (drop reader.gone reader.held.items);
+      few : length (drop reader.gone reader.held.items) ≤ max_held;
       start : reader.start + reader.place.at ≤ reader.place.rows * (8 * max_held);
+      passed : IsPassedRow reader.place.width reader.place.rows (drop reader.place.at (bits_of reader.order (drop reader.gone reader.held.items)))
+          reader.lists.passed;
     } };
 }
 
@@ -134,6 +185,7 @@ impl RowReader {
         let lists = Lists {
             runs: Vec::new(alloc),
             lines: Lines::after(alloc, &white)?,
+            passed: PassedRow::none(),
         };
         Ok(RowReader {
             alloc,
@@ -146,6 +198,7 @@ impl RowReader {
             },
             start: 0,
             held: Vec::new(alloc),
+            gone: 0,
             lists,
         })
     }
@@ -170,7 +223,7 @@ impl RowReader {
         ensures held { result ≡ length self.now.held }
         ensures few { result ≤ max_held }
     {
-        self.held.len()
+        self.held.len() - self.gone
     }
 
     /// Takes the next octets of the page, as many as there is room for, and returns how many. Octets whose
@@ -180,17 +233,14 @@ impl RowReader {
         ensures same { OnErr result (self.new ≡ self.old) }
     {
         let up = (self.place.at / 8) as usize;
-        let left = &self.held[up..];
-        let room = MAX_HELD - left.len();
+        let gone = self.gone + up;
+        let room = MAX_HELD - (self.held.len() - gone);
         let count = if octets.len() < room {
             octets.len()
         } else {
             room
         };
-        let mut held = Vec::new(self.alloc);
-        held.extend_from_slice(left)?;
-        held.extend_from_slice(&octets[..count])?;
-        self.held = held;
+        self.gone = append(self.alloc, &mut self.held, gone, &octets[..count])?;
         self.place.at %= 8;
         self.start += 8 * up as u128;
         Ok(count)
@@ -207,7 +257,7 @@ impl RowReader {
         let found = find_next(
             self.alloc,
             self.coding,
-            &self.held,
+            &self.held[self.gone..],
             self.order,
             &mut to,
             &mut self.lists,
@@ -215,6 +265,7 @@ impl RowReader {
         match found {
             NextRow::Row(row) => {
                 self.place = to;
+                self.lists.passed = PassedRow::none();
                 Ok(NextRow::Row(row))
             }
             NextRow::End(used) => Ok(NextRow::End(self.start + used)),

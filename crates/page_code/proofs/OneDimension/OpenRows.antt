@@ -14,7 +14,6 @@ use Rattle.raster.specs.Words.{IsFirstInWord}
 use Rattle.raster.specs.declared.coding.Coding.TheVariants.{OneDim}
 use Rattle.raster.proofs.PackedLemmas.{length-bits_in}
 use Rattle.run_tables.specs.declared.fault.CodeFault.{CodeFault}
-use Rattle.run_tables.specs.declared.fault.CodeFaultKind.{CodeFaultKind}
 use Rattle.run_tables.specs.declared.fault.CodeFaultKind.TheVariants.{RunTooLong}
 use Rattle.run_tables.specs.CodeReading.{first_runs, BeginsRun, RefusesCodeWithin, ReadsRunWithin}
 use Rattle.run_tables.specs.Codes.{code_word}
@@ -28,7 +27,7 @@ use Rattle.run_tables.specs.RowFronts.RunItem.{run_item}
 use Rattle.run_tables.specs.RowFronts.RowState.{inside, whole}
 use Rattle.run_tables.specs.Texts.{pick}
 use Rattle.run_tables.proofs.BeginsLemmas.{pick_sound}
-use Rattle.run_tables.proofs.CodeLooks.{kind_by_cut, pick_items}
+use Rattle.run_tables.proofs.CodeLooks.{pick_items}
 use Rattle.run_tables.proofs.RowKinds.{among_after}
 use Rattle.run_tables.proofs.RowReads.{code_long, code_refused, within_row}
 use Rattle.page_code.specs.RowsSoFar.{AreRowsSoFar, IsReadTo, LeadsTo}
@@ -91,12 +90,12 @@ pub zeros_within : (order : Order) (octets : List ℕ) (place : ℕ) → place <
 zeros_within order octets place within = omega (arith, within, length-bits_in order octets (8 * length octets))
 
 -- 0 bits before a 1
-zeros_there : (bits : List Bool) (place zeros : ℕ) → zeros_before (drop place bits) ≡ Some zeros → AreZerosBefore bits place zeros
+pub zeros_there : (bits : List Bool) (place zeros : ℕ) → zeros_before (drop place bits) ≡ Some zeros → AreZerosBefore bits place zeros
 zeros_there bits place zeros is =
     let there = zeros_split (drop place bits) zeros is in
     (true ∷ there.0, there.1 ∙ append_assoc (replicate zeros false) (true ∷ []) there.0)
 
-only_zeros : (x : List Bool) → zeros_before x ≡ None → x ≡ replicate (length x) false ++ []
+pub only_zeros : (x : List Bool) → zeros_before x ≡ None → x ≡ replicate (length x) false ++ []
 only_zeros [] is = refl
 only_zeros (true ∷ x) is = cc
 only_zeros (false ∷ x) is = ap (λ (l : List Bool). false ∷ l) (only_zeros x (after (zeros_before x) refl is))
@@ -330,27 +329,29 @@ module _ (width : ℕ) (bits : List Bool) (start : ℕ) where
   code_stops : (pixels : List Color) (color : Color) (makeup : Option ℕ) (at room : ℕ) (fault : CodeFault) (reader : Reading)
       → reader ≡ record { bits = bits; place = at } → length pixels + (amount makeup + room) ≡ width
       → RefusesCodeWithin color (among_after makeup) room RunTooLong reader fault
-      → (kind : CodeFaultKind) × (row_look width (inside pixels color makeup) (drop at bits) ≡ refuse kind)
+      → (row_look width (inside pixels color makeup) (drop at bits) ≡ refuse fault.kind) × (fault.place ≡ at)
   code_stops pixels color makeup at room fault reader is left_is refuses = by_kind makeup left_is (rw is at refuses)
     where
       by_kind : (m : Option ℕ) → length pixels + (amount m + room) ≡ width
           → RefusesCodeWithin color (among_after m) room RunTooLong (record { bits = bits; place = at }) fault
-          → (kind : CodeFaultKind) × (row_look width (inside pixels color m) (drop at bits) ≡ refuse kind)
+          → (row_look width (inside pixels color m) (drop at bits) ≡ refuse fault.kind) × (fault.place ≡ at)
       by_kind None left (inl none) = (
-        kind_by_cut color 104 (drop at bits),
-        code_refused width pixels color None (drop at bits) none.1.0,
+        code_refused width pixels color None (drop at bits) none.1.0 ∙ ap (λ (f : CodeFault). refuse f.kind) (sym none.1.1),
+        ap (λ (f : CodeFault). f.place) none.1.1,
       )
       by_kind None left (inr long) = (
-        RunTooLong,
-        code_long width pixels color None (drop at bits) long.0 long.2.0 (omega (arith, left, long.3)),
+        code_long width pixels color None (drop at bits) long.0 long.2.0 (omega (arith, left, long.3)) ∙
+            ap (λ (f : CodeFault). refuse f.kind) (sym long.4),
+        ap (λ (f : CodeFault). f.place) long.4,
       )
       by_kind (Some m) left (inl none) = (
-        kind_by_cut color 64 (drop at bits),
-        code_refused width pixels color (Some m) (drop at bits) none.1.0,
+        code_refused width pixels color (Some m) (drop at bits) none.1.0 ∙ ap (λ (f : CodeFault). refuse f.kind) (sym none.1.1),
+        ap (λ (f : CodeFault). f.place) none.1.1,
       )
       by_kind (Some m) left (inr long) = (
-        RunTooLong,
-        code_long width pixels color (Some m) (drop at bits) long.0 long.2.0 (omega (arith, left, long.3)),
+        code_long width pixels color (Some m) (drop at bits) long.0 long.2.0 (omega (arith, left, long.3)) ∙
+            ap (λ (f : CodeFault). refuse f.kind) (sym long.4),
+        ap (λ (f : CodeFault). f.place) long.4,
       )
 
   -- the bits after codes
@@ -362,19 +363,20 @@ module _ (width : ℕ) (bits : List Bool) (start : ℕ) where
   pub run_stops : (pixels : List Color) (color : Color) (used at left : ℕ) (old new : Reading) (fault : CodeFault)
       → old ≡ record { bits = bits; place = at } → After (inside pixels color None) used → at ≡ start + used → length pixels + left ≡ width
       → ReadsRunWithin color left RunTooLong old new (Err fault)
-      → (there : RowState) × (kind : CodeFaultKind) × (more : ℕ) × (way : After there more) × (row_look width there way.rest ≡ refuse kind)
+      → (there : RowState) × (more : ℕ) × (way : After there more) × (row_look width there way.rest ≡ refuse fault.kind)
+      × (fault.place ≡ start + more)
   run_stops pixels color used at left old new fault is leads at_is left_is reads = by_kind reads
     where
       by_kind : ReadsRunWithin color left RunTooLong old new (Err fault)
-          → (there : RowState) × (kind : CodeFaultKind) × (more : ℕ) × (way : After there more)
-          × (row_look width there way.rest ≡ refuse kind)
+          → (there : RowState) × (more : ℕ) × (way : After there more) × (row_look width there way.rest ≡ refuse fault.kind)
+          × (fault.place ≡ start + more)
       by_kind (inl first_code) =
           let seen = code_stops pixels color None at left fault old is (omega (arith, left_is)) first_code in (
             inside pixels color None,
-            seen.0,
             used,
             leads,
-            ap (row_look width (inside pixels color None)) (sym (rest_there (inside pixels color None) used at leads at_is)) ∙ seen.1,
+            ap (row_look width (inside pixels color None)) (sym (rest_there (inside pixels color None) used at leads at_is)) ∙ seen.0,
+            seen.1 ∙ at_is,
           )
       by_kind (inr second) =
           let high : ℕ = second.0 in
@@ -385,11 +387,11 @@ module _ (width : ℕ) (bits : List Bool) (start : ℕ) where
           let seen = code_stops pixels color (Some high) next (left - high) fault second.1 begins.0.1 (omega (arith, left_is, begins.2))
           second.3 in (
             inside pixels color (Some high),
-            seen.0,
             used + length (code_word color high),
             there,
             ap (row_look width (inside pixels color (Some high))) (sym (rest_there (inside pixels color (Some high))
-                (used + length (code_word color high)) next there (omega (arith, at_is)))) ∙ seen.1,
+                (used + length (code_word color high)) next there (omega (arith, at_is)))) ∙ seen.0,
+            omega (arith, seen.1, at_is),
           )
 
 module _ (width : ℕ) (bits : List Bool) (rows : List (List Color)) (place : ℕ) (passed : RunsBefore) (runs : AreRunsBefore width bits rows
@@ -425,7 +427,7 @@ module _ (width : ℕ) (bits : List Bool) (rows : List (List Color)) (place : �
   runs_stop fault wide few kept reads =
       let stop = run_stops width bits runs.start runs.pixels passed.color runs.used passed.at passed.left old new fault is runs.leads
       runs.at_is runs.left_is reads in
-      (row_stops width bits rows place runs.start stop.2 stop.1 stop.0 wide few kept runs.begins stop.3 stop.4).1
+      (row_stops width bits rows place runs.start stop.1 fault.kind stop.0 wide few kept runs.begins stop.2 stop.3).1
 
 pub runs_within : (width : ℕ) (bits : List Bool) (rows : List (List Color)) (place : ℕ) (passed : RunsBefore)
     → AreRunsBefore width bits rows place passed → passed.at ≤ length bits
@@ -447,7 +449,7 @@ runs_in order octets width rows place passed runs = omega (
 
 -- What was passed when bits follow
 
-begins_on : (width : ℕ) (bits more : List Bool) (rows : List (List Color)) (place start : ℕ) → place ≤ length bits
+pub begins_on : (width : ℕ) (bits more : List Bool) (rows : List (List Color)) (place start : ℕ) → place ≤ length bits
     → FindsRow bits width rows place (Row start) → FindsRow (bits ++ more) width rows place (Row start)
 begins_on width bits more rows place start within found = (
   found.0,

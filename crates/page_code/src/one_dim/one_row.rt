@@ -1,48 +1,144 @@
 //! One row of a page in the one-dimensional code, at a place in bits (ITU-T T.4, 4.1).
 
-ghost use Rattle.page_code.specs.RowReaders.{FindsNext, FindsStart, IsStartWithin, ReadsRowThere};
+ghost use Rattle.page_code.specs.OneDimension.OpenRows.{AreZerosBefore};
+ghost use Rattle.page_code.specs.OneDimension.Reading.{SeesEol, SeesStart};
+ghost use Rattle.page_code.specs.PassedRows.{AreRunsPassed, IsPassedRow};
+ghost use Rattle.page_code.specs.RowReaders.{FindsNext, FindsStart, IsFoundRefused, IsStartWithin, ReadsRowThere};
 ghost use Rattle.raster.specs.Packed.{bits_of};
 ghost use Rattle.raster.specs.Pages.{max_rows};
 ghost use Rattle.raster.specs.Pixels.{IsWidth};
 ghost use Rattle.raster.specs.declared.row.Color.{Color};
-ghost use Rattle.std.specs.Prelude.{◌≤◌, ◌<◌, ◌*◌, List, length};
+ghost use Rattle.std.specs.Prelude.{◌≤◌, ◌<◌, ◌+◌, ◌*◌, IfSome, List, drop, length};
 
-use crate::one_dim::eol::{Eol, eol_at, quick_eol};
-use crate::one_dim::{Start, start_at};
+use crate::one_dim::eol::{Eol, quick_eol};
+use crate::one_dim::open_row::{RunsBefore, zeros_after};
+use crate::one_dim::{Start, start_by};
 use crate::page_rows::{NextRow, RowPlace, refused};
+use crate::passed_row::PassedRow;
 use raster::packed::Order;
-use raster::{Coding, MAX_ROWS};
+use raster::{Coding, Color, MAX_ROWS};
 use run_tables::{BitReader, CodeFault, CodeFaultKind};
 use std::alloc::{AllocError, Global};
 
-/// What is found at a place after this number of rows: the next row's first code, the page's end or a
-/// refusal.
-fn start_after(octets: &[u8], order: Order, place: u128, rows: usize) -> Start
-    requires within { place ≤ 8 * length octets.now }
-    requires few { rows ≤ max_rows }
-    ensures finds { FindsStart (bits_of order octets.now) place rows result }
-    ensures within { IsStartWithin place (8 * length octets.now) rows result }
+/// What is found at a place where an EOL may come, of whose 0 bits so many are known.
+fn eol_after(octets: &[u8], order: Order, place: u128, known: u128) -> Eol
+    requires place { place ≤ 8 * length octets.now }
+    requires known { AreZerosBefore (bits_of order octets.now) place known }
+    ensures { SeesEol (drop place (bits_of order octets.now)) result }
 {
-    if rows < MAX_ROWS {
-        if let Some(bits) = quick_eol(octets, order, place) {
-            return Start::Row(place + bits as u128);
+    match zeros_after(octets, order, place, known) {
+        None => Eol::OnlyZeros,
+        Some(zeros) => {
+            if zeros < 11 {
+                Eol::Absent
+            } else {
+                Eol::Present(zeros + 1)
+            }
         }
     }
-    match eol_at(octets, order, place) {
-        Eol::Present(bits) => start_at(octets, order, place + bits, rows),
+}
+
+/// The number of 0 bits of what is found at a place where an EOL may come; 0 where none is.
+fn zeros_in(octets: &[u8], order: Order, place: u128, eol: Eol) -> u128
+    requires place { place ≤ 8 * length octets.now }
+    requires eol { SeesEol (drop place (bits_of order octets.now)) eol }
+    ensures { AreZerosBefore (bits_of order octets.now) place result }
+{
+    match eol {
+        Eol::Present(bits) => bits - 1,
+        Eol::Absent => 0,
+        Eol::OnlyZeros => 8 * octets.len() as u128 - place,
+    }
+}
+
+/// What is found after an EOL at a row's place.
+fn start_after_eol(
+    octets: &[u8],
+    order: Order,
+    to: &RowPlace,
+    bits: u128,
+    passed: &mut PassedRow,
+) -> Start
+    requires within { to.now.at ≤ 8 * length octets.now }
+    requires eol { SeesEol (drop to.now.at (bits_of order octets.now)) (Eol.Present bits) }
+    requires passed { IsPassedRow to.now.width to.now.rows (drop to.now.at (bits_of order octets.now)) passed.old }
+    ensures sees { SeesStart (bits_of order octets.now) (to.now.at + bits) to.now.rows result }
+    ensures passed { IsPassedRow to.now.width to.now.rows (drop to.now.at (bits_of order octets.now)) passed.new }
+{
+    let place = to.at + bits;
+    let zeros = bits - 1;
+    let known = passed.known_after(zeros);
+    let eol = eol_after(octets, order, place, known);
+    passed.zeros = zeros;
+    passed.after = zeros_in(octets, order, place, eol);
+    start_by(octets, order, place, to.rows, eol)
+}
+
+/// What is found after these rows: the next row's first code, the page's end or a refusal. Keeps how many 0 bits were passed.
+fn start_after(octets: &[u8], order: Order, to: &RowPlace, passed: &mut PassedRow) -> Start
+    requires within { to.now.at ≤ 8 * length octets.now }
+    requires few { to.now.rows ≤ max_rows }
+    requires passed { IsPassedRow to.now.width to.now.rows (drop to.now.at (bits_of order octets.now)) passed.old }
+    ensures finds { FindsStart (bits_of order octets.now) to.now.at to.now.rows result }
+    ensures within { IsStartWithin to.now.at (8 * length octets.now) to.now.rows result }
+    ensures passed { IsPassedRow to.now.width to.now.rows (drop to.now.at (bits_of order octets.now)) passed.new }
+{
+    if to.rows < MAX_ROWS {
+        if let Some(bits) = quick_eol(octets, order, to.at) {
+            return Start::Row(to.at + bits as u128);
+        }
+    }
+    let eol = eol_after(octets, order, to.at, passed.zeros);
+    match eol {
+        Eol::Present(bits) => start_after_eol(octets, order, to, bits, passed),
         Eol::Absent => {
-            if rows == 0 {
-                Start::Row(place)
+            if to.rows == 0 {
+                Start::Row(to.at)
             } else {
-                Start::Refused(CodeFault::new(place, CodeFaultKind::BadCode))
+                Start::Refused(CodeFault::new(to.at, CodeFaultKind::BadCode))
             }
         }
         Eol::OnlyZeros => {
-            if rows == 0 {
-                Start::Refused(CodeFault::new(place, CodeFaultKind::NoRows))
+            passed.zeros = zeros_in(octets, order, to.at, eol);
+            passed.after = 0;
+            if to.rows == 0 {
+                Start::Refused(CodeFault::new(to.at, CodeFaultKind::NoRows))
             } else {
-                Start::End(place)
+                Start::End(to.at)
             }
+        }
+    }
+}
+
+/// Passes the whole runs that come after these, and returns the place after them and the refusal of the row; none if the row ends there.
+fn pass_runs(
+    octets: &[u8],
+    order: Order,
+    to: &RowPlace,
+    before: RunsBefore,
+) -> Option<(RunsBefore, CodeFault)>
+    requires within { to.now.at ≤ 8 * length octets.now }
+    requires few { to.now.rows ≤ max_rows }
+    requires width { IsWidth to.now.width }
+    requires runs { AreRunsPassed to.now.width to.now.rows (drop to.now.at (bits_of order octets.now)) before }
+    ensures passed { IfSome result (λ passed. AreRunsPassed to.now.width to.now.rows (drop to.now.at (bits_of order octets.now)) passed.0) }
+    ensures refused { IfSome result (λ passed. IsFoundRefused (bits_of order octets.now) to.now passed.1) }
+{
+    let mut passed = before;
+    let mut reader = BitReader::at(octets, order, to.at + passed.at);
+    loop {
+        match reader.read_run_within(passed.color, passed.left, CodeFaultKind::RunTooLong) {
+            Ok(run) => {
+                if run == passed.left {
+                    return None;
+                }
+                passed = RunsBefore {
+                    at: reader.place() - to.at,
+                    color: passed.color.other(),
+                    left: passed.left - run,
+                };
+            }
+            Err(fault) => return Some((passed, fault)),
         }
     }
 }
@@ -72,22 +168,61 @@ fn read_row_there(
     }
 }
 
-/// The next row, the page's end or a refusal, counted from the beginning of the octets.
+/// As `next_row`, of a row that isn't known to be open.
+fn read_new_row(
+    alloc: Global,
+    octets: &[u8],
+    order: Order,
+    to: &mut RowPlace,
+    list: &mut Vec<u32>,
+    passed: &mut PassedRow,
+) -> Result<NextRow, AllocError>
+    requires within { to.old.at ≤ 8 * length octets.now }
+    requires few { to.old.rows ≤ max_rows }
+    requires width { IsWidth to.old.width }
+    requires passed { IsPassedRow to.old.width to.old.rows (drop to.old.at (bits_of order octets.now)) passed.old }
+    ensures finds { (before : List Color) → FindsNext Coding.OneDim (bits_of order octets.now) to.old to.new before before result }
+    ensures passed { IsPassedRow to.old.width to.old.rows (drop to.old.at (bits_of order octets.now)) passed.new }
+{
+    match start_after(octets, order, to, passed) {
+        Start::Row(place) => {
+            // a row is most often whole with the next octets, and is passed only if it isn't
+            if passed.tried {
+                passed.runs = Some(RunsBefore {
+                    at: place - to.at,
+                    color: Color::White,
+                    left: to.width,
+                });
+            }
+            passed.tried = true;
+            read_row_there(alloc, octets, order, place, to, list)
+        }
+        Start::End(used) => Ok(NextRow::End(used)),
+        Start::Refused(fault) => Ok(NextRow::Refused(fault)),
+    }
+}
+
+/// The next row, the page's end or a refusal, counted from the beginning of the octets. Keeps what was passed of a row that isn't whole.
 pub(crate) fn next_row(
     alloc: Global,
     octets: &[u8],
     order: Order,
     to: &mut RowPlace,
     list: &mut Vec<u32>,
+    passed: &mut PassedRow,
 ) -> Result<NextRow, AllocError>
     requires within { to.old.at ≤ 8 * length octets.now }
     requires few { to.old.rows ≤ max_rows }
     requires width { IsWidth to.old.width }
-    ensures { (before : List Color) → FindsNext Coding.OneDim (bits_of order octets.now) to.old to.new before before result }
+    requires passed { IsPassedRow to.old.width to.old.rows (drop to.old.at (bits_of order octets.now)) passed.old }
+    ensures finds { (before : List Color) → FindsNext Coding.OneDim (bits_of order octets.now) to.old to.new before before result }
+    ensures passed { IsPassedRow to.old.width to.old.rows (drop to.old.at (bits_of order octets.now)) passed.new }
 {
-    match start_after(octets, order, to.at, to.rows) {
-        Start::Row(place) => read_row_there(alloc, octets, order, place, to, list),
-        Start::End(used) => Ok(NextRow::End(used)),
-        Start::Refused(fault) => Ok(NextRow::Refused(fault)),
+    if let Some(runs) = passed.runs {
+        if let Some((more, fault)) = pass_runs(octets, order, to, runs) {
+            passed.runs = Some(more);
+            return Ok(NextRow::Refused(fault));
+        }
     }
+    read_new_row(alloc, octets, order, to, list, passed)
 }

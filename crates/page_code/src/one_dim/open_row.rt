@@ -36,7 +36,7 @@ pub(crate) enum OpenRow {
 }
 
 /// The number of 0 bits before the first 1 from a place on, `known` of which were seen before; none if there is no 1.
-fn zeros_after(octets: &[u8], order: Order, place: u128, known: u128) -> Option<u128>
+pub(crate) fn zeros_after(octets: &[u8], order: Order, place: u128, known: u128) -> Option<u128>
     requires place { place ≤ 8 * length octets.now }
     requires known { AreZerosBefore (bits_of order octets.now) place known }
     ensures zeros { result ≡ zeros_before (drop place (bits_of order octets.now)) }

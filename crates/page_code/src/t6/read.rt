@@ -117,10 +117,11 @@ pub(crate) fn is_stuck(octets: &[u8], order: Order, to: &Progress) -> bool
     true
 }
 
-/// What is found at a place where a row may begin, after `rows` rows, looked for in all ways.
+/// What is found at a place where a row may begin, after `rows` rows, looked for in all ways; `zeros` says whether only 0 bits are left.
 #[cold]
 #[inline(never)]
-fn start_anyhow(reader: &BitReader, rows: usize) -> Start
+fn start_by(reader: &BitReader, rows: usize, zeros: bool) -> Start
+    requires { zeros ≡ all_zero (rest_of reader.now) }
     ensures { SeesStart (rest_of reader.now) rows result }
 {
     // in this order: EOFB, only 0 bits or nothing, the beginning of EOFB, a row. So no octets at all are `MissingEofb`, and 20,000 rows
@@ -131,7 +132,7 @@ fn start_anyhow(reader: &BitReader, rows: usize) -> Start
         }
         return Start::End;
     }
-    if only_zeros(reader) {
+    if zeros {
         return Start::Refused(CodeFaultKind::MissingEofb);
     }
     if reader.is_cut_of(EOFB) {
@@ -153,7 +154,8 @@ fn start_at(reader: &BitReader, rows: usize) -> Start
         return Start::Row;
     }
     let ahead = reader.look_ahead();
-    start_anyhow(&ahead, rows)
+    let zeros = only_zeros(&ahead);
+    start_by(&ahead, rows, zeros)
 }
 
 /// Whether the bits that are left are the beginning of a mode code.

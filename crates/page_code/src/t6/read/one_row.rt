@@ -1,19 +1,49 @@
 //! One row of a page in the two-dimensional code, at a place in bits (ITU-T T.6, 2.2).
 
+ghost use Rattle.page_code.specs.PassedRows.{IsPassedRow};
 ghost use Rattle.page_code.specs.RowReaders.{FindsNext};
+ghost use Rattle.page_code.specs.TwoDimensions.Reading.{SeesStart};
 ghost use Rattle.raster.specs.Packed.{bits_of};
 ghost use Rattle.raster.specs.Pages.{max_rows};
 ghost use Rattle.raster.specs.Pixels.{IsWidth};
-ghost use Rattle.std.specs.Prelude.{◌≤◌, ◌*◌, length};
+ghost use Rattle.run_tables.specs.Reading.{rest_of};
+ghost use Rattle.std.specs.Prelude.{◌≡◌, ◌≤◌, ◌*◌, drop, length};
 
+use crate::one_dim::open_row::zeros_after;
 use crate::page_rows::{NextRow, RowPlace, refused};
+use crate::passed_row::PassedRow;
 use crate::t6::lines::Lines;
 use crate::t6::mode::EOFB;
-use crate::t6::read::{Start, read_row, start_at};
-use raster::Coding;
+use crate::t6::read::{Start, begins_row, read_row, start_by};
 use raster::packed::Order;
+use raster::{Coding, MAX_ROWS};
 use run_tables::{BitReader, CodeFault};
 use std::alloc::{AllocError, Global};
+
+/// What is found after these rows, as `start_at` finds it. Keeps how many 0 bits were passed.
+#[inline(always)]
+fn start_after(
+    octets: &[u8],
+    order: Order,
+    reader: &BitReader,
+    to: &RowPlace,
+    passed: &mut PassedRow,
+) -> Start
+    requires within { to.now.at ≤ 8 * length octets.now }
+    requires reader { reader.now ≡ record { bits = bits_of order octets.now; place = to.now.at } }
+    requires passed { IsPassedRow to.now.width to.now.rows (drop to.now.at (bits_of order octets.now)) passed.old }
+    ensures sees { SeesStart (rest_of reader.now) to.now.rows result }
+    ensures passed { IsPassedRow to.now.width to.now.rows (drop to.now.at (bits_of order octets.now)) passed.new }
+{
+    let row = begins_row(reader);
+    if row && to.rows < MAX_ROWS {
+        return Start::Row;
+    }
+    let zeros = zeros_after(octets, order, to.at, passed.zeros);
+    passed.zeros = zeros.unwrap_or(8 * octets.len() as u128 - to.at);
+    passed.after = 0;
+    start_by(reader, to.rows, zeros.is_none())
+}
 
 /// The next row after the reference line of these lines, the page's end or a refusal, counted from the beginning of the
 /// octets.
@@ -23,14 +53,17 @@ pub(crate) fn next_row(
     order: Order,
     to: &mut RowPlace,
     lines: &mut Lines,
+    passed: &mut PassedRow,
 ) -> Result<NextRow, AllocError>
     requires within { to.old.at ≤ 8 * length octets.now }
     requires few { to.old.rows ≤ max_rows }
     requires width { IsWidth to.old.width }
-    ensures { FindsNext Coding.T6 (bits_of order octets.now) to.old to.new lines.old.reference lines.new.reference result }
+    requires passed { IsPassedRow to.old.width to.old.rows (drop to.old.at (bits_of order octets.now)) passed.old }
+    ensures passed { IsPassedRow to.old.width to.old.rows (drop to.old.at (bits_of order octets.now)) passed.new }
+    ensures finds { FindsNext Coding.T6 (bits_of order octets.now) to.old to.new lines.old.reference lines.new.reference result }
 {
     let mut reader = BitReader::at(octets, order, to.at);
-    match start_at(&reader, to.rows) {
+    match start_after(octets, order, &reader, to, passed) {
         Start::Row => {}
         Start::End => return Ok(NextRow::End(to.at + EOFB.len() as u128)),
         Start::Refused(kind) => return Ok(NextRow::Refused(CodeFault::new(to.at, kind))),

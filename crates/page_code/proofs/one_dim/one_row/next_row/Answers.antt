@@ -1,42 +1,10 @@
-use Rattle.std.proofs.Common.{◌≡◌, ◌≤◌, ◌*◌, length, refl, sym, subst}
-use Rattle.raster.specs.Packed.{bits_of}
-use Rattle.raster.proofs.PackedLemmas.{length-bits_in}
-use Rattle.page_code.specs.declared.one_dim.Start.TheVariants.{Row}
-use Rattle.page_code.specs.RowReaders.{IsStartWithin}
-use Rattle.page_code.proofs.RowReaders.{end_found, next_there, start_refused}
+use Rattle.std.proofs.Common.{refl}
 use Rattle.page_code.proofs.one_dim.one_row.next_row.Goals as goal
 
-pub returns-in-Row : goal.returns-in-Row
-returns-in-Row c =
-    let held = bits_of c.args.order c.args.octets.now in
-    let size : 8 * length c.args.octets.now ≡ length held = sym (length-bits_in c.args.order c.args.octets.now (8 * length
-    c.args.octets.now)) in
-    let within = subst (λ n. IsStartWithin c.args.to.now.at n c.args.to.now.rows (Row c.in-Row.place)) size c.in-Row.ensures.within in
-    λ before. next_there held c.args.to.now c.read_row_there.new.to c.in-Row.place c.read_row_there.result c.requires.width c.requires.few
-    c.in-Row.ensures.finds within c.read_row_there.ensures before
-
-pub returns-in-End : goal.returns-in-End
-returns-in-End c =
-    let held = bits_of c.args.order c.args.octets.now in
-    let size : 8 * length c.args.octets.now ≡ length held = sym (length-bits_in c.args.order c.args.octets.now (8 * length
-    c.args.octets.now)) in
-    λ before. (
-      refl,
-      refl,
-      subst (λ n. c.in-End.used ≤ n) size c.in-End.ensures.within,
-      λ rows bits far on. end_found held c.args.to.now before c.requires.width c.requires.few rows bits far on c.in-End.used
-          c.in-End.ensures.finds,
-    )
-
-pub returns-in-Refused : goal.returns-in-Refused
-returns-in-Refused c =
-    let held = bits_of c.args.order c.args.octets.now in
-    let size : 8 * length c.args.octets.now ≡ length held = sym (length-bits_in c.args.order c.args.octets.now (8 * length
-    c.args.octets.now)) in
-    λ before. (
-      refl,
-      refl,
-      subst (λ n. c.in-Refused.fault.place ≤ n) size c.in-Refused.ensures.within,
-      λ rows bits far on. start_refused held c.args.to.now before c.requires.width c.requires.few rows bits far on c.in-Refused.fault
-          c.in-Refused.ensures.finds,
-    )
+pub returns-in-Some-pass_runs-clause-finds : goal.returns-in-Some-pass_runs-clause-finds
+returns-in-Some-pass_runs-clause-finds c = λ before. (
+  refl,
+  refl,
+  c.in-Some-pass_runs.ensures.refused.0,
+  λ rows bits far on. c.in-Some-pass_runs.ensures.refused.1 before rows bits far on,
+)
