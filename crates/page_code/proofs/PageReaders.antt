@@ -162,16 +162,25 @@ pub begins : (coding : Coding) (order : Order) (width : ℕ) (fine : Bool) (prog
     → progress ≡ record { page = record { width = width; fine = fine; rows = [] }; place = 0 } → turned ≡ []
     → StandsFor (reading_of coding order progress (Zeros 0) 0 turned) []
 begins coding order width fine progress turned wide is none = rw none (subst (λ (p : Progress). StandsFor
-    (reading_of coding order p (Zeros 0) 0 []) []) (sym is) (stands_for_none (reading_of coding order (record { page = record { width = width; fine = fine; rows = [] }; place = 0 }) (Zeros 0) 0 [])
-    wide refl refl refl refl refl))
+    (reading_of coding order p (Zeros 0) 0 []) []) (sym is) (stands_for_none (reading_of coding order (record {
+      page = record {
+        width =
+            width;
+        fine = fine;
+        rows = [];
+      };
+      place = 0;
+    }) (Zeros 0) 0 []) wide refl refl refl refl refl))
 
 module _ (coding : Coding) (order : Order) (old : Progress) (passed : OpenRow) (count : ℕ) (kept : List ℕ) (now : PageReading)
     (view : reading_of coding order old passed count kept ≡ now) where
   pub reads_from : (all : List ℕ) → GoesOnTo now all → IsReadTo coding old.page.width (bits_of order all) old.page.rows old.place
-  reads_from all on = goes_on_to (reading_of coding order old passed count kept) all (subst (λ (r : PageReading). GoesOnTo r all) (sym view) on)
+  reads_from all on = goes_on_to (reading_of coding order old passed count kept) all (subst (λ (r : PageReading). GoesOnTo r all) (sym
+      view) on)
 
   pub keeps_from : (all : List ℕ) → GoesOnTo now all → AreTurned kept all
-  keeps_from all on = keeps_of_all (reading_of coding order old passed count kept) all (subst (λ (r : PageReading). GoesOnTo r all) (sym view) on)
+  keeps_from all on = keeps_of_all (reading_of coding order old passed count kept) all (subst (λ (r : PageReading). GoesOnTo r all) (sym
+      view) on)
 
   pub passed_from : (all : List ℕ) → GoesOnTo now all
       → IsPassed coding old.page.width (bits_of order all) old.page.rows old.place passed
@@ -214,10 +223,12 @@ module _ (coding : Coding) (order : Order) (old : Progress) (passed : OpenRow) (
       (is : fresh ≡ record { page = record { width = width; fine = fine; rows = [] }; place = 0 })
       (width_is : width ≡ old.page.width) (fine_is : fine ≡ old.page.fine) where
     pub fresh_like : (n : ℕ) → IsLike now (reading_of coding order fresh (Zeros 0) n turned)
-    fresh_like n = is_like fresh (Zeros 0) n turned (ap (λ (p : Progress). p.page.width) is ∙ width_is) (ap (λ (p : Progress). p.page.fine) is ∙ fine_is)
+    fresh_like n = is_like fresh (Zeros 0) n turned (ap (λ (p : Progress). p.page.width) is ∙ width_is) (ap (λ (p : Progress).
+        p.page.fine) is ∙ fine_is)
 
     pub stands_still : StandsAsBefore now (reading_of coding order fresh (Zeros 0) count turned)
-    stands_still = stands_again now (reading_of coding order fresh (Zeros 0) count turned) (fresh_like count) (ap (λ (p : Progress). p.page.rows) is) (ap (λ
+    stands_still = stands_again now (reading_of coding order fresh (Zeros 0) count turned) (fresh_like count) (ap (λ (p : Progress).
+        p.page.rows) is) (ap (λ
         (p : Progress). p.place) is) (ap (λ (r : PageReading). r.count) view) none refl
 
     pub stands_empty : IsWidth old.page.width → StandsFor (reading_of coding order fresh (Zeros 0) 0 turned) []

@@ -57,7 +57,8 @@ rows_before coding bits old new fault wide differs (inr on) = record {
 
 -- what a reader reads octets as
 pub read_now : (coding : Coding) (order : Order) (old : Progress) (passed : OpenRow) (count : ℕ) (kept : List ℕ) (now : PageReading)
-    → reading_of coding order old passed count kept ≡ now → (all : List ℕ) (read : PageRead) → IsRead coding old.page.width old.page.fine (bits_of order all) read
+    → reading_of coding order old passed count kept ≡ now → (all : List ℕ) (read : PageRead) → IsRead coding old.page.width old.page.fine
+    (bits_of order all) read
     → IsRead now.coding now.page.width now.page.fine (bits_of now.order all) read
 read_now coding order old passed count kept now view all read is =
     subst (λ (r : PageReading). IsRead r.coding r.page.width r.page.fine (bits_of r.order all) read) view is

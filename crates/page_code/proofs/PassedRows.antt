@@ -1,5 +1,6 @@
 -- What a reader of rows passed of its next row: it comes in more bits too, and where no run goes on, the page is refused.
-use Rattle.std.proofs.Common.{ℕ, zero, suc, ◌≡◌, ◌≢◌, ◌+◌, ◌*◌, ◌-◌, ◌<◌, ◌≤◌, Bool, true, false, List, [], ◌∷◌, ◌++◌, length, drop, take, replicate}
+use Rattle.std.proofs.Common.{ℕ, zero, suc, ◌≡◌, ◌≢◌, ◌+◌, ◌*◌, ◌-◌, ◌<◌, ◌≤◌, Bool, true, false, List, [], ◌∷◌, ◌++◌, length, drop, take}
+use Rattle.std.proofs.Common.{replicate}
 use Rattle.std.proofs.Common.{Some, None, refl, ap, sym, ◌∙◌, subst, arith, length-append, append_assoc, drop-drop, take-append-drop}
 use Rattle.std.specs.Prelude.{Option, IfSome, Ok, Err, is_none, is_some, not}
 use Rattle.std.specs.Option.{option_map}

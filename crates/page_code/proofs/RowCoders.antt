@@ -52,7 +52,8 @@ rows_of-none : (coding : Coding) (width : ℕ) → [] ≡ rows_of coding width [
 rows_of-none OneDim width = refl
 rows_of-none T6 width = refl
 
-code_of-end : (coding : Coding) (width : ℕ) (rows : List (List Color)) → code_of coding width rows ≡ rows_of coding width rows ++ end_of coding
+code_of-end : (coding : Coding) (width : ℕ) (rows : List (List Color)) → code_of coding width rows ≡ rows_of coding width rows ++ end_of
+    coding
 unfolding code_of page_code
 code_of-end OneDim width rows = refl
 code_of-end T6 width rows = refl

@@ -1,6 +1,8 @@
 -- A reader of pages row by row: what is found in the bits at hand is found in all bits of the page.
-use Rattle.std.proofs.Common.{ltb, ℕ, suc, ◌≡◌, ◌≢◌, ◌+◌, ◌*◌, ◌<◌, ◌≤◌, Bool, true, false, List, [], ◌∷◌, ◌++◌, length, drop, replicate, ◌-◌}
-use Rattle.std.proofs.Common.{Some, None, inl, inr, refl, ap, sym, ◌∙◌, subst, arith, cond, append_assoc, drop-drop, length-append, take, take-append-drop}
+use Rattle.std.proofs.Common.{ltb, ℕ, suc, ◌≡◌, ◌≢◌, ◌+◌, ◌*◌, ◌<◌, ◌≤◌, Bool, true, false, List, [], ◌∷◌, ◌++◌, length, drop, replicate}
+use Rattle.std.proofs.Common.{◌-◌}
+use Rattle.std.proofs.Common.{Some, None, inl, inr, refl, ap, sym, ◌∙◌, subst, arith, cond, append_assoc, drop-drop, length-append, take}
+use Rattle.std.proofs.Common.{take-append-drop}
 use Rattle.std.specs.Prelude.{Option, Result, Ok, Err, ◌⊎◌}
 use Rattle.std.proofs.lemmas.List.{length-drop, length-replicate, drop_at, length-take, length_push}
 use Rattle.raster.specs.declared.packed.Order.{Order}
@@ -370,8 +372,8 @@ refused_within held before at place kind within reads =
     let x : List Bool = drop at held in
     let h = halts page_item_word (RowStep (length before)) (row_look (length before)) BadCode (row_finds (length before)) (suc (length x)) s
     at x (omega arith) in
-    let answer = refuses (row_look (length before) h.end h.rest) (at + length (spell page_item_word h.items)) place kind (rw (reads page refl)
-    at h.answers) in
+    let answer = refuses (row_look (length before) h.end h.rest) (at + length (spell page_item_word h.items)) place kind (rw (reads page
+    refl) at h.answers) in
     omega (
       arith,
       answer.1,
@@ -429,7 +431,8 @@ module _ (held : List Bool) (to : RowPlace) (before : List Color) (wide : IsWidt
     sees_there = subst (λ (r : Reading). SeesRow (rest_of r) to.rows t6_start.Row) reader_is sees
 
     pub row_next : (E : Type 0) → (after : Reading) (following row : List Color) → ReadsRow before reader after (Ok row)
-        → following ≡ row → FindsNext {E = E} T6 held to (record { width = to.width; rows = to.rows + 1; at = after.place }) before following
+        → following ≡ row → FindsNext {E = E} T6 held to (record { width = to.width; rows = to.rows + 1; at = after.place }) before
+        following
         (Ok (next.Row row))
     row_next E after following row reads is =
         let there : ReadsRow before (record { bits = held; place = to.at }) after (Ok row) = subst (λ (r : Reading). ReadsRow before r after

@@ -2,7 +2,8 @@
 use Rattle.std.proofs.Common.{ℕ, ◌≡◌, ◌≤◌, ◌<◌, ◌+◌, ◌-◌, ◌*◌, ◌/◌, ◌%◌, ◌∙◌, ◌++◌, List, ap, arith, drop, length, map}
 use Rattle.std.proofs.Common.{nat_eq, refl, slice_index, sym, take, true, inl, inr}
 use Rattle.std.proofs.Math.Seq.{drop-append_seam, take-append_seam}
-use Rattle.std.proofs.lemmas.List.{get_or-map, length-append, length-drop, length-map, length-take, map-append, take-append-drop, take-append-le, take_all}
+use Rattle.std.proofs.lemmas.List.{get_or-map, length-append, length-drop, length-map, length-take, map-append, take-append-drop}
+use Rattle.std.proofs.lemmas.List.{take-append-le, take_all}
 use Rattle.std.proofs.lemmas.Bool.{cases_lt}
 use Rattle.std.specs.Int.{bit_at}
 use Rattle.std.proofs.lemmas.List.FromFn.{fill_by_all, get_or-map-range_with_len, length-map-range_with_len}

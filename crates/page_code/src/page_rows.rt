@@ -164,8 +164,8 @@ impl Model for RowReader {
       within : reader.place.at ≤ 8 * length (drop reader.gone reader.held.items);
       few : length (drop reader.gone reader.held.items) ≤ max_held;
       start : reader.start + reader.place.at ≤ reader.place.rows * (8 * max_held);
-      passed : IsPassedRow reader.place.width reader.place.rows (drop reader.place.at (bits_of reader.order (drop reader.gone reader.held.items)))
-          reader.lists.passed;
+      passed : IsPassedRow reader.place.width reader.place.rows
+          (drop reader.place.at (bits_of reader.order (drop reader.gone reader.held.items))) reader.lists.passed;
     } };
 }
 

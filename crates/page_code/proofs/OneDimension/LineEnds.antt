@@ -18,7 +18,8 @@ use Rattle.run_tables.specs.Texts.{begins}
 use Rattle.run_tables.proofs.BeginsLemmas.{begins_own, begins_split}
 use Rattle.run_tables.proofs.NumberLemmas.{begins_within}
 use Rattle.std.proofs.lemmas.Bool.{false≢true}
-use Rattle.page_code.specs.OneDimension.Repairs.{EndsAfterWhite, EndsInBlack, EndsLine, EndsPage, EndsRow, EolEndsAfter, IsFirstLine, IsSkipped}
+use Rattle.page_code.specs.OneDimension.Repairs.{EndsAfterWhite, EndsInBlack, EndsLine, EndsPage, EndsRow, EolEndsAfter, IsFirstLine}
+use Rattle.page_code.specs.OneDimension.Repairs.{IsSkipped}
 use Rattle.page_code.specs.OneDimension.Repairing.{FindsEnd, FindsRowEnd}
 use Rattle.page_code.proofs.OneDimension.ZerosBefore.{zeros_eol, zeros_split, none_zeros, zeros_none, length-eol}
 

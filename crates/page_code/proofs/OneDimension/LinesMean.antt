@@ -1,5 +1,6 @@
 -- When lines end, where reading goes on, and where the first line begins, by bits.
-use Rattle.std.proofs.Common.{ℕ, zero, suc, ◌≡◌, ◌+◌, ◌-◌, ◌<◌, ◌≤◌, Bool, true, false, List, [], ◌∷◌, ◌++◌, drop, inl, inr, refl, ap, sym, ◌∙◌, subst, arith}
+use Rattle.std.proofs.Common.{ℕ, zero, suc, ◌≡◌, ◌+◌, ◌-◌, ◌<◌, ◌≤◌, Bool, true, false, List, [], ◌∷◌, ◌++◌, drop, inl, inr, refl, ap}
+use Rattle.std.proofs.Common.{sym, ◌∙◌, subst, arith}
 use Rattle.std.specs.Prelude.{Some, codes, slice_set}
 use Rattle.raster.specs.Words.{number_bits}
 use Rattle.raster.specs.declared.row.Color.{Color}
@@ -22,7 +23,8 @@ set_bit (suc place) more rest =
     let same : suc place + suc more ≡ suc (place + suc more) = omega arith in
     ap (λ (n : ℕ). slice_set (eol_word n ++ rest) (suc place) true) same ∙ ap (λ (bits : List Bool). false ∷ bits) (set_bit place more rest)
 
-is_torn : (count place : ℕ) (rest : List Bool) → 11 ≤ count → place < 11 → TornEolOf (slice_set (eol_word count ++ rest) place true) (count + 1)
+is_torn : (count place : ℕ) (rest : List Bool) → 11 ≤ count → place < 11 → TornEolOf (slice_set (eol_word count ++ rest) place true)
+    (count + 1)
 is_torn count place rest long early =
     let whole : place + suc (count - place - 1) ≡ count = omega (arith, long, early) in (
       place,

@@ -1,5 +1,6 @@
 -- The row after the whole rows of a one-dimensional page, as far as its bits have come.
-use Rattle.std.proofs.Common.{ℕ, zero, suc, ◌≡◌, ◌≢◌, ◌+◌, ◌-◌, ◌*◌, ◌<◌, ◌≤◌, Bool, true, false, List, [], ◌∷◌, ◌++◌, length, drop, replicate}
+use Rattle.std.proofs.Common.{ℕ, zero, suc, ◌≡◌, ◌≢◌, ◌+◌, ◌-◌, ◌*◌, ◌<◌, ◌≤◌, Bool, true, false, List, [], ◌∷◌, ◌++◌, length, drop}
+use Rattle.std.proofs.Common.{replicate}
 use Rattle.std.proofs.Common.{ltb, Some, None, inl, inr, refl, ap, sym, ◌∙◌, subst, arith, length-append, append_assoc}
 use Rattle.std.specs.Prelude.{Option, unwrap_or, Ok, Err, slice_index_or, ◌↔◌}
 use Rattle.std.specs.Option.{option_map}
@@ -105,7 +106,8 @@ only_zeros (false ∷ x) is = ap (λ (l : List Bool). false ∷ l) (only_zeros x
     after (Some m) is e = cc
 
 -- the 0 bits that were passed: those before a 1, or all bits
-pub zeros_passed : (order : Order) (octets : List ℕ) (place : ℕ) (zeros : Option ℕ) → zeros ≡ zeros_before (drop place (bits_of order octets))
+pub zeros_passed : (order : Order) (octets : List ℕ) (place : ℕ) (zeros : Option ℕ) → zeros ≡ zeros_before (drop place (bits_of order
+    octets))
     → AreZerosBefore (bits_of order octets) place (unwrap_or zeros (8 * length octets - place))
 zeros_passed order octets place None is =
     let left : List Bool = drop place (bits_of order octets) in

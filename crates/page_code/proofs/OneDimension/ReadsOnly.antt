@@ -245,7 +245,8 @@ item_left width (row_end rows) (coded code) t x page used h step rest = absurd s
 
 -- The end
 
-pub never_stops : (width : ℕ) (rows : List (List Color)) (pixels : List Color) (color : Color) (makeup : Option ℕ) (x : List Bool) (page : List
+pub never_stops : (width : ℕ) (rows : List (List Color)) (pixels : List Color) (color : Color) (makeup : Option ℕ) (x : List Bool)
+    (page : List
     (List Color)) (n : ℕ) → look_in_row width rows pixels color makeup x ≡ stop page n → ⊥
 never_stops width rows pixels color makeup x page n e = code_goes coded (λ row. put rows (whole row)) (λ more next high. put rows (inside
     more next high)) width pixels color makeup x page n e

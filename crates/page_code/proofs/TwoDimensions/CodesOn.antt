@@ -31,7 +31,8 @@ use Rattle.page_code.specs.TwoDimensions.Writing.{IsCodedTo, WritesMode, line_to
 use Rattle.page_code.proofs.TwoDimensions.ChangeLists.{at_held, turned_even, turned_odd, two_held}
 use Rattle.page_code.proofs.TwoDimensions.Lines.{ends_held, found_first}
 use Rattle.page_code.proofs.TwoDimensions.Lines.{turned_even as after_even, turned_odd as after_odd}
-use Rattle.page_code.proofs.TwoDimensions.WritesMode.{appends_on, line_code_on, moved_stands, row_end, straight, wrote_horizontal, wrote_pass, wrote_vertical}
+use Rattle.page_code.proofs.TwoDimensions.WritesMode.{appends_on, line_code_on, moved_stands, row_end, straight, wrote_horizontal}
+use Rattle.page_code.proofs.TwoDimensions.WritesMode.{wrote_pass, wrote_vertical}
 
 -- ---- a number of 1 bits
 
@@ -380,7 +381,8 @@ module _ (above places : List ℕ) (width : ℕ) (front : Front) (fits : FitsCod
       (omega (arith, agrees, fits.ended.ended.rising at (at + 1) (omega arith) found.within))
       (straight (slice_index_or above at 0) there (sym agrees))
 
-  mid_found : there < width → slice_index_or above (at + 1) 0 ≡ slice_index_or places (front.turns + 1) 0 → IsFoundAt above (there + 1) (at + 1)
+  mid_found : there < width → slice_index_or above (at + 1) 0 ≡ slice_index_or places (front.turns + 1) 0 → IsFoundAt above (there + 1)
+      (at + 1)
   mid_found less next = record {
     within = omega (
       arith,

@@ -43,7 +43,8 @@ seven y n is = counted (zeros_before y) refl
   where
     counted : (o : _) → zeros_before y ≡ o → 7 ≤ n
     counted None none =
-        let all : zeros_before (replicate 7 false ++ y) ≡ None = rw none refl in absurd (none_some (zeros_before (replicate 7 false ++ y)) n all is)
+        let all : zeros_before (replicate 7 false ++ y) ≡ None = rw none refl in absurd (none_some (zeros_before (replicate 7 false ++
+        y)) n all is)
     counted (Some m) some =
         let all : zeros_before (replicate 7 false ++ y) ≡ Some (suc (suc (suc (suc (suc (suc (suc m))))))) = rw some refl in
         let same : n ≡ suc (suc (suc (suc (suc (suc (suc m)))))) = same_count (zeros_before (replicate 7 false ++ y)) n (suc (suc (suc (suc

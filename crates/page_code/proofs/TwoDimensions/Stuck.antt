@@ -37,7 +37,8 @@ zeros_seen : (width : ℕ) (page : PageSoFar) (rest : List Bool)
 unfolding look_mode
 zeros_seen width page rest = seen (all_zero rest) (nat_lt (length page.rows) 20000)
   where
-    seen : (none room : Bool) → ◌≡◌ {A = PageLook} (cond none (refuse MissingEofb) (cond room (look_mode width page line_begin (replicate 24 false ++ rest))
+    seen : (none room : Bool) → ◌≡◌ {A = PageLook} (cond none (refuse MissingEofb) (cond room (look_mode width page line_begin (replicate
+        24 false ++ rest))
         (refuse TooManyCodedRows))) (refuse (why none room))
     seen true room = refl
     seen false true = refl

@@ -7,7 +7,8 @@ use Rattle.page_code.specs.declared.one_dim.repair.Found.{Found}
 use Rattle.page_code.specs.declared.one_dim.repair.Found.TheVariants.{Read, Broken}
 use Rattle.page_code.specs.declared.one_dim.repair.Lines.{Lines}
 use Rattle.page_code.specs.declared.one_dim.repair.RepairedPage.{RepairedPage}
-use Rattle.page_code.specs.OneDimension.Repairs.{EndsLine, EndsRow, HasMoreLines, IsLine, IsReadFor, IsRepair, Line, given, last_row, listed}
+use Rattle.page_code.specs.OneDimension.Repairs.{EndsLine, EndsRow, HasMoreLines, IsLine, IsReadFor, IsRepair, Line, given, last_row}
+use Rattle.page_code.specs.OneDimension.Repairs.{listed}
 use Rattle.page_code.specs.OneDimension.Repairs.Line.{spelled}
 
 -- the place after a line's end at a place, if a line ends there

@@ -16,9 +16,9 @@ returns-clause-ok c =
       | else-is_err w ↦
           on_ok_weaker c.write_page-done.result
           (λ appends.
-          appended c.args.order (code_of c.args.coding c.args.page.now.width c.args.page.now.rows) c.args.out.now.items c.into_octets.result.items
-          c.in_ok-bits.bits c.write_page-done.new.bits old new c.in_ok-bits.ensures.ok appends (rw w.bits-is at c.into_octets.ensures))
-          c.write_page-done.ensures.ok
+          appended c.args.order (code_of c.args.coding c.args.page.now.width c.args.page.now.rows) c.args.out.now.items
+          c.into_octets.result.items c.in_ok-bits.bits c.write_page-done.new.bits old new c.in_ok-bits.ensures.ok appends (rw w.bits-is
+          at c.into_octets.ensures)) c.write_page-done.ensures.ok
     ]
 
 pub returns-clause-err : goal.returns-clause-err

@@ -13,7 +13,8 @@ returns-then-rows-eq0 c = rw c.new-then-rows-eq0.ensures (sees_none (bits_of c.a
     c.if-rows-eq0.true (rw c.in-OnlyZeros.is at c.requires.eol))
 
 pub returns-else-rows-eq0 : goal.returns-else-rows-eq0
-returns-else-rows-eq0 c = sees_end (bits_of c.args.order c.args.octets.now) c.args.place c.args.rows (omega arith) (rw c.in-OnlyZeros.is at c.requires.eol)
+returns-else-rows-eq0 c = sees_end (bits_of c.args.order c.args.octets.now) c.args.place c.args.rows (omega arith) (rw c.in-OnlyZeros.is
+    at c.requires.eol)
 
 pub returns-then-rows-eq0-2 : goal.returns-then-rows-eq0-2
 returns-then-rows-eq0-2 c =

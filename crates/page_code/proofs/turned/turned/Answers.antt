@@ -6,7 +6,8 @@ use Rattle.page_code.proofs.turned.turned.Goals as goal
 
 -- the octet with its halves exchanged, and in these the pairs
 abbrev pairs_of : ℕ → ℕ
-pairs_of octet = bit_or (bit_and (bit_or (octet / 16) (octet * 16 % 256) / 4) 51) (bit_and (bit_or (octet / 16) (octet * 16 % 256)) 51 * 4 % 256)
+pairs_of octet = bit_or (bit_and (bit_or (octet / 16) (octet * 16 % 256) / 4) 51) (bit_and (bit_or (octet / 16) (octet * 16 % 256)) 51 *
+    4 % 256)
 
 -- and in these the bits
 abbrev bits_of_pairs : ℕ → ℕ

@@ -4,7 +4,8 @@ use Rattle.page_code.proofs.PassedRows.{all_zeros, eol_zeros}
 use Rattle.page_code.proofs.one_dim.one_row.zeros_in.Goals as goal
 
 pub returns-in-Present : goal.returns-in-Present
-returns-in-Present c = eol_zeros (bits_of c.args.order c.args.octets.now) c.args.place c.in-Present.bits (rw c.in-Present.is at c.requires.eol)
+returns-in-Present c = eol_zeros (bits_of c.args.order c.args.octets.now) c.args.place c.in-Present.bits (rw c.in-Present.is at
+    c.requires.eol)
 
 pub returns-in-Absent : goal.returns-in-Absent
 returns-in-Absent c = (drop c.args.place (bits_of c.args.order c.args.octets.now), refl)

@@ -32,4 +32,5 @@ loop-run-preserved c =
 pub returns-in-Err-clause-rows : goal.returns-in-Err-clause-rows
 returns-in-Err-clause-rows c = runs_stop c.args.to.now.page.width (bits_of c.args.order c.args.octets.now) c.args.to.now.page.rows
     c.args.to.now.place c.loop-run.passed c.loop-run.invariant.runs c.loop-run.reader c.read_run_within.new.self
-    c.loop-run.invariant.reader c.in-Err.field-0 c.rows-rows.ensures.page.width c.rows-rows.ensures.page.few c.requires.read c.in-Err.ensures
+    c.loop-run.invariant.reader c.in-Err.field-0 c.rows-rows.ensures.page.width c.rows-rows.ensures.page.few c.requires.read
+    c.in-Err.ensures

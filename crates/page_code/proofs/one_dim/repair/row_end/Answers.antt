@@ -7,7 +7,8 @@ use Rattle.run_tables.specs.Texts.{begins}
 use Rattle.page_code.proofs.OneDimension.LineEnds.{HasWhite, row_ends_as, row_goes_on, row_is_white, white_within}
 use Rattle.page_code.proofs.OneDimension.SeesEol.{bits_left}
 use Rattle.page_code.proofs.one_dim.repair.row_end.Goals as goal
-use Rattle.page_code.proofs.one_dim.repair.row_end.Goals.{else-has_white-via-then-has_white+else-ends_in_black, else-has_white-via-else-has_white}
+use Rattle.page_code.proofs.one_dim.repair.row_end.Goals.{else-has_white-via-then-has_white+else-ends_in_black}
+use Rattle.page_code.proofs.one_dim.repair.row_end.Goals.{else-has_white-via-else-has_white}
 
 -- what `starts_with` tells of the bits at a place
 has_white : (bits : List Bool) (place : ℕ) (reader : Reading) (there : Bool) → reader ≡ record { bits = bits; place = place }

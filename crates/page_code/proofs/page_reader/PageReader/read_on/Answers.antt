@@ -4,12 +4,13 @@ use Rattle.page_code.proofs.PageReaders.{keeps_from, passed_from, passed_on, rea
 use Rattle.page_code.proofs.page_reader.PageReader.read_on.Goals as goal
 
 pub read_further_turned-read-requires-clause-read : goal.read_further_turned-read-requires-clause-read
-read_further_turned-read-requires-clause-read c = reads_from c.self.inside.coding c.self.inside.order c.self.inside.progress c.self.inside.passed
-    c.self.inside.count c.self.inside.turned.items c.args.self.now c.self.view_is c.args.all.now c.requires
+read_further_turned-read-requires-clause-read c = reads_from c.self.inside.coding c.self.inside.order c.self.inside.progress
+    c.self.inside.passed c.self.inside.count c.self.inside.turned.items c.args.self.now c.self.view_is c.args.all.now c.requires
 
 pub read_further_turned-read-requires-clause-kept : goal.read_further_turned-read-requires-clause-kept
 read_further_turned-read-requires-clause-kept c = rw c.replace-kept.ensures.value (keeps_from c.self.inside.coding c.self.inside.order
-    c.self.inside.progress c.self.inside.passed c.self.inside.count c.self.inside.turned.items c.args.self.now c.self.view_is c.args.all.now c.requires)
+    c.self.inside.progress c.self.inside.passed c.self.inside.count c.self.inside.turned.items c.args.self.now c.self.view_is
+    c.args.all.now c.requires)
 
 pub pass_on-passed-requires-clause-read : goal.pass_on-passed-requires-clause-read
 pass_on-passed-requires-clause-read c = reads_from c.self.inside.coding c.self.inside.order c.self.inside.progress c.self.inside.passed

@@ -65,8 +65,8 @@ returns-in-Row c =
     c.in_ok-found.found (Row c.in-Row.row) (slice_left c.deref.result.now c.self.inside.held.items
     c.self.inside.gone c.deref.ensures.value) c.in-Row.is c.in_ok-found.ensures.finds in
     rw (← c.self.view_is) (gives_row_next c.self.inside.coding c.self.inside.order c.self.inside.place
-    c.self.inside.lists.lines.reference c.self.inside.start (drop c.self.inside.gone c.self.inside.held.items) c.self.invariant.within c.find_next.new.to
-    c.find_next.new.lists.lines.reference c.in-Row.row finds)
+    c.self.inside.lists.lines.reference c.self.inside.start (drop c.self.inside.gone c.self.inside.held.items) c.self.invariant.within
+    c.find_next.new.to c.find_next.new.lists.lines.reference c.in-Row.row finds)
 
 pub returns-in-End : goal.returns-in-End
 returns-in-End c =
@@ -76,8 +76,8 @@ returns-in-End c =
     c.in_ok-found.found (End c.in-End.used) (slice_left c.deref.result.now c.self.inside.held.items
     c.self.inside.gone c.deref.ensures.value) c.in-End.is c.in_ok-found.ensures.finds in
     rw (← c.self.view_is) (gives_end c.self.inside.coding c.self.inside.order c.self.inside.place c.self.inside.lists.lines.reference
-    c.self.inside.start (drop c.self.inside.gone c.self.inside.held.items) c.self.invariant.within c.find_next.new.to c.find_next.new.lists.lines.reference
-    c.in-End.used finds)
+    c.self.inside.start (drop c.self.inside.gone c.self.inside.held.items) c.self.invariant.within c.find_next.new.to
+    c.find_next.new.lists.lines.reference c.in-End.used finds)
 
 pub returns-in-Refused : goal.returns-in-Refused
 returns-in-Refused c =
@@ -87,5 +87,5 @@ returns-in-Refused c =
     c.in_ok-found.found (Refused c.in-Refused.fault) (slice_left c.deref.result.now c.self.inside.held.items
     c.self.inside.gone c.deref.ensures.value) c.in-Refused.is c.in_ok-found.ensures.finds in
     rw (← c.self.view_is, c.new.ensures) (gives_refusal c.self.inside.coding c.self.inside.order c.self.inside.place
-    c.self.inside.lists.lines.reference c.self.inside.start (drop c.self.inside.gone c.self.inside.held.items) c.self.invariant.within c.find_next.new.to
-    c.find_next.new.lists.lines.reference c.in-Refused.fault finds)
+    c.self.inside.lists.lines.reference c.self.inside.start (drop c.self.inside.gone c.self.inside.held.items) c.self.invariant.within
+    c.find_next.new.to c.find_next.new.lists.lines.reference c.in-Refused.fault finds)

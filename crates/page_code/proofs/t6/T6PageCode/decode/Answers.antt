@@ -11,7 +11,8 @@ use Rattle.page_code.proofs.t6.T6PageCode.decode.Goals as goal
 pub returns-clause-reads : goal.returns-clause-reads
 unfolding read_rows
 returns-clause-reads c =
-    gives_reads ReadsAsPage IsLongestFront read_page reads_pages_exactly refuses_no_page refuses_at_longest c.args.width c.args.fine (bits_of
+    gives_reads ReadsAsPage IsLongestFront read_page reads_pages_exactly refuses_no_page refuses_at_longest c.args.width c.args.fine
+    (bits_of
     c.args.order c.args.octets.now) c.decode_in.result c.requires c.decode_in.ensures.gives
 
 pub returns-clause-only : goal.returns-clause-only
@@ -23,7 +24,8 @@ returns-clause-only c =
 pub returns-clause-refuses : goal.returns-clause-refuses
 unfolding read_rows
 returns-clause-refuses c =
-    gives_refuses ReadsAsPage IsLongestFront read_page reads_pages_exactly refuses_no_page refuses_at_longest c.args.width c.args.fine (bits_of
+    gives_refuses ReadsAsPage IsLongestFront read_page reads_pages_exactly refuses_no_page refuses_at_longest c.args.width c.args.fine
+    (bits_of
     c.args.order c.args.octets.now) c.decode_in.result c.requires c.decode_in.ensures.gives
 
 pub returns-clause-gives : goal.returns-clause-gives

@@ -57,7 +57,8 @@ returns-in_err-row c =
     let p = err_from_is_err_and c.from_residual-in_err-row.result c.from_residual-in_err-row.ensures.1 in
     rw (p.1, p.2) (row_refused (bits_of c.args.order c.args.octets.now) c.args.to.now c.white_rows.new.to on.0.width
     on.0.fine on.0.read c.rows.ensures.page c.white_rows.new.reader on.1
-    (white_line c.white_rows.new.to.page.width) refl (rw c.rows.ensures.rows at c.in-Row.ensures) c.read_row.new.reader c.in_err-row.field-0.0
+    (white_line c.white_rows.new.to.page.width) refl (rw c.rows.ensures.rows at c.in-Row.ensures) c.read_row.new.reader
+    c.in_err-row.field-0.0
     (rw c.in_ok-white_rows.ensures.reference at c.in_err-row.ensures.reads))
 
 pub push_row-requires-clause-wide : goal.push_row-requires-clause-wide

@@ -54,7 +54,8 @@ returns-in-Some-clause-writes c = (
   _,
   c.in_ok-push_mode-2.ensures.ok,
   vertical_codes c.args.reference.now c.args.row.now c.args.width c.args.front c.requires.fits c.requires.short
-      c.b1_at-at.result c.b1_at-at.ensures.found c.b1_at-at.ensures.even c.in-Some.shift c.index_after.result c.if-b2-a1.false (sym c.shift_to.ensures ∙ c.in-Some.is),
+      c.b1_at-at.result c.b1_at-at.ensures.found c.b1_at-at.ensures.even c.in-Some.shift c.index_after.result c.if-b2-a1.false (sym
+      c.shift_to.ensures ∙ c.in-Some.is),
 )
 
 pub returns-clause-writes : goal.returns-clause-writes
