@@ -23,3 +23,4 @@ pub mod FrameLemmas
 pub mod Extending
 pub mod OneFrame
 pub mod Examples
+pub mod OneRuns

@@ -186,14 +186,45 @@ impl FlagFinder {
         self.window == repeated()[self.held as usize]
     }
 
-    /// The number of octets from the front that repeat flags, which changes nothing.
+    /// Whether the last eight bits are 1s, before the first flag or in a gap that 1s aborted, so that eight more
+    /// change nothing.
+    fn repeats_ones(&self) -> bool
+        ensures { result ≡ true → (counts : AnyCounts) (queue : List (List ℕ)) (bits : List Bool) (handed : ℕ)
+            → PartsAfter self.now counts queue bits handed
+            → PartsAfter self.now counts queue (bits ++ bits_of LsbFirst (self.now.window ∷ [])) handed }
+    {
+        if self.window != 0xFF {
+            return false;
+        }
+        if !self.begun {
+            return true;
+        }
+        if self.held != 8 {
+            return false;
+        }
+        (self.gap.ones == 6) & self.gap.aborted & (self.gap.seen == 8)
+    }
+
+    /// Whether the last octet, if it comes again, changes nothing: flags alone came, or 1 bits alone.
+    fn repeats(&self) -> bool
+        ensures { result ≡ true → (counts : AnyCounts) (queue : List (List ℕ)) (bits : List Bool) (handed : ℕ)
+            → PartsAfter self.now counts queue bits handed
+            → PartsAfter self.now counts queue (bits ++ bits_of LsbFirst (self.now.window ∷ [])) handed }
+    {
+        if self.repeats_ones() {
+            return true;
+        }
+        self.repeats_flags()
+    }
+
+    /// The number of octets from the front that repeat flags or 1 bits, which changes nothing.
     fn repeated_front(&self, octets: &[u8]) -> usize
         ensures within { result ≤ length octets.now }
         ensures same { (counts : AnyCounts) (queue : List (List ℕ)) (bits : List Bool) (handed : ℕ)
             → PartsAfter self.now counts queue bits handed
             → PartsAfter self.now counts queue (bits ++ bits_of LsbFirst (take result octets.now)) handed }
     {
-        if !self.repeats_flags() {
+        if !self.repeats() {
             return 0;
         }
         let mut count = 0;

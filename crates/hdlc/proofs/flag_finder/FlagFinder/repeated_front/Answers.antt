@@ -4,8 +4,8 @@ use Rattle.raster.specs.declared.packed.Order.TheVariants.{LsbFirst}
 use Rattle.hdlc.proofs.BitPlaces.{octets-none, octets-next}
 use Rattle.hdlc.proofs.flag_finder.FlagFinder.repeated_front.Goals as goal
 
-pub returns-then-not-repeats_flags-clause-same : goal.returns-then-not-repeats_flags-clause-same
-returns-then-not-repeats_flags-clause-same c counts queue bits handed old = rw (octets-none bits) old
+pub returns-then-not-repeats-clause-same : goal.returns-then-not-repeats-clause-same
+returns-then-not-repeats-clause-same c counts queue bits handed old = rw (octets-none bits) old
 
 pub loop-count-init : goal.loop-count-init
 loop-count-init c = record { within = omega arith; same = λ counts queue bits handed old. rw (octets-none bits) old }
@@ -18,6 +18,6 @@ loop-count-preserved c =
       within = omega arith;
       same = λ counts queue bits handed old.
           rw (octets-next bits octets n 0 (omega arith), c.if-octets-count.false)
-          (c.repeats_flags.ensures c.if-not-repeats_flags.false counts queue (bits ++ bits_of LsbFirst (take n octets)) handed
+          (c.repeats.ensures c.if-not-repeats.false counts queue (bits ++ bits_of LsbFirst (take n octets)) handed
           (c.loop-count.invariant.same counts queue bits handed old));
     }
