@@ -22,7 +22,7 @@ recent_after fill bits eight h =
     ap (λ n. drop n long) size ∙ (sym (drop-drop (length bits) 8 long) ∙ drop_at bits eight (length bits) refl)
 
 -- the bits past the whole octets are at the end of the last eight
-tail_is : (bits eight : List Bool) → drop (8 * (length bits / 8)) (bits ++ eight) ≡ drop (8 - length bits % 8) (recent false bits ++ eight)
+pub tail_is : (bits eight : List Bool) → drop (8 * (length bits / 8)) (bits ++ eight) ≡ drop (8 - length bits % 8) (recent false bits ++ eight)
 unfolding recent
 tail_is bits eight =
     let n : ℕ = length bits in
@@ -45,7 +45,7 @@ recent-append fill bits more =
     ap (λ k. drop k long) size ∙ (sym (drop-drop (length more) n long) ∙ ap (drop (length more)) (sym front))
 
 -- no octet more, where they are too few
-octets_of-few : (bits more : List Bool) → length bits % 8 + length more < 8 → octets_of (bits ++ more) ≡ octets_of bits
+pub octets_of-few : (bits more : List Bool) → length bits % 8 + length more < 8 → octets_of (bits ++ more) ≡ octets_of bits
 unfolding octets_of
 octets_of-few bits more h =
     let size : length (bits ++ more) ≡ length bits + length more = length-append bits more in
@@ -54,7 +54,7 @@ octets_of-few bits more h =
     ∙ map_range_agree (octet_at (bits ++ more)) (octet_at bits) (length bits / 8) (λ i h. octet_at-append bits more i (omega arith))
 
 -- an octet more, where they fill it
-octets_of-eight : (bits eight : List Bool) → length eight ≤ 8 → 8 ≤ length bits % 8 + length eight
+pub octets_of-eight : (bits eight : List Bool) → length eight ≤ 8 → 8 ≤ length bits % 8 + length eight
     → octets_of (bits ++ eight) ≡ octets_of bits ++ number (take 8 (drop (8 - length bits % 8) (recent false bits ++ eight))) ∷ []
 unfolding octets_of
 octets_of-eight bits eight few fill =
@@ -71,22 +71,28 @@ octets_of-eight bits eight few fill =
     same = map_range_agree (octet_at (bits ++ eight)) (octet_at bits) (length bits / 8)
         (λ i h. octet_at-append bits eight i (omega arith))
 
--- eight bits inside others, as numbers
-pub number_inside : (xs : List Bool) (m : ℕ) → m + 8 ≤ length xs → number (take 8 (drop m xs)) ≡ number xs / 2 ^ m % 256
-number_inside xs m h =
-    let size : length (take m xs) ≡ m = length-take-le m xs (omega arith) in
+-- bits without their first ones, as numbers
+pub number_drop : (xs : List Bool) (m : ℕ) → m ≤ length xs → number (drop m xs) ≡ number xs / 2 ^ m
+number_drop xs m h =
+    let size : length (take m xs) ≡ m = length-take-le m xs h in
     let rest : List Bool = drop m xs in
-    let room : 8 ≤ length rest = rw length-drop (omega arith) in
     let low : number (take m xs) < 2 ^ m = number_fits (take m xs) m (omega arith) in
     let swap : number (take m xs) + number rest * 2 ^ m ≡ number rest * 2 ^ m + number (take m xs) = omega arith in
     let whole : number xs ≡ number rest * 2 ^ m + number (take m xs) =
     ap number (sym (take-append-drop m xs)) ∙ (number-append (take m xs) rest m size ∙ swap) in
-    let high : number xs / 2 ^ m ≡ number rest = ap (λ n. n / 2 ^ m) whole ∙ div-mul-add (number rest) (2 ^ m) (number (take m xs)) low in
+    sym (ap (λ n. n / 2 ^ m) whole ∙ div-mul-add (number rest) (2 ^ m) (number (take m xs)) low)
+
+-- eight bits inside others, as numbers
+pub number_inside : (xs : List Bool) (m : ℕ) → m + 8 ≤ length xs → number (take 8 (drop m xs)) ≡ number xs / 2 ^ m % 256
+number_inside xs m h =
+    let rest : List Bool = drop m xs in
+    let room : 8 ≤ length rest = rw length-drop (omega arith) in
+    let high : number rest ≡ number xs / 2 ^ m = number_drop xs m (omega arith) in
     let eight : length (take 8 rest) ≡ 8 = length-take-le 8 rest room in
     let part : number (take 8 rest) < 256 = number_fits (take 8 rest) 8 (omega arith) in
     let split : number rest ≡ number (take 8 rest) + number (drop 8 rest) * 256 =
     ap number (sym (take-append-drop 8 rest)) ∙ number-append (take 8 rest) (drop 8 rest) 8 eight in
-    sym (ap (λ n. n % 256) high ∙ omega arith)
+    sym (ap (λ n. n % 256) (sym high) ∙ omega arith)
 
 completed_is : (a : OctetBuffer) (bits eight : List Bool) (o x : ℕ) → Assembles a bits → 8 ≤ length bits % 8 + length eight
     → number eight ≡ o → x ≡ (o * 256 + a.window) / 2 ^ (8 - a.part % 8) % 256
@@ -102,20 +108,24 @@ completed_is a bits eight o x old fill e is =
     number_inside (recent false bits ++ eight) (8 - length bits % 8) room
     ∙ (ap (λ n. n / 2 ^ (8 - length bits % 8) % 256) both ∙ (ap (λ s. (o * 256 + a.window) / 2 ^ s % 256) shift ∙ sym is))
 
--- the register of the last eight bits
-window_is : (a : OctetBuffer) (bits more : List Bool) (v w : ℕ) → Assembles a bits → length more ≤ 8 → number more ≡ v
-    → w ≡ (v * 256 + a.window) / 2 ^ length more % 256 → w ≡ number (recent false (bits ++ more))
-window_is a bits more v w old few e is =
+-- the register of the last eight bits, with up to eight more
+pub window_more : (bits more : List Bool) (v old w : ℕ) → old ≡ number (recent false bits) → length more ≤ 8 → number more ≡ v
+    → w ≡ (v * 256 + old) / 2 ^ length more % 256 → w ≡ number (recent false (bits ++ more))
+window_more bits more v old w was few e is =
     let eight : length (recent false bits) ≡ 8 = length-recent false bits in
     let size : length (recent false bits ++ more) ≡ 8 + length more = length-append (recent false bits) more ∙ omega arith in
     let left : List Bool = drop (length more) (recent false bits ++ more) in
     let rest : length left ≤ 8 = rw length-drop (omega arith) in
-    let window : number (recent false bits) ≡ a.window = sym old.window in
-    let both : number (recent false bits ++ more) ≡ v * 256 + a.window =
+    let window : number (recent false bits) ≡ old = sym was in
+    let both : number (recent false bits ++ more) ≡ v * 256 + old =
     number-append (recent false bits) more 8 eight ∙ (rw (window, e) (omega arith)) in
     is ∙ (sym (ap (λ n. n / 2 ^ length more % 256) both)
     ∙ (sym (number_inside (recent false bits ++ more) (length more) (omega arith))
     ∙ (ap number (take_all 8 left rest) ∙ sym (ap number (recent-append false bits more)))))
+
+window_is : (a : OctetBuffer) (bits more : List Bool) (v w : ℕ) → Assembles a bits → length more ≤ 8 → number more ≡ v
+    → w ≡ (v * 256 + a.window) / 2 ^ length more % 256 → w ≡ number (recent false (bits ++ more))
+window_is a bits more v w old few e is = window_more bits more v a.window w old.window few e is
 
 -- no octet is whole
 pub bits_kept : (a new : OctetBuffer) (bits more : List Bool) (v : ℕ) → Assembles a bits → length more ≤ 8 → number more ≡ v

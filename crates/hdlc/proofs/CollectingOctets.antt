@@ -26,7 +26,7 @@ run_more : (gap : List Bool) (b : Bool) (n : ℕ) → n ≡ min 5 (ones gap) →
 run_more gap true n h = rw (ones-more gap true) (omega arith)
 run_more gap false n h = rw (ones-more gap false) refl
 
-unstuffed_run : (gap more : List Bool) (n : ℕ) → n ≡ min 5 (ones gap) → unstuffed (gap ++ more) ≡ unstuffed gap ++ unstuffed_from n more
+pub unstuffed_run : (gap more : List Bool) (n : ℕ) → n ≡ min 5 (ones gap) → unstuffed (gap ++ more) ≡ unstuffed gap ++ unstuffed_from n more
 unstuffed_run gap [] n h = ap unstuffed (append-nil gap) ∙ sym (append-nil (unstuffed gap))
 unstuffed_run gap (b ∷ more) n h =
     let rest : List Bool = unstuffed_from (run_after n b) more in
@@ -54,7 +54,7 @@ sixth gap false n h = elim (cases_lt (ones gap) 5) [
   | inr many ↦ rw (ones-more gap false, le-ltb n 5 (omega arith)) refl
 ]
 
-six_run : (gap more : List Bool) (n : ℕ) → n ≡ min 5 (ones gap) → has_six (gap ++ more) ≡ (has_six gap || six_from n more)
+pub six_run : (gap more : List Bool) (n : ℕ) → n ≡ min 5 (ones gap) → has_six (gap ++ more) ≡ (has_six gap || six_from n more)
 six_run gap [] n h = ap has_six (append-nil gap) ∙ sym (or_false (has_six gap))
 six_run gap (b ∷ more) n h =
     let rest : Bool = six_from (run_after n b) more in
@@ -64,12 +64,12 @@ six_run gap (b ∷ more) n h =
     (six_run (gap ++ b ∷ []) more (run_after n b) (run_more gap b n h) ∙
     (ap (λ x. x || rest) one ∙ or_assoc (has_six gap) (not (nat_lt n 5) && b) rest))
 
-ones_run : (gap more : List Bool) → ones (gap ++ more) ≡ ones_at_end (ones gap) more
+pub ones_run : (gap more : List Bool) → ones (gap ++ more) ≡ ones_at_end (ones gap) more
 ones_run gap [] = ap ones (append-nil gap)
 ones_run gap (b ∷ more) =
     ap ones (sym (append_assoc gap (b ∷ []) more)) ∙ (ones_run (gap ++ b ∷ []) more ∙ ap (λ n. ones_at_end n more) (ones-more gap b))
 
-end_same : (m n : ℕ) (more : List Bool) → min 6 m ≡ min 6 n → min 6 (ones_at_end m more) ≡ min 6 (ones_at_end n more)
+pub end_same : (m n : ℕ) (more : List Bool) → min 6 m ≡ min 6 n → min 6 (ones_at_end m more) ≡ min 6 (ones_at_end n more)
 end_same m n [] h = h
 end_same m n (true ∷ more) h = end_same (1 + m) (1 + n) more (omega arith)
 end_same m n (false ∷ more) h = refl

@@ -24,3 +24,4 @@ pub mod Extending
 pub mod OneFrame
 pub mod Examples
 pub mod OneRuns
+pub mod GatheringLemmas

@@ -1,6 +1,7 @@
 -- Bits after the whole octets as numbers.
 use Rattle.std.proofs.Common.{◌≡◌, ℕ, zero, suc, ◌+◌, ◌-◌, ◌*◌, ◌/◌, ◌%◌, ◌^◌, ◌<◌, ◌≤◌, ap, sym, ◌∙◌, arith}
-use Rattle.std.proofs.lemmas.Nat.{shr-shr, pow-add, rows}
+use Rattle.std.proofs.Math.Nat.{mul_assoc, add-mul-div_right, div-lt_iff_lt-mul}
+use Rattle.std.proofs.lemmas.Nat.{shr-shr, pow-add, pow_pos, rows}
 
 -- a number moved up by fewer than eight places
 pub moved : (p v b : ℕ) → p < 8 → v < 256 → b < 128
@@ -16,28 +17,14 @@ moved (suc (suc (suc (suc (suc (suc (suc zero))))))) v b h few small = (omega ar
 moved (suc (suc (suc (suc (suc (suc (suc (suc p)))))))) v b h few small = absurd (omega arith)
 
 -- the bits that were there, the register of the last eight of them, and bits more
-over : (p v a : ℕ) → p < 8 → (a + 256 * (v * 2 ^ p)) / 2 ^ p ≡ v * 256 + a / 2 ^ p
-over zero v a h = omega arith
-over (suc zero) v a h = omega arith
-over (suc (suc zero)) v a h = omega arith
-over (suc (suc (suc zero))) v a h = omega arith
-over (suc (suc (suc (suc zero)))) v a h = omega arith
-over (suc (suc (suc (suc (suc zero))))) v a h = omega arith
-over (suc (suc (suc (suc (suc (suc zero)))))) v a h = omega arith
-over (suc (suc (suc (suc (suc (suc (suc zero))))))) v a h = omega arith
-over (suc (suc (suc (suc (suc (suc (suc (suc p)))))))) v a h = absurd (omega arith)
+over : (p v a : ℕ) → (a + 256 * (v * 2 ^ p)) / 2 ^ p ≡ v * 256 + a / 2 ^ p
+over p v a =
+    let swap : a / 2 ^ p + 256 * v ≡ v * 256 + a / 2 ^ p = omega arith in
+    ap (λ n. (a + n) / 2 ^ p) (sym (mul_assoc 256 v (2 ^ p))) ∙ (add-mul-div_right a (256 * v) (pow_pos p) ∙ swap)
 
 -- a register of eight bits is one
-register : (p b last : ℕ) → p < 8 → b < 2 ^ p → last < 256 → (b * 256 + last) / 2 ^ p < 256
-register zero b last h fits small = omega arith
-register (suc zero) b last h fits small = omega arith
-register (suc (suc zero)) b last h fits small = omega arith
-register (suc (suc (suc zero))) b last h fits small = omega arith
-register (suc (suc (suc (suc zero)))) b last h fits small = omega arith
-register (suc (suc (suc (suc (suc zero))))) b last h fits small = omega arith
-register (suc (suc (suc (suc (suc (suc zero)))))) b last h fits small = omega arith
-register (suc (suc (suc (suc (suc (suc (suc zero))))))) b last h fits small = omega arith
-register (suc (suc (suc (suc (suc (suc (suc (suc p)))))))) b last h fits small = absurd (omega arith)
+pub register : (p b last : ℕ) → b < 2 ^ p → last < 256 → (b * 256 + last) / 2 ^ p < 256
+register p b last fits small = (div-lt_iff_lt-mul (pow_pos p)).1 (omega arith)
 
 pub few_bits : (p b : ℕ) → p < 8 → b < 2 ^ p → b < 128
 few_bits zero b h fits = omega arith
@@ -78,16 +65,16 @@ whole_fits p c b v more fits few =
     let all : b + v * 2 ^ p < 2 ^ (p + c) = joined_fits p c b v fits few in
     omega arith
 
-module _ (p c b v last : ℕ) (few : p < 8) (fits : b < 2 ^ p) (small : last < 256) where
+module _ (p c b v last : ℕ) (fits : b < 2 ^ p) (small : last < 256) where
   -- all bits, from the register on
   abbrev all : ℕ
   all = b * 256 + last + 256 * (v * 2 ^ p)
 
   both_is : v * 256 + (b * 256 + last) / 2 ^ p % 256 ≡ all / 2 ^ p
   both_is =
-      let low : (b * 256 + last) / 2 ^ p < 256 = register p b last few fits small in
+      let low : (b * 256 + last) / 2 ^ p < 256 = register p b last fits small in
       let same : (b * 256 + last) / 2 ^ p % 256 ≡ (b * 256 + last) / 2 ^ p = omega arith in
-      ap (λ n. v * 256 + n) same ∙ sym (over p v (b * 256 + last) few)
+      ap (λ n. v * 256 + n) same ∙ sym (over p v (b * 256 + last))
 
   past : all / 256 ≡ b + v * 2 ^ p
   past = omega arith
@@ -108,8 +95,8 @@ module _ (p c b v last : ℕ) (few : p < 8) (fits : b < 2 ^ p) (small : last < 2
       ∙ sym (shr-shr all p c))) ∙ ap (λ n. n / 2 ^ c % 256) (sym both_is))
 
   -- the octet that is whole
-  pub octet_is : (b + v * 2 ^ p) % 256 ≡ (v * 256 + (b * 256 + last) / 2 ^ p % 256) / 2 ^ (8 - p % 8) % 256
-  octet_is =
+  pub octet_is : p < 8 → (b + v * 2 ^ p) % 256 ≡ (v * 256 + (b * 256 + last) / 2 ^ p % 256) / 2 ^ (8 - p % 8) % 256
+  octet_is few =
       let sum : p + (8 - p % 8) ≡ 8 = omega arith in
       ap (λ n. n % 256) (sym past ∙ (ap (λ k. all / 2 ^ k) (sym sum) ∙ (sym (shr-shr all p (8 - p % 8))
       ∙ ap (λ n. n / 2 ^ (8 - p % 8)) (sym both_is))))

@@ -120,7 +120,7 @@ word_calm last a b c d e f g h n small la lb lc ld le lf lg lh is six =
     sym (end_split octets last small (la, (lb, (lc, (ld, (le, (lf, (lg, tt)))))))) ∙ (sym (shifted_test bits last small)
     ∙ (ap (no_flag_below (length bits)) (sym same) ∙ calm (length bits) (n % 0x100000000000000 * 256 + last) six))
 
-take_next : (os : List ℕ) (at next n : ℕ) → at < length os → next ≡ at + 1 → take (suc n) (drop at os) ≡ get_or os at 0 ∷ take n
+pub take_next : (os : List ℕ) (at next n : ℕ) → at < length os → next ≡ at + 1 → take (suc n) (drop at os) ≡ get_or os at 0 ∷ take n
     (drop next os)
 take_next os at next n h e =
     let same : suc at ≡ next = omega arith in
@@ -198,7 +198,7 @@ single_empty bits window o yes_ empty last small quiet =
       gap_ = next_empty bits (octet_bits o) refl u empty;
     })
 
-joined : (bits : List Bool) (x : ℕ) (xs : List ℕ) → (bits ++ bits_of LsbFirst (x ∷ [])) ++ bits_of LsbFirst xs ≡ bits
+pub joined : (bits : List Bool) (x : ℕ) (xs : List ℕ) → (bits ++ bits_of LsbFirst (x ∷ [])) ++ bits_of LsbFirst xs ≡ bits
     ++ bits_of LsbFirst (x ∷ xs)
 joined bits x xs = append_assoc bits (bits_of LsbFirst (x ∷ [])) (bits_of LsbFirst xs)
     ∙ ap (λ r. bits ++ r) (sym (bits_of-append LsbFirst (x ∷ []) xs))

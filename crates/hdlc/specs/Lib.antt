@@ -10,6 +10,7 @@ pub mod DeframerState
 pub mod Register
 pub mod Assembles
 pub mod Pending
+pub mod Gathers
 pub mod Collects
 pub mod EightBits
 pub mod Contents

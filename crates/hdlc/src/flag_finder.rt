@@ -249,9 +249,12 @@ impl FlagFinder {
             return;
         }
         if self.held == 8 {
-            self.gap.push_octets(&[self.window]);
-            self.gap.push_octets(&octets[..count - 1]);
+            self.gap.push_octet(self.window);
             self.window = octets[count - 1];
+            if count == 1 {
+                return;
+            }
+            self.gap.push_octets(&octets[..count - 1]);
             return;
         }
         self.window = octets[count - 1];

@@ -1,14 +1,16 @@
 //! The bits of one gap, as they come.
 
 ghost use Rattle.hdlc.specs.Collects.{Collects};
+ghost use Rattle.hdlc.specs.Gathers.{Gathers, IsGathering};
 ghost use Rattle.raster.specs.Packed.{bits_of, bit_in};
 ghost use Rattle.raster.specs.declared.packed.Order.TheVariants.{LsbFirst};
 ghost use Rattle.hdlc.specs.Gaps.{class_of, checks, content};
 ghost use Rattle.hdlc.specs.declared.counts.Class.TheVariants.{Good};
-ghost use Rattle.std.specs.Prelude.{◌≡◌, ◌<◌, ◌≤◌, ◌+◌, ◌++◌, ◌∷◌, [], List, Bool, cond, min, length};
+ghost use Rattle.std.specs.Prelude.{◌≡◌, ◌<◌, ◌≤◌, ◌+◌, ◌%◌, ◌++◌, ◌∷◌, [], List, Bool, cond, min, length};
 
 use crate::check_sequence::fcs;
 use crate::counts::Class;
+use crate::gathering::{Gathering, drained, gather_four};
 use crate::octet_buffer::OctetBuffer;
 use crate::unstuffing::unstuffed;
 use byteorder::{ByteOrder, LittleEndian};
@@ -93,8 +95,8 @@ impl Gap {
         self.unstuffed.push(bit);
     }
 
-    /// Takes the bits of more octets, the least significant of each first.
-    pub fn push_octets(&mut self, octets: &[u8])
+    /// Takes the bits of a few octets more, the least significant of each first.
+    fn push_each(&mut self, octets: &[u8])
         ensures { (gap : List Bool) → Collects self.old gap → Collects self.new (gap ++ bits_of LsbFirst octets.now) }
     {
         let count = octets.len();
@@ -116,6 +118,68 @@ impl Gap {
         self.ones = (row / 256) as u8;
         self.aborted = aborted;
         self.unstuffed.end(pending);
+    }
+
+    /// Takes the bits of an octet more, the least significant first.
+    pub fn push_octet(&mut self, octet: u8)
+        ensures { (gap : List Bool) → Collects self.old gap → Collects self.new (gap ++ bits_of LsbFirst (octet ∷ [])) }
+    {
+        let row = usize::from(self.ones.min(6)) * 256;
+        let left = unstuffed(row, octet);
+        let pending = self.unstuffed.pending();
+        let last = self.unstuffed.push_after(pending, left.value, left.count);
+        self.seen = 8;
+        self.ones = (left.row / 256) as u8;
+        self.aborted |= left.sixth;
+        self.unstuffed.end(last);
+    }
+
+    /// What is known beside the whole octets.
+    fn gathering(&self) -> Gathering
+        ensures few { result.part < 8 }
+        ensures sound { IsGathering result }
+        ensures gathers { (gap : List Bool) → Collects self.now gap → Gathers self.now.unstuffed result gap }
+    {
+        let pending = self.unstuffed.pending();
+        Gathering {
+            bits: u64::from(pending.bits),
+            part: pending.part,
+            last: pending.last,
+            row: usize::from(self.ones.min(6)) * 256,
+            aborted: self.aborted,
+        }
+    }
+
+    /// Takes the bits of four octets or more, in fours.
+    fn push_fours(&mut self, octets: &[u8])
+        requires fours { length octets.now % 4 ≡ 0 }
+        requires least { 0 < length octets.now }
+        ensures { (gap : List Bool) → Collects self.old gap → Collects self.new (gap ++ bits_of LsbFirst octets.now) }
+    {
+        let mut state = self.gathering();
+        let mut at = 0;
+        while at < octets.len() {
+            state = gather_four(&mut self.unstuffed, state, octets, at);
+            at += 4;
+        }
+        let last = drained(&mut self.unstuffed, state);
+        self.seen = 8;
+        self.ones = (last.row / 256) as u8;
+        self.aborted = last.aborted;
+        self.unstuffed.end(last.pending());
+    }
+
+    /// Takes the bits of more octets, the least significant of each first.
+    pub fn push_octets(&mut self, octets: &[u8])
+        ensures { (gap : List Bool) → Collects self.old gap → Collects self.new (gap ++ bits_of LsbFirst octets.now) }
+    {
+        let count = octets.len() / 4 * 4;
+        if count < 16 {
+            self.push_each(octets);
+            return;
+        }
+        self.push_fours(&octets[..count]);
+        self.push_each(&octets[count..]);
     }
 
     /// The class of the gap, if it ends here.

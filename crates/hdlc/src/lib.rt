@@ -10,6 +10,7 @@ mod deframer;
 mod flag_finder;
 mod frame;
 mod gap;
+mod gathering;
 pub mod laws;
 mod octet_buffer;
 mod remainders;

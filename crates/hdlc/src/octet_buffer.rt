@@ -1,6 +1,7 @@
 //! Bits put together to octets.
 
 ghost use Rattle.hdlc.specs.Assembles.{Assembles};
+ghost use Rattle.hdlc.specs.Gathers.{Keeps};
 ghost use Rattle.hdlc.specs.Pending.{window_of, IsPending};
 ghost use Rattle.raster.specs.Octets.{number};
 ghost use Rattle.std.specs.Prelude.{◌≡◌, ◌≤◌, ◌<◌, ◌+◌, ◌/◌, ◌%◌, ◌^◌, ◌++◌, ◌∷◌, [], List, Bool, cond, length};
@@ -86,6 +87,38 @@ impl OctetBuffer {
             return;
         }
         self.whole.push(self.window);
+    }
+
+    /// Takes one whole octet more, after whole octets.
+    pub fn push_octet(&mut self, octet: u8)
+        ensures { (front eight : List Bool) → length eight ≡ 8 → number eight ≡ octet
+            → Keeps self.old.whole.items self.old.long front → Keeps self.new.whole.items self.new.long (front ++ eight) }
+    {
+        if self.whole.is_full() {
+            self.long = true;
+            return;
+        }
+        self.whole.push(octet);
+    }
+
+    /// Takes four whole octets more, after whole octets: 32 bits as a number, the first the least significant.
+    pub fn push_four(&mut self, bits: u32)
+        ensures { (front word : List Bool) → length word ≡ 32 → number word ≡ bits
+            → Keeps self.old.whole.items self.old.long front → Keeps self.new.whole.items self.new.long (front ++ word) }
+    {
+        let octets = [
+            (bits % 256) as u8,
+            (bits / 256 % 256) as u8,
+            (bits / 65536 % 256) as u8,
+            (bits / 16777216) as u8,
+        ];
+        if self.whole.try_extend_from_slice(&octets).is_ok() {
+            return;
+        }
+        self.push_octet(octets[0]);
+        self.push_octet(octets[1]);
+        self.push_octet(octets[2]);
+        self.push_octet(octets[3]);
     }
 
     /// The bits after the whole octets.

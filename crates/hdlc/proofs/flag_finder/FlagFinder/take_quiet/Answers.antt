@@ -1,4 +1,4 @@
-use Rattle.std.proofs.Common.{ℕ, ◌-◌, ◌<◌, List, get_or, length, refl, arith}
+use Rattle.std.proofs.Common.{ℕ, ◌≡◌, ◌-◌, ◌<◌, ◌++◌, List, [], ◌∷◌, get_or, length, refl, ap, arith}
 use Rattle.raster.specs.Packed.{bits_of}
 use Rattle.raster.specs.declared.packed.Order.TheVariants.{LsbFirst}
 use Rattle.raster.proofs.OctetLemmas.{are_octets}
@@ -19,7 +19,18 @@ returns-then-self-eq8 c counts queue bits handed old =
     let come : Comes c.args.self.now bits octets = record { cuts = old.cuts; fit = are_octets octets small; quiet = c.requires.quiet } in
     parts_quiet c.args.self.now _ counts queue bits (bits_of LsbFirst octets) handed old (no_flag_comes c.args.self.now bits octets come)
     (after_full c.args.self.now _ bits octets (length octets - 1) (omega arith) come refl refl c.if-self-eq8.true c.if-self-eq8.true
-    (c.push_octets-then-self-eq8.ensures _ (c.push_octets.ensures (unclosed bits) old.cuts.gap)))
+    (c.push_octets.ensures _ (c.push_octet.ensures (unclosed bits) old.cuts.gap)))
+
+pub returns-then-count-eq1 : goal.returns-then-count-eq1
+returns-then-count-eq1 c counts queue bits handed old =
+    let octets : List ℕ = c.args.octets.now in
+    let small : (k : ℕ) → get_or octets k 0 < 256 = λ k. omega (arith, c.type_inv.octets k) in
+    let come : Comes c.args.self.now bits octets = record { cuts = old.cuts; fit = are_octets octets small; quiet = c.requires.quiet } in
+    let last : length octets - 1 ≡ 0 = omega arith in
+    parts_quiet c.args.self.now _ counts queue bits (bits_of LsbFirst octets) handed old (no_flag_comes c.args.self.now bits octets come)
+    (after_full c.args.self.now _ bits octets 0 (omega arith) come refl (ap (λ k. get_or octets k 0) last) c.if-self-eq8.true
+    c.if-self-eq8.true (rw (octets-none (unclosed bits ++ bits_of LsbFirst (c.args.self.now.window ∷ [])))
+    (c.push_octet.ensures (unclosed bits) old.cuts.gap)))
 
 pub returns-then-not-self : goal.returns-then-not-self
 returns-then-not-self c counts queue bits handed old =

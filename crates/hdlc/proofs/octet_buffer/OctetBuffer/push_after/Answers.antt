@@ -28,7 +28,7 @@ returns-then-part-lt8-clause-bits c bits more size value old =
     let is : sum ≡ b + v * 2 ^ p = ap (λ n. (b + n * 2 ^ p % 2 ^ 32) % 2 ^ 32) c.from.ensures ∙ far.0 in
     bits_kept _ _ bits more v old (omega arith) value (omega arith) (omega arith)
     (ap (λ x. (x * 256 + c.args.pending.last) / 2 ^ (p + c.args.count) % 256) is
-    ∙ (register_kept p c.args.count b v c.args.pending.last few c.requires.pending.fits (omega arith)
+    ∙ (register_kept p c.args.count b v c.args.pending.last c.requires.pending.fits (omega arith)
     ∙ ap (λ k. (v * 256 + window_of c.args.pending) / 2 ^ k % 256) (sym size))) refl refl
 
 pub returns-then-is_full-clause-pending : goal.returns-then-is_full-clause-pending
@@ -56,7 +56,7 @@ returns-then-is_full-clause-bits c bits more size value old =
     let is : sum ≡ b + v * 2 ^ p = ap (λ n. (b + n * 2 ^ p % 2 ^ 32) % 2 ^ 32) c.from.ensures ∙ far.0 in
     octet_past _ _ bits more v old (omega arith) value (omega arith) (omega arith)
     (ap (λ x. (x / 256 * 256 + x % 256) / 2 ^ (p + c.args.count - 8) % 256) is
-    ∙ (register_past p c.args.count b v c.args.pending.last few c.requires.pending.fits (omega arith) (omega arith)
+    ∙ (register_past p c.args.count b v c.args.pending.last c.requires.pending.fits (omega arith) (omega arith)
     ∙ ap (λ k. (v * 256 + window_of c.args.pending) / 2 ^ k % 256) (sym size)))
     (eqb-true _ _ (sym c.is_full.ensures.value ∙ c.if-is_full.true)) refl refl
 
@@ -87,7 +87,7 @@ returns-clause-bits c bits more size value old =
     let full : nat_eq (length c.args.self.now.whole.items) 302 ≡ false = sym c.is_full.ensures.value ∙ c.if-is_full.false in
     let room : length c.args.self.now.whole.items < 302 = omega (arith, eqb-false _ _ full) in
     octet_kept _ _ bits more v (sum % 256) old (omega arith) value (omega arith)
-    (ap (λ x. x % 256) is ∙ octet_is p c.args.count b v last few c.requires.pending.fits (omega arith)) (omega arith)
+    (ap (λ x. x % 256) is ∙ octet_is p c.args.count b v last c.requires.pending.fits (omega arith) few) (omega arith)
     (ap (λ x. (x / 256 * 256 + x % 256) / 2 ^ (p + c.args.count - 8) % 256) is
-    ∙ (register_past p c.args.count b v last few c.requires.pending.fits (omega arith) (omega arith)
+    ∙ (register_past p c.args.count b v last c.requires.pending.fits (omega arith) (omega arith)
     ∙ ap (λ k. (v * 256 + window_of c.args.pending) / 2 ^ k % 256) (sym size))) room c.push.ensures.items refl

@@ -4,7 +4,7 @@ use Rattle.raster.specs.declared.packed.Order.TheVariants.{LsbFirst}
 use Rattle.hdlc.specs.Collects.{Collects}
 use Rattle.hdlc.specs.Pending.{IsPending}
 use Rattle.hdlc.proofs.CollectingOctets.{with_ending}
-use Rattle.hdlc.proofs.gap.Gap.push_octets.Given as goal
+use Rattle.hdlc.proofs.gap.Gap.push_each.Given as goal
 
 abbrev pub invariant-loop-octet : goal.invariant-loop-octet
 invariant-loop-octet l = record {
