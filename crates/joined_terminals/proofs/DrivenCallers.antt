@@ -70,11 +70,13 @@ busy_steps (Some why) old is new turn h = h
 pub record IsNext {S : Type 0} (old new : ConversationFields S) : Type 0 where
   pub framing : new.terminal.framing ≡ old.terminal.framing
   pub speaking : new.terminal.speaking ≡ record old.terminal.speaking { taken = old.terminal.speaking.taken + 1 }
+  pub begun : new.begun ≡ old.begun
 
 pub given_next : {S : Type 0} (side : Side) (lends : BurstsOf S) (old new : ConversationFields S) (sent : SentBurst) (begun : Bool) →
     SendsIfBegun {E = Unit {0}} side lends begun old new (Ok (Some sent)) → IsNext old new
 given_next side lends old new sent false h = absurd (cc)
-given_next side lends old new sent true h = record { framing = h.1; speaking = h.0.2.4 }
+given_next {S} side lends old new sent true h =
+    record { framing = h.1; speaking = h.0.2.4; begun = ap (λ (c : ConversationFields S). c.begun) h.2 }
 
 -- what a caller's terminal was given leads there
 module _ (d : Driven) where

@@ -16,5 +16,7 @@ pub mod DrivenWays
 pub mod DrivenCallers
 pub mod DrivenAnswerers
 pub mod DrivenSafe
+pub mod Beside
+pub mod KeptSafe
 pub mod DrivenAnswers
 pub mod DrivenCalls

@@ -18,7 +18,7 @@ use Rattle.joined_terminals.proofs.AnswererFollows.{StationsKnown}
 use Rattle.joined_terminals.proofs.Follow.{Follows, answerer_as, caller_as}
 use Rattle.joined_terminals.proofs.Following.{led, new_follows}
 
-whole : {A : Type 0} (xs rest ys : List A) → xs ++ rest ≡ ys → length xs ≡ length ys → xs ≡ ys
+pub whole : {A : Type 0} (xs rest ys : List A) → xs ++ rest ≡ ys → length xs ≡ length ys → xs ≡ ys
 whole xs [] ys e l = sym (append-nil xs) ∙ e
 whole xs (x ∷ rest) ys e l = absurd (omega (arith, ap length e, length-append xs (x ∷ rest), l))
 

@@ -6,4 +6,5 @@ pub mod Safety
 pub mod Driven
 pub mod Steps
 pub mod DrivenSafety
+pub mod Kept
 pub mod Answered

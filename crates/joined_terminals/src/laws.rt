@@ -2,6 +2,7 @@
 
 ghost use Rattle.joined_terminals.specs.Answered.{AnswersAreSteps};
 ghost use Rattle.joined_terminals.specs.DrivenSafety.{ConversationsAreSafe};
+ghost use Rattle.joined_terminals.specs.Kept.{ConfirmedAreStored, KeptAreDriven};
 ghost use Rattle.joined_terminals.specs.Octets.{BurstsAreHeard, BurstsArePieces, HearingTakes, SendingSends};
 ghost use Rattle.joined_terminals.specs.Safety.{JoinedAreSafe, TerminalsAreSafe};
 
@@ -54,6 +55,15 @@ pub fn conversations_are_safe()
     ensures { ConversationsAreSafe }
 {
     terminals_are_safe();
+}
+
+/// If each page is kept before anything is said after it, as `answer` does, each page that the caller counts confirmed is among those
+/// stored, also where the store refused a page; and a normal end of the caller means that all pages are stored.
+pub fn confirmed_are_stored()
+    ensures stored { ConfirmedAreStored }
+    ensures driven { KeptAreDriven }
+{
+    conversations_are_safe();
 }
 
 /// What `answer` of a conversation promises of a line, of a caller and of an answerer whose pages are stored, is a list of such steps, which
