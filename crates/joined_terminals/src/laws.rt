@@ -66,8 +66,8 @@ pub fn confirmed_are_stored()
     conversations_are_safe();
 }
 
-/// What `answer` of a conversation promises of a line, of a caller and of an answerer whose pages are stored, is a list of such steps, which
-/// leaves the other conversation as it was.
+/// What `answer` of a conversation promises of a line, of a caller and of an answerer whose pages are stored, is a list of such steps by
+/// which pages are kept before anything is said, also where it fails. It leaves the other conversation as it was.
 pub fn answers_are_steps()
     ensures { AnswersAreSteps }
 {
