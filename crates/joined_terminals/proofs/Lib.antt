@@ -20,3 +20,4 @@ pub mod Beside
 pub mod KeptSafe
 pub mod DrivenAnswers
 pub mod DrivenCalls
+pub mod Promised

@@ -8,3 +8,4 @@ pub mod Steps
 pub mod DrivenSafety
 pub mod Kept
 pub mod Answered
+pub mod Promised

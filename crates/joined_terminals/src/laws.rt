@@ -1,10 +1,14 @@
 //! What holds of two joined terminals, whatever happens. Nothing runs.
 
 ghost use Rattle.joined_terminals.specs.Answered.{AnswersAreSteps};
+ghost use Rattle.joined_terminals.specs.Promised.{CallersAnswer, CallersBreakOff, StoringAnswers, StoringBreaksOff};
 ghost use Rattle.joined_terminals.specs.DrivenSafety.{ConversationsAreSafe};
 ghost use Rattle.joined_terminals.specs.Kept.{ConfirmedAreStored, KeptAreDriven};
 ghost use Rattle.joined_terminals.specs.Octets.{BurstsAreHeard, BurstsArePieces, HearingTakes, SendingSends};
 ghost use Rattle.joined_terminals.specs.Safety.{JoinedAreSafe, TerminalsAreSafe};
+
+use conversations::{Keeper, PageStore};
+use stations::StoppableCaller;
 
 /// Two terminals are joined by a half-duplex line: a caller whose call can be stopped, and an answerer with limits. Whatever happens, the
 /// pages taken out and those still there are the first of the caller's document, pixel for pixel; each confirmed page is among them, and
@@ -73,3 +77,12 @@ pub fn answers_are_steps()
 {
     terminals_are_safe();
 }
+
+/// The contract of `answer`, of a caller and of an answerer whose pages go to a store that can be seen as a list, gives the answers of which
+/// `answers_are_steps` speaks, if the line comes of what is on its way.
+pub fn contracts_are_answers<P: PageStore, K: Keeper<StoppableCaller>>()
+    ensures answerer { StoringAnswers P P.stores P.refuses }
+    ensures answerer_fails { StoringBreaksOff P P.stores P.refuses }
+    ensures caller { CallersAnswer K K.keeps }
+    ensures caller_fails { CallersBreakOff K K.keeps }
+{}

@@ -1,0 +1,115 @@
+-- What `answer` promises is an answer.
+use Rattle.std.proofs.Common.{◌∷◌, ◌⊎◌, inl, inr, [], List, Bool, true, false, Option, refl, ap, sym, subst}
+use Rattle.std.specs.Prelude.{ℕ}
+use Rattle.conversations.specs.Answering.{StoreStep, StoresAll, StoresEach, StoresSome, limited_behaviour}
+use Rattle.conversations.specs.Conversations.{Behaviour, ConversationFields, refused_so}
+use Rattle.conversations.specs.Led.{caller_behaviour}
+use Rattle.conversations.specs.StoredLines.{storing}
+use Rattle.conversations.specs.Talking.{GivesAll, GivesSoFar, GivesSome, Keeping, KeepsOf, TellsAll, TellsPart, keeping}
+use Rattle.raster.specs.Pages.{PagePixels}
+use Rattle.stations.specs.Limiting.{LimitedFields}
+use Rattle.stations.specs.Stopping.{StoppableCallerFields}
+use Rattle.terminals.specs.Speaking.{BurstsOf}
+use Rattle.terminals.specs.declared.sending.SentBurst.{SentBurst}
+use Rattle.joined_terminals.specs.Answered.{GivesPart, caller_lends, leaves}
+use Rattle.joined_terminals.specs.Promised.{CallersAnswer, CallersBreakOff, IsListed, StoringAnswers, StoringBreaksOff}
+use Rattle.joined_terminals.specs.Steps.{appends}
+
+-- ---- a store as a list
+
+module _ {P : Type 0} (stores refuses : StoreStep P) (pages : P → List PagePixels) (l : IsListed P stores refuses pages) where
+  each_listed : (old : P) (xs : List PagePixels) (new : P) → StoresEach stores old xs new → StoresEach appends (pages old) xs (pages new)
+  each_listed old [] new h = ap pages h
+  each_listed old (x ∷ xs) new h = (pages h.0, l.stored old x h.0 h.1, each_listed h.0 xs new h.2)
+
+  some_listed : (old : P) (xs : List PagePixels) (new : P) → StoresSome stores refuses old xs new →
+      StoresSome appends leaves (pages old) xs (pages new)
+  some_listed old xs new h = (h.0, h.1, h.2, pages h.3, h.4, each_listed old h.0 h.3 h.5, l.refused h.3 h.1 new h.6)
+
+  all_listed : (c ready : ConversationFields LimitedFields) (old new : P) (kept : Bool) → StoresAll stores refuses c ready old new kept →
+      StoresAll appends leaves c ready (pages old) (pages new) kept
+  all_listed c ready old new true h = (each_listed old c.terminal.speaking.station.station.pages new h.0, h.1)
+  all_listed c ready old new false h = (some_listed old c.terminal.speaking.station.station.pages new h.0, h.1)
+
+-- ---- what is given of an answer that fails
+
+module _ {S K : Type 0} (b : Behaviour S) (k : Keeping S K) (lends : BurstsOf S) where
+  given_so_far : (left new : ConversationFields S) (bursts : List SentBurst) (rest : List ℕ) →
+      GivesSoFar b.side lends b.shows left bursts new rest → GivesSome b.side lends left bursts new ⊎ GivesAll b.side lends left bursts new
+  given_so_far left new bursts rest (inl some) = inl some.0
+  given_so_far left new bursts rest (inr all) = inr all.0
+
+  part_given : (ready new : ConversationFields S) (kept_in : K) (before after : Option (List ℕ)) →
+      TellsPart b k lends ready new kept_in before after ⊎ TellsAll S K b k lends ready new kept_in before after →
+      GivesPart S b.side lends ready new
+  part_given ready new kept_in before after (inl some) =
+      record { late = false; left = ready; withholds = refl; bursts = some.1.0; gives = inl some.1.1 }
+  part_given ready new kept_in before after (inr all) =
+      record {
+        late = all.late;
+        left = all.left;
+        withholds = all.withholds;
+        bursts = all.writes.bursts;
+        gives = given_so_far all.left new all.writes.bursts all.writes.rest all.writes.gives;
+      }
+
+-- ---- the contracts
+
+pub storing_answers : (P : Type 0) (stores refuses : StoreStep P) → StoringAnswers P stores refuses
+storing_answers P stores refuses pages l takes tells text old new keeper kept_in before after kept over others same a comes =
+    record {
+      ready = a.ready;
+      is_ready = record {
+        heard = a.heard;
+        takes = a.takes;
+        others = others;
+        comes = comes;
+        keeps = subst (λ s. StoresAll appends leaves (refused_so limited_behaviour a.heard) a.ready s (pages kept_in) kept) (sym same)
+            (all_listed stores refuses pages l (refused_so limited_behaviour a.heard) a.ready keeper kept_in kept a.keeps_so);
+      };
+      turn = record { left = a.left; withholds = a.withholds; bursts = a.writes.bursts; gives = a.writes.gives };
+    }
+
+pub storing_breaks_off : (P : Type 0) (stores refuses : StoreStep P) → StoringBreaksOff P stores refuses
+storing_breaks_off P stores refuses pages l takes tells text old new keeper kept_in before after others same a comes =
+    let t = storing stores refuses takes tells in
+    record {
+      ready = a.ready;
+      is_ready = record {
+        heard = a.heard;
+        takes = a.takes;
+        others = others;
+        comes = comes;
+        keeps = subst (λ s. StoresAll appends leaves (refused_so limited_behaviour a.heard) a.ready s (pages kept_in) a.kept) (sym same)
+            (all_listed stores refuses pages l (refused_so limited_behaviour a.heard) a.ready keeper kept_in a.kept a.keeps_so);
+      };
+      part = part_given t.station t.keeping t.lends a.ready new kept_in before after a.writes;
+    }
+
+pub callers_answer : (K : Type 0) (keeps : KeepsOf StoppableCallerFields K) → CallersAnswer K keeps
+callers_answer K keeps none takes tells text old new keeper kept_in before after kept over others a comes =
+    record {
+      ready = a.ready;
+      is_ready = record {
+        heard = a.heard;
+        takes = a.takes;
+        others = others;
+        comes = comes;
+        is = none keeper _ a.timed.said kept_in a.ready kept a.keeps_so;
+      };
+      turn = record { left = a.left; withholds = a.withholds; bursts = a.writes.bursts; gives = a.writes.gives };
+    }
+
+pub callers_break_off : (K : Type 0) (keeps : KeepsOf StoppableCallerFields K) → CallersBreakOff K keeps
+callers_break_off K keeps none takes tells text old new keeper kept_in before after others a comes =
+    record {
+      ready = a.ready;
+      is_ready = record {
+        heard = a.heard;
+        takes = a.takes;
+        others = others;
+        comes = comes;
+        is = none keeper _ a.timed.said kept_in a.ready a.kept a.keeps_so;
+      };
+      part = part_given caller_behaviour (keeping keeps takes tells) caller_lends a.ready new kept_in before after a.writes;
+    }
