@@ -1,1 +1,2 @@
--- No lemmas: what commands share needs answers alone.
+-- The lemmas of what commands share.
+pub mod ApartLemmas

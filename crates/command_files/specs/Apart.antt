@@ -1,9 +1,10 @@
--- Which files of a command aren't apart.
-use Rattle.std.specs.Prelude.{◌≡◌, ◌++◌, ◌&&◌, ◌||◌, ◌∷◌, [], ℕ, Bool, false, List, nat_eq, codes, string_bytes}
+-- Which files a command has, and which of them aren't apart.
+use Rattle.std.specs.Prelude.{◌≡◌, ◌++◌, ◌&&◌, ◌||◌, ◌∷◌, [], ℕ, Bool, false, true, List, Option, None, Some, nat_eq, map, codes, string_bytes}
 use Rattle.std.specs.Str.{bytes_eq}
 use Rattle.command_files.specs.declared.files.apart.CommandFile.{CommandFile}
 use Rattle.command_files.specs.declared.files.apart.Identity.{Identity}
 use Rattle.command_files.specs.declared.files.apart.Identity.TheVariants.{File, New}
+use Rattle.command_files.specs.declared.files.apart.NotApart.{NotApart}
 
 -- Two names lead to one place: to a file or a pipe of the same device and number, or to a new file of the same name in the same folder. A
 -- device, a socket and a folder are never written over.
@@ -35,7 +36,76 @@ abbrev pub AreApart : List CommandFile → Type 0
 AreApart [] = Unit {0}
 AreApart (file ∷ files) = IsApartFrom file files × AreApart files
 
--- a file of this name, which is written or only read, comes after the others
-abbrev pub AddsFile : List ℕ → Bool → List CommandFile → List CommandFile → Type 0
-AddsFile name is_written old new = (file : CommandFile) × (string_bytes file.name ≡ name) × (file.is_written ≡ is_written)
-    × (new ≡ old ++ file ∷ [])
+-- ---- the first two that aren't apart
+
+-- the first of these files that isn't apart from a file
+pub record IsFirstLike (file other : CommandFile) (files : List CommandFile) : Type 0 where
+  pub before : List CommandFile
+  pub after : List CommandFile
+  pub split : files ≡ before ++ other ∷ after
+  pub apart : IsApartFrom file before
+  pub one : are_one file other ≡ true
+
+-- each of the files that come first is apart from those behind it, and from all that are left
+abbrev pub AreApartBefore : List CommandFile → List CommandFile → Type 0
+AreApartBefore [] left = Unit {0}
+AreApartBefore (file ∷ before) left = IsApartFrom file (before ++ left) × AreApartBefore before left
+
+-- a file isn't apart from another one behind it, and those before it are apart from all that come behind them
+pub record AreFirstTwo (one other : CommandFile) (files : List CommandFile) : Type 0 where
+  pub before : List CommandFile
+  pub after : List CommandFile
+  pub split : files ≡ before ++ one ∷ after
+  pub apart : AreApartBefore before (one ∷ after)
+  pub like : IsFirstLike one other after
+
+-- what is said of the first two that aren't apart
+abbrev pub SaysFirstTwo : NotApart → List CommandFile → Type 0
+SaysFirstTwo said files = (one other : CommandFile) × AreFirstTwo one other files × (said.one ≡ one.role) × (said.other ≡ other.role)
+    × (said.are_printed ≡ are_both_printed one other)
+
+-- ---- which files a command has
+
+-- a file as a command names it: what its words call it, its name, and whether it is written
+pub record NamedFile : Type 0 where
+  pub role : List ℕ
+  pub name : List ℕ
+  pub is_written : Bool
+
+-- a file that is only read, with its role and its name
+abbrev pub read_as : List ℕ → List ℕ → NamedFile
+read_as role name = record { role = role; name = name; is_written = false }
+
+-- a file that is written
+abbrev pub written_as : List ℕ → List ℕ → NamedFile
+written_as role name = record { role = role; name = name; is_written = true }
+
+-- a file that is written, if it has a name
+abbrev pub may_be_written : List ℕ → Option (List ℕ) → List NamedFile
+may_be_written role None = []
+may_be_written role (Some name) = written_as role name ∷ []
+
+-- what is printed
+abbrev pub printed : NamedFile
+printed = written_as (codes "what is printed") (codes "-")
+
+-- the file of the first page of one that `--each` decodes into a folder
+abbrev pub first_page_in : List ℕ → List ℕ → NamedFile
+first_page_in folder base = written_as (codes "a page of --each") (folder ++ (codes "/" ++ (base ++ codes "-1.pbm")))
+
+-- a file of a call's octets in the folder of `--bits`
+abbrev pub octets_in : List ℕ → List ℕ → NamedFile
+octets_in folder name = written_as (codes "a file of --bits") (folder ++ (codes "/" ++ name))
+
+-- the files of a call's octets, one of what each station sent, if their folder is named
+abbrev pub bits_in : Option (List ℕ) → List NamedFile
+bits_in None = []
+bits_in (Some folder) = octets_in folder (codes "to-answerer.bits") ∷ octets_in folder (codes "to-caller.bits") ∷ []
+
+-- a file of a command, as it was named
+abbrev pub named : CommandFile → NamedFile
+named file = record { role = file.role.now; name = string_bytes file.name; is_written = file.is_written }
+
+-- the files that are named come after the others, in this order
+abbrev pub AddsFiles : List NamedFile → List CommandFile → List CommandFile → Type 0
+AddsFiles names old new = (files : List CommandFile) × (map named files ≡ names) × (new ≡ old ++ files)

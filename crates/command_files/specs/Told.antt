@@ -1,6 +1,8 @@
 -- What a fault is in words, with what the program alone knows of it.
-use Rattle.std.specs.Prelude.{ℕ, ◌++◌, Bool, true, false, if◌then◌else◌, nat_eq, List, Option, Some, None}
-use Rattle.std.specs.Prelude.{codes, option_map, unwrap_or}
+use Rattle.std.specs.Prelude.{ℕ, ◌≡◌, ◌+◌, ◌-◌, ◌^◌, ◌++◌, ◌∷◌, Bool, true, false, if◌then◌else◌, nat_eq, List, Option, Some, None}
+use Rattle.std.specs.Prelude.{All, codes, is_some, length, min, option_map, unwrap_or}
+use Rattle.raster.specs.Pages.{PagePixels}
+use Rattle.signals.specs.Agreement.{width_of_pixels}
 use Rattle.std.specs.Str.{bytes_eq}
 use Rattle.std.specs.declared.io.ErrorKind.{ErrorKind}
 use Rattle.faults.specs.declared.fault.ToolFault.{ToolFault}
@@ -68,3 +70,20 @@ told words (Some (NextPage octet)) = explained words.fault words.known
     ++ (codes "; without EOFB nothing marks a page's end: another page may begin at octet " ++ decimal octet)
 told words (Some NoEofb) = explained words.fault words.known
     ++ codes "; the file doesn't end with EOFB: nothing marks a page's end then, and another page may begin before this bit"
+
+-- ---- pages that no call carries
+
+-- a call can carry the page: it is 1,728, 2,048 or 2,432 pixels wide
+abbrev pub IsCallable : PagePixels → Type 0
+IsCallable page = is_some (width_of_pixels page.width) ≡ true
+
+-- The first of these pages that no call can carry: all before it can be carried. Its number, from 1, counts the pages that come before these
+-- too, and stays at 2^64 - 1.
+pub record IsFirstNotCallable (pages : List PagePixels) (before : ℕ) (cause : Cause) : Type 0 where
+  pub front : List PagePixels
+  pub page : PagePixels
+  pub rest : List PagePixels
+  pub split : pages ≡ front ++ page ∷ rest
+  pub carried : All IsCallable front
+  pub refused : is_some (width_of_pixels page.width) ≡ false
+  pub said : cause ≡ NotCallable (min (2 ^ 64 - 1) (before + length front + 1)) page.width

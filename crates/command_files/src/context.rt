@@ -2,8 +2,8 @@
 
 ghost use Rattle.faults.specs.Faults.{IsOutside};
 ghost use Rattle.faults.specs.declared.fault.ToolFault.TheVariants.{No};
-ghost use Rattle.command_files.specs.Told.{part_of};
-ghost use Rattle.std.specs.Prelude.{◌≡◌, ◌≢◌, ◌⊎◌, [], IfErr, IfOk, None, Some, option_map, true};
+ghost use Rattle.command_files.specs.Told.{IsCallable, IsFirstNotCallable, part_of};
+ghost use Rattle.std.specs.Prelude.{◌≡◌, ◌≢◌, ◌⊎◌, [], All, IfErr, IfOk, MatchOption, None, Some, option_map, true};
 
 use crate::notices::is_explained;
 use faults::{NO_MEMORY, ToolFault};
@@ -271,14 +271,23 @@ impl<'a> Context<'a> {
     }
 }
 
-/// Returns the first of these pages that a call can't carry; so many pages are before them.
-pub fn first_not_callable(pages: &[Page], before: usize) -> Option<Cause> {
-    for (at, page) in pages.iter().enumerate() {
+/// Returns the first of these pages that a call can't carry, with its number, from 1, after those that come before them; None if there is
+/// none.
+pub fn first_not_callable(pages: &[Page], before: usize) -> Option<Cause>
+    ensures { MatchOption result (All IsCallable pages.now) (IsFirstNotCallable pages.now before) }
+{
+    let mut left = pages;
+    let mut number = before;
+    while let [page, more @ ..] = left {
+        number = number.saturating_add(1);
         let width = page.width();
         if PageWidth::of_pixels(width).is_none() {
-            let page = before.saturating_add(at).saturating_add(1);
-            return Some(Cause::NotCallable { page, width });
+            return Some(Cause::NotCallable {
+                page: number,
+                width,
+            });
         }
+        left = more;
     }
     None
 }

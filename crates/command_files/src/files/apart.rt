@@ -1,7 +1,9 @@
 //! The files of a command that have to be apart: no two that are written are the same file, nor one that is read and one that is written.
 
-ghost use Rattle.command_files.specs.Apart.{AddsFile, AreApart, IsApartFrom, are_both_printed, are_one, is_same};
-ghost use Rattle.std.specs.Prelude.{◌≡◌, [], IfNone, MatchOption, OnOk, false, true};
+ghost use Rattle.command_files.specs.Apart.{AddsFiles, AreApart, AreFirstTwo, IsApartFrom, IsFirstLike, SaysFirstTwo, are_both_printed};
+ghost use Rattle.command_files.specs.Apart.{are_one, bits_in, first_page_in, is_same, may_be_written, octets_in, printed, read_as};
+ghost use Rattle.command_files.specs.Apart.{written_as};
+ghost use Rattle.std.specs.Prelude.{◌≡◌, ◌∷◌, [], MatchOption, OnOk, codes, option_map};
 
 use crate::files::STANDARD;
 use std::alloc::AllocError;
@@ -11,9 +13,6 @@ use std::{fmt, io};
 
 /// How many links are followed to a file that isn't there yet.
 const MOST_LINKS: u32 = 40;
-
-/// What the files of a call's octets are called in its folder.
-pub const SENT: [&str; 2] = ["to-answerer.bits", "to-caller.bits"];
 
 /// A file that a command reads or writes.
 #[derive(Drop)]
@@ -77,7 +76,7 @@ impl<'a> CommandFiles<'a> {
 
     /// The first two files that aren't apart; None if any two are.
     pub fn not_apart(&self) -> Option<NotApart>
-        ensures { IfNone result (AreApart self.now.files.items) }
+        ensures { MatchOption result (AreApart self.now.files.items) (λ said. SaysFirstTwo said self.now.files.items) }
     {
         let (one, other) = first_two(self.files.as_slice())?;
         Some(NotApart {
@@ -88,7 +87,8 @@ impl<'a> CommandFiles<'a> {
     }
 
     fn add(&mut self, role: &'static str, name: &str, is_written: bool) -> Result<(), AllocError>
-        ensures { OnOk result (AddsFile name.now is_written self.old.files.items self.new.files.items) }
+        ensures { OnOk result (AddsFiles (record { role = role.now; name = name.now; is_written = is_written } ∷ [])
+            self.old.files.items self.new.files.items) }
     {
         let alloc = self.rt.alloc();
         let identity = identity_of(self.rt, name, is_written)?;
@@ -105,26 +105,31 @@ impl<'a> CommandFiles<'a> {
 
     /// Adds a file that is read. Errors: memory was refused.
     pub fn reads(&mut self, role: &'static str, name: &str) -> Result<(), AllocError>
-        ensures { OnOk result (AddsFile name.now false self.old.files.items self.new.files.items) }
+        ensures { OnOk result (AddsFiles (read_as role.now name.now ∷ []) self.old.files.items self.new.files.items) }
     {
         self.add(role, name, false)
     }
 
     /// Adds a file that is written. Errors: memory was refused.
     pub fn writes(&mut self, role: &'static str, name: &str) -> Result<(), AllocError>
-        ensures { OnOk result (AddsFile name.now true self.old.files.items self.new.files.items) }
+        ensures { OnOk result (AddsFiles (written_as role.now name.now ∷ []) self.old.files.items self.new.files.items) }
     {
         self.add(role, name, true)
     }
 
     /// Adds the file of the first page of a file that `--each` decodes into a folder. Errors: memory was refused.
-    pub fn writes_in(&mut self, folder: &str, base: &str) -> Result<(), AllocError> {
+    pub fn writes_in(&mut self, folder: &str, base: &str) -> Result<(), AllocError>
+        ensures { OnOk result (AddsFiles (first_page_in folder.now base.now ∷ []) self.old.files.items self.new.files.items) }
+    {
         let name = format!(in self.rt.alloc(); "{folder}/{base}-1.pbm")?;
         self.writes("a page of --each", name.as_str())
     }
 
     /// Adds a file that is written, if one is named. Errors: memory was refused.
-    pub fn may_write(&mut self, role: &'static str, name: Option<&str>) -> Result<(), AllocError> {
+    pub fn may_write(&mut self, role: &'static str, name: Option<&str>) -> Result<(), AllocError>
+        ensures { OnOk result (AddsFiles (may_be_written role.now (option_map (λ name. name.now) name.entry))
+            self.old.files.items self.new.files.items) }
+    {
         match name {
             Some(name) => self.writes(role, name),
             None => Ok(()),
@@ -132,25 +137,35 @@ impl<'a> CommandFiles<'a> {
     }
 
     /// Adds standard output, which what is printed goes to. Errors: memory was refused.
-    pub fn prints(&mut self) -> Result<(), AllocError> {
+    pub fn prints(&mut self) -> Result<(), AllocError>
+        ensures { OnOk result (AddsFiles (printed ∷ []) self.old.files.items self.new.files.items) }
+    {
         self.writes("what is printed", STANDARD)
     }
 
     /// Adds the files of a call's octets, in the folder of `--bits`, if it is named. Errors: memory was refused.
-    pub fn may_write_bits(&mut self, folder: Option<&str>) -> Result<(), AllocError> {
-        if let Some(folder) = folder {
-            for name in SENT {
-                let name = format!(in self.rt.alloc(); "{folder}/{name}")?;
-                self.writes("a file of --bits", name.as_str())?;
-            }
-        }
-        Ok(())
+    pub fn may_write_bits(&mut self, folder: Option<&str>) -> Result<(), AllocError>
+        ensures { OnOk result (AddsFiles (bits_in (option_map (λ folder. folder.now) folder.entry))
+            self.old.files.items self.new.files.items) }
+    {
+        let Some(folder) = folder else {
+            return Ok(());
+        };
+        self.writes_bits(folder, "to-answerer.bits")?;
+        self.writes_bits(folder, "to-caller.bits")
+    }
+
+    fn writes_bits(&mut self, folder: &str, name: &str) -> Result<(), AllocError>
+        ensures { OnOk result (AddsFiles (octets_in folder.now name.now ∷ []) self.old.files.items self.new.files.items) }
+    {
+        let name = format!(in self.rt.alloc(); "{folder}/{name}")?;
+        self.writes("a file of --bits", name.as_str())
     }
 }
 
 /// Returns the first two files that aren't apart; None if any two are.
 fn first_two(files: &[CommandFile]) -> Option<(&CommandFile, &CommandFile)>
-    ensures { MatchOption result (AreApart files.now) (λ two. are_one two.0.now two.1.now ≡ true) }
+    ensures { MatchOption result (AreApart files.now) (λ two. AreFirstTwo two.0.now two.1.now files.now) }
 {
     let mut left = files;
     while let [file, more @ ..] = left {
@@ -164,7 +179,7 @@ fn first_two(files: &[CommandFile]) -> Option<(&CommandFile, &CommandFile)>
 
 /// Returns the first file that isn't apart from another one; None if that is apart from each.
 fn first_like<'a>(file: &CommandFile, files: &'a [CommandFile]) -> Option<&'a CommandFile>
-    ensures { MatchOption result (IsApartFrom file.now files.now) (λ other. are_one file.now other.now ≡ true) }
+    ensures { MatchOption result (IsApartFrom file.now files.now) (λ other. IsFirstLike file.now other.now files.now) }
 {
     let mut left = files;
     while let [other, more @ ..] = left {
