@@ -64,6 +64,7 @@ impl Kind {
 }
 
 /// Writes octets, as `Write::write_all` does. Errs if the writer fails; a beginning of them may be written then.
+// (`write_all` itself says nothing of what is written where it errs)
 pub(crate) fn write_octets<W: Write>(writer: &mut W, octets: &[u8]) -> io::Result<()>
     ensures { WritesText (W.contents writer.old) (W.contents writer.new) octets.now result }
 {
