@@ -1,7 +1,8 @@
 -- Files that are apart, one after the other; and files that come after others.
-use Rattle.std.proofs.Common.{◌≡◌, ◌<◌, ◌≤◌, ◌-◌, ◌++◌, ◌∷◌, ◌∙◌, [], List, ap, arith, drop, false, length, map, refl, slice_index_or, subst, sym, take}
-use Rattle.std.specs.Prelude.{Err, Ok, OnOk, Result}
-use Rattle.std.proofs.lemmas.List.{append-nil, append_assoc, map-append, take_all}
+use Rattle.std.proofs.Common.{◌≡◌, ◌<◌, ◌≤◌, ◌+◌, ◌-◌, ◌++◌, ◌∷◌, ◌∙◌, ℕ, [], List, ap, arith, drop, false, length, map, refl, slice_index_or}
+use Rattle.std.proofs.Common.{subst, sym, take}
+use Rattle.std.specs.Prelude.{Err, Ok, OnOk, Result, flat_map}
+use Rattle.std.proofs.lemmas.List.{append-nil, append_assoc, flat_map_more, map-append, take_all, take_more}
 use Rattle.command_files.specs.Apart.{AddsFiles, AreApart, AreApartBefore, IsApartFrom, NamedFile, are_one, named}
 use Rattle.command_files.specs.declared.files.apart.CommandFile.{CommandFile}
 
@@ -19,7 +20,7 @@ one_passed all before left item default split some is =
     split ∙ (ap (λ l. before ++ l) (left_split left item default some is)
     ∙ sym (append_assoc before (item ∷ []) (take (length left - 1) (drop 1 left))))
 
--- the first item of what is left, with those before it and those behind it
+-- the first item of what is left, with those before it and those after it
 pub found_there : {A : Type 0} (all before left : List A) (item default : A) → all ≡ before ++ left → 1 ≤ length left
     → item ≡ slice_index_or left 0 default → all ≡ before ++ item ∷ take (length left - 1) (drop 1 left)
 found_there all before left item default split some is = split ∙ ap (λ l. before ++ l) (left_split left item default some is)
@@ -30,7 +31,7 @@ pub apart_more : (file other : CommandFile) (before : List CommandFile) → IsAp
 apart_more file other [] all one = (one, tt)
 apart_more file other (first ∷ before) all one = (all.0, apart_more file other before all.1 one)
 
--- the next file is apart from those behind it, and so joins those that come first
+-- the next file is apart from those after it, and so joins those that come first
 pub before_more : (file : CommandFile) (before left : List CommandFile) → AreApartBefore before (file ∷ left) → IsApartFrom file left
     → AreApartBefore (before ++ file ∷ []) left
 before_more file [] left all one = (one, tt)
@@ -63,3 +64,18 @@ pub adds_on : {E : Type 0} (result : Result (Unit {0}) E) (first second : List N
     → AddsFiles first old mid → OnOk result (AddsFiles second mid new) → OnOk result (AddsFiles (first ++ second) old new)
 adds_on (Ok done) first second old mid new one other = adds_more first second old mid new one other
 adds_on (Err refused) first second old mid new one other = tt
+
+-- the files of one more item
+pub adds_item : {A : Type 0} (files_of : A → List NamedFile) (items : List A) (at : ℕ) (default : A) (old mid new : List CommandFile)
+    → at < length items → AddsFiles (flat_map files_of (take at items)) old mid
+    → AddsFiles (files_of (slice_index_or items at default)) mid new → AddsFiles (flat_map files_of (take (at + 1) items)) old new
+adds_item files_of items at default old mid new within before one =
+    let more : flat_map files_of (take (at + 1) items) ≡ flat_map files_of (take at items) ++ files_of (slice_index_or items at default) =
+    ap (flat_map files_of) (take_more items at default within)
+    ∙ sym (flat_map_more files_of [] (take at items) (slice_index_or items at default)) in
+    subst (λ l. AddsFiles l old new) (sym more) (adds_more _ _ old mid new before one)
+
+-- the files of all items
+pub adds_items : {A : Type 0} (files_of : A → List NamedFile) (items : List A) (at : ℕ) (old new : List CommandFile)
+    → length items ≤ at → AddsFiles (flat_map files_of (take at items)) old new → AddsFiles (flat_map files_of items) old new
+adds_items files_of items at old new all before = subst (λ l. AddsFiles (flat_map files_of l) old new) (take_all at items all) before

@@ -46,12 +46,12 @@ pub record IsFirstLike (file other : CommandFile) (files : List CommandFile) : T
   pub apart : IsApartFrom file before
   pub one : are_one file other ≡ true
 
--- each of the files that come first is apart from those behind it, and from all that are left
+-- each of the files that come first is apart from those after it, and from all that are left
 abbrev pub AreApartBefore : List CommandFile → List CommandFile → Type 0
 AreApartBefore [] left = Unit {0}
 AreApartBefore (file ∷ before) left = IsApartFrom file (before ++ left) × AreApartBefore before left
 
--- a file isn't apart from another one behind it, and those before it are apart from all that come behind them
+-- a file isn't apart from another one after it, and those before it are apart from all that come after them
 pub record AreFirstTwo (one other : CommandFile) (files : List CommandFile) : Type 0 where
   pub before : List CommandFile
   pub after : List CommandFile

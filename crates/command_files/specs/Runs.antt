@@ -1,6 +1,5 @@
 -- What all commands answer.
-use Rattle.std.specs.Prelude.{Bool, Result, IfErr, if◌then◌else◌}
-use Rattle.faults.specs.Faults.{IsOutside}
+use Rattle.std.specs.Prelude.{Bool, Result, if◌then◌else◌}
 use Rattle.faults.specs.declared.fault.ToolFault.{ToolFault}
 use Rattle.command_files.specs.declared.command.Completeness.{Completeness}
 use Rattle.command_files.specs.declared.command.Completeness.TheVariants.{Lacking, Whole}
@@ -12,7 +11,3 @@ completeness_of complete = if complete then Whole else Lacking
 -- what comes of a run is among what can come of its command
 abbrev pub Comes : (Result Completeness ToolFault → Type 0) → Result Completeness ToolFault → Type 0
 Comes gives given = gives given
-
--- a file or memory failed, or it ran to its end
-abbrev pub FailsOutside : Result Completeness ToolFault → Type 0
-FailsOutside given = IfErr given IsOutside

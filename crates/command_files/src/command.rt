@@ -102,14 +102,18 @@ fn shown_name<'a>(named: &'a str, part: Part) -> &'a str
 
 /// A command that runs, and what is asked of each.
 pub trait Runs {
-    ghost use Rattle.std.specs.Prelude.{ℕ, Option, Result, IfSome};
+    ghost use Rattle.std.specs.Prelude.{ℕ, List, Option, Result, IfSome, OnOk};
     ghost use Rattle.faults.specs.declared.fault.ToolFault.{ToolFault};
+    ghost use Rattle.command_files.specs.Apart.{AddsFiles, NamedFile};
     ghost use Rattle.command_files.specs.Runs.{Comes};
     ghost use Rattle.command_files.specs.declared.command.Completeness.{Completeness};
     ghost use Rattle.raster.specs.Pixels.{IsWidth};
 
     // The width of the coded pages that it reads, if it reads such.
     ghost width: { Self → Option ℕ };
+
+    // The files that it reads and writes, in the order in which they are added.
+    ghost its_files: { Self → List NamedFile };
 
     // What can come of it.
     ghost gives: { Self → Result Completeness ToolFault → Type 0 };
@@ -118,7 +122,8 @@ pub trait Runs {
     fn names(&self) -> Names<'_>;
 
     /// Adds the files that it reads and writes, which have to be apart. Errors: memory was refused.
-    fn add_files(&self, files: &mut CommandFiles<'_>) -> Result<(), AllocError>;
+    fn add_files(&self, files: &mut CommandFiles<'_>) -> Result<(), AllocError>
+        ensures { OnOk result (AddsFiles (its_files self.now) files.old.files.items files.new.files.items) };
 
     /// The form of the coded pages that it reads, if it reads such.
     fn page(&self) -> Option<PageForm>

@@ -1,1 +1,2 @@
--- No lemmas: the commands need answers alone.
+-- The lemmas of the commands.
+mod Given

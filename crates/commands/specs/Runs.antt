@@ -2,12 +2,13 @@
 --
 -- No clause says what a file holds. So the octets that a command has read, and what a writer had before and after, are some octets of which
 -- the engine's definition holds.
-use Rattle.std.specs.Prelude.{◌≡◌, ◌⊎◌, ◌<◌, ◌&&◌, ◌||◌, ◌-◌, ℕ, Bool, List, Option, Some, None, Result, Ok, Err, not, false, true, is_some, codes, drop}
-use Rattle.std.specs.Prelude.{IfErr, IfOk, if◌then◌else◌, length, max}
+use Rattle.std.specs.Prelude.{◌≡◌, ◌⊎◌, ◌<◌, ◌||◌, ◌-◌, ℕ, Bool, List, Option, Some, None, Result, Ok, Err, not, false}
+use Rattle.std.specs.Prelude.{IfOk, if◌then◌else◌, length}
 use Rattle.call_tallies.specs.ManyCalls.{TellsMany}
 use Rattle.captures.specs.declared.frames.ListForm.{ListForm}
 use Rattle.captures.specs.declared.frames.ListForm.TheVariants.{Explained, Plain, Records}
 use Rattle.calls.specs.BadLines.{LeavesDriven, RefusesDriven}
+use Rattle.calls.specs.Calls.{LeavesCall, RefusesCall}
 use Rattle.calls.specs.Ends.{ended_normally}
 use Rattle.calls.specs.SentBits.{Written}
 use Rattle.line_sim.specs.declared.live.Ending.{Ending}
@@ -27,7 +28,6 @@ use Rattle.commands.specs.declared.call.ScriptCommand.{ScriptCommand}
 use Rattle.commands.specs.declared.call.drives.DriveCommand.{DriveCommand}
 use Rattle.commands.specs.declared.code.CodeCommand.{CodeCommand}
 use Rattle.commands.specs.declared.decode.DecodeCommand.{DecodeCommand}
-use Rattle.commands.specs.declared.frames.FramesCommand.{FramesCommand}
 use Rattle.commands.specs.declared.show.ShowCommand.{ShowCommand}
 
 -- ---- pages
@@ -69,22 +69,26 @@ IdentifyGives (Ok Whole) = IsIdentified Known
 IdentifyGives (Ok Lacking) = IsIdentified Several
 IdentifyGives (Err fault) = IsOutside fault ⊎ IsIdentified (Nothing fault)
 
--- ---- frames
-
--- without a folder of pages nothing can be lacking
-pub record FramesGives (command : FramesCommand) (given : Result Completeness ToolFault) : Type 0 where
-  pub fails : IfErr given IsOutside
-  pub lists : is_some command.pages ≡ false → given ≡ Ok Lacking → ⊥
-
 -- ---- calls
 
 -- what a call that left this ending is asked to be: normal for both stations, if that is wanted
 abbrev pub as_wanted : Bool → Ending → Completeness
 as_wanted normal ending = completeness_of (ended_normally ending || not normal)
 
--- a call by a script is lacking only if a normal end is wanted
+-- a call by a script was run, and left this ending
+abbrev pub IsScripted : ScriptCommand → Ending → Type 0
+IsScripted command ending = (script images : List ℕ) × (before after : Written)
+    × LeavesCall command.options script images before after ending
+
+-- no call by a script was run to its end
+abbrev pub IsUnscripted : ScriptCommand → ToolFault → Type 0
+IsUnscripted command fault = IsOutside fault
+    ⊎ ((script images : List ℕ) × RefusesCall command.options.fine script images fault)
+
+-- a call by a script was run and ended so, or it was refused
 abbrev pub ScriptGives : ScriptCommand → Result Completeness ToolFault → Type 0
-ScriptGives command given = IfOk given (λ completeness. command.normal ≡ false → completeness ≡ Whole)
+ScriptGives command (Ok completeness) = (ending : Ending) × IsScripted command ending × (completeness ≡ as_wanted command.normal ending)
+ScriptGives command (Err fault) = IsUnscripted command fault
 
 -- call 0 over the bad line was run, and left this ending
 abbrev pub IsDriven : DriveCommand → Ending → Type 0

@@ -5,8 +5,11 @@ pub(crate) mod diagram;
 pub mod drives;
 
 ghost use Rattle.calls.specs.Calls.{HaveRows};
+ghost use Rattle.command_files.specs.Apart.{AddsFiles, read_as};
+ghost use Rattle.commands.specs.Files.{named_in, script_files};
+ghost use Rattle.commands.specs.Runs.{IsScripted, IsUnscripted};
 ghost use Rattle.faults.specs.Faults.{IsOutside};
-ghost use Rattle.std.specs.Prelude.{IfErr, IfOk};
+ghost use Rattle.std.specs.Prelude.{◌≡◌, ◌∷◌, IfErr, IfOk, OnOk, codes, string_bytes};
 
 use calls::{CallOptions, call_to_end, ended_normally, read_script};
 use command_files::command::{Completeness, NO_NAMES, Names, Runs};
@@ -49,7 +52,9 @@ impl<'a> CallFiles<'a> {
     }
 
     /// Adds the files, which have to be apart. Errors: memory was refused.
-    pub(crate) fn add_to(self, files: &mut CommandFiles<'_>) -> Result<(), AllocError> {
+    pub(crate) fn add_to(self, files: &mut CommandFiles<'_>) -> Result<(), AllocError>
+        ensures { OnOk result (AddsFiles (named_in self.entry) files.old.files.items files.new.files.items) }
+    {
         files.reads("IN", self.input)?;
         files.may_write("--out", self.out)?;
         files.may_write("--diagram", self.diagram)?;
@@ -113,6 +118,8 @@ impl Runs for ScriptCommand {
 
     ghost width = { λ command. None };
 
+    ghost its_files = { script_files };
+
     ghost gives = { λ command result. ScriptGives command result };
 
     fn names(&self) -> Names<'_> {
@@ -143,7 +150,9 @@ impl Runs for ScriptCommand {
 }
 
 impl ScriptCommand {
-    fn files(&self) -> CallFiles<'_> {
+    fn files(&self) -> CallFiles<'_>
+        ensures { read_as (codes "--script") (string_bytes self.now.script) ∷ named_in result ≡ script_files self.now }
+    {
         CallFiles {
             input: self.input.as_str(),
             out: self.out.as_deref(),
@@ -154,7 +163,9 @@ impl ScriptCommand {
 
     /// Reads the files, runs the call, and writes all but the stored pages.
     fn call(&self, context: &mut Context<'_>, files: CallFiles<'_>) -> Result<Ending, ToolFault>
-        ensures { IfOk result (λ ending. HaveRows ending.pages.items) }
+        ensures called { IfOk result (IsScripted self.now) }
+        ensures rows { IfOk result (λ ending. HaveRows ending.pages.items) }
+        ensures refused { IfErr result (IsUnscripted self.now) }
     {
         read_script_file(context, self.script.as_str())?;
         // a wrong script is refused before the document is read

@@ -27,8 +27,11 @@ pub struct CodeCommand {
 impl Runs for CodeCommand {
     ghost use Rattle.std.specs.Prelude.{None};
     ghost use Rattle.commands.specs.Runs.{CodeGives};
+    ghost use Rattle.commands.specs.Files.{code_files};
 
     ghost width = { λ command. None };
+
+    ghost its_files = { code_files };
 
     ghost gives = { λ command result. CodeGives command result };
 

@@ -39,8 +39,11 @@ pub struct DecodeCommand {
 impl Runs for DecodeCommand {
     ghost use Rattle.std.specs.Prelude.{Some};
     ghost use Rattle.commands.specs.Runs.{DecodeGives};
+    ghost use Rattle.commands.specs.Files.{decode_files};
 
     ghost width = { λ command. Some command.form.width };
+
+    ghost its_files = { decode_files };
 
     ghost gives = { λ command result. DecodeGives command result };
 

@@ -2,16 +2,19 @@
 
 pub mod two_captures;
 
+ghost use Rattle.commands.specs.Captured.{ListsOctets, StoresCaptured, StoresPagesOf, how_listed};
 ghost use Rattle.commands.specs.Runs.{list_form};
 ghost use Rattle.faults.specs.Faults.{IsOutside};
-ghost use Rattle.std.specs.Prelude.{◌≡◌, ◌+◌, IfErr, OnOk, false};
+ghost use Rattle.hdlc.specs.Gaps.{good};
+ghost use Rattle.raster.specs.Packed.{bits_of};
+ghost use Rattle.std.specs.Prelude.{◌≡◌, ◌+◌, ℕ, IfErr, IfOk, List, OnOk, false};
 
 use captures::{
     Captured, FoundStore, FrontStore, ListForm, ListOptions, Missing, PageNumbers, Stored,
     StoredFront, list_engine, pages_engine, salvage_pages_engine, write_missing, write_stored,
     write_stored_front,
 };
-use command_files::command::{Completeness, NO_NAMES, Names, Runs};
+use command_files::command::{Completeness, NO_NAMES, Names, Runs, both};
 use command_files::context::{Context, Part};
 use command_files::files::apart::CommandFiles;
 use command_files::files::images::store_page;
@@ -61,9 +64,12 @@ pub struct FramesCommand {
 
 impl Runs for FramesCommand {
     ghost use Rattle.std.specs.Prelude.{None};
-    ghost use Rattle.commands.specs.Runs.{FramesGives};
+    ghost use Rattle.commands.specs.Captured.{FramesGives};
+    ghost use Rattle.commands.specs.Files.{frames_files};
 
     ghost width = { λ command. None };
+
+    ghost its_files = { frames_files };
 
     ghost gives = { λ command result. FramesGives command result };
 
@@ -98,7 +104,7 @@ impl Runs for FramesCommand {
 impl FramesCommand {
     /// How the frames are listed.
     fn how(&self) -> ListOptions
-        ensures { result ≡ record { most = self.now.most; order = self.now.order; form = self.now.form } }
+        ensures { result ≡ how_listed self.now }
     {
         ListOptions {
             most: self.most.map(|most| most as usize),
@@ -123,7 +129,8 @@ impl FramesCommand {
 
     /// Lists the frames.
     fn list(&self, context: &mut Context<'_>) -> Result<(), ToolFault>
-        ensures { IfErr result IsOutside }
+        ensures listed { OnOk result ((octets : List ℕ) × ListsOctets self.now octets) }
+        ensures fault { IfErr result IsOutside }
     {
         let mut reader = self.open(context)?;
         let mut writer = printed::print(context)?;
@@ -149,7 +156,8 @@ impl FramesCommand {
         context: &mut Context<'_>,
         folder: &str,
     ) -> Result<Completeness, ToolFault>
-        ensures { IfErr result IsOutside }
+        ensures stored { IfOk result (λ completeness. (octets : List ℕ) × StoresPagesOf self.now octets completeness) }
+        ensures fault { IfErr result IsOutside }
     {
         // before a line is printed, or FILE is read
         output::check_folder(context, folder, Part::Output)?;
@@ -178,7 +186,7 @@ impl FramesCommand {
         if is_empty {
             say_no_pages(context, lines)?;
         }
-        Ok(Completeness::of(is_whole && !is_empty))
+        Ok(Completeness::of(both(is_whole, !is_empty)))
     }
 
     /// Lists the frames and gives their pages to the folder, if asked for also the rows before the gaps of others. Returns what
@@ -189,7 +197,9 @@ impl FramesCommand {
         writer: &mut W,
         store: &mut Folder<'_, '_>,
     ) -> Result<bool, ToolFault>
-        ensures { IfErr result IsOutside }
+        ensures found { OnOk result ((octets : List ℕ) × ListsOctets self.now octets
+            × StoresCaptured self.now.salvage (good (bits_of self.now.order octets)) store.old store.new) }
+        ensures fault { IfErr result IsOutside }
     {
         let alloc = store.context.alloc();
         if self.salvage {
@@ -225,9 +235,9 @@ struct Folder<'a, 'b> {
 }
 
 impl FoundStore for Folder<'_, '_> {
-    ghost use Rattle.commands.specs.Captured.{NotesFound};
+    ghost use Rattle.commands.specs.Captured.{takes_found};
 
-    ghost takes = { λ old found new. NotesFound old.numbers old.is_whole found new.numbers new.is_whole };
+    ghost takes = { takes_found };
 
     fn take(&mut self, found: Captured) -> Result<(), ToolFault> {
         self.is_empty = false;
@@ -245,9 +255,9 @@ impl FoundStore for Folder<'_, '_> {
 }
 
 impl FrontStore for Folder<'_, '_> {
-    ghost use Rattle.commands.specs.Captured.{NotesFront};
+    ghost use Rattle.commands.specs.Captured.{takes_front};
 
-    ghost fronts = { λ old number page new. NotesFront number new.numbers new.is_whole };
+    ghost fronts = { takes_front };
 
     fn take_front(&mut self, number: u8, page: Page) -> Result<(), ToolFault> {
         self.is_empty = false;
@@ -262,6 +272,7 @@ impl Folder<'_, '_> {
     fn store(&mut self, number: u8, page: Page, is_front: bool) -> Result<(), ToolFault>
         ensures number { OnOk result (self.new.numbers.page ≡ number + 1) }
         ensures whole { OnOk result (self.new.is_whole ≡ self.old.is_whole) }
+        ensures empty { OnOk result (self.new.is_empty ≡ self.old.is_empty) }
         ensures fault { IfErr result IsOutside }
     {
         let first = self.numbers.found(number);
@@ -332,6 +343,7 @@ impl Folder<'_, '_> {
     fn name_missing(&mut self, found: &Captured) -> Result<(), ToolFault>
         ensures number { OnOk result (self.new.numbers ≡ self.old.numbers) }
         ensures whole { OnOk result (self.new.is_whole ≡ false) }
+        ensures empty { OnOk result (self.new.is_empty ≡ self.old.is_empty) }
         ensures fault { IfErr result IsOutside }
     {
         self.is_whole = false;

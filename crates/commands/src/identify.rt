@@ -22,8 +22,11 @@ pub struct IdentifyCommand {
 impl Runs for IdentifyCommand {
     ghost use Rattle.std.specs.Prelude.{None};
     ghost use Rattle.commands.specs.Runs.{IdentifyGives};
+    ghost use Rattle.commands.specs.Files.{identify_files};
 
     ghost width = { λ command. None };
+
+    ghost its_files = { identify_files };
 
     ghost gives = { λ command result. IdentifyGives result };
 

@@ -45,8 +45,11 @@ impl ShowCommand {
 impl Runs for ShowCommand {
     ghost use Rattle.std.specs.Prelude.{Some};
     ghost use Rattle.commands.specs.Runs.{ShowGives};
+    ghost use Rattle.commands.specs.Files.{show_files};
 
     ghost width = { λ command. Some command.width };
+
+    ghost its_files = { show_files };
 
     ghost gives = { λ command result. ShowGives command result };
 

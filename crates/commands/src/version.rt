@@ -23,10 +23,12 @@ pub struct VersionCommand {
 }
 
 impl Runs for VersionCommand {
-    ghost use Rattle.std.specs.Prelude.{None};
+    ghost use Rattle.std.specs.Prelude.{[], None};
     ghost use Rattle.commands.specs.Runs.{VersionGives};
 
     ghost width = { λ command. None };
+
+    ghost its_files = { λ command. [] };
 
     ghost gives = { λ command result. VersionGives result };
 

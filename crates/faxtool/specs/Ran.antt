@@ -2,10 +2,9 @@
 use Rattle.std.specs.Prelude.{◌≡◌, ◌⊎◌, Result, Ok, Err}
 use Rattle.clap.specs.Words.{kind_of}
 use Rattle.clap.specs.declared.error.kind.ErrorKind.TheVariants.{ArgumentConflict}
+use Rattle.commands.specs.Captured.{CapturesGives, FramesGives}
 use Rattle.commands.specs.Each.{EachGives}
-use Rattle.commands.specs.Runs.{CodeGives, DecodeGives, DriveGives, FramesGives, IdentifyGives, ScriptGives, ShowGives}
-use Rattle.command_files.specs.Runs.{FailsOutside}
-use Rattle.commands.specs.Runs.{VersionGives}
+use Rattle.commands.specs.Runs.{CodeGives, DecodeGives, DriveGives, IdentifyGives, ScriptGives, ShowGives, VersionGives}
 use Rattle.commands.specs.Several.{SeveralGives}
 use Rattle.station_commands.specs.Talks.{AnswerGives, DialGives}
 use Rattle.faxtool.specs.declared.command.Command.{Command}
@@ -32,7 +31,7 @@ Ran (Show command) outcome = Gave (ShowGives command) outcome
 Ran (Decode command) outcome = Gave (DecodeGives command) outcome
 Ran (Each command) outcome = Gave (EachGives command) outcome
 Ran (Frames command) outcome = Gave (FramesGives command) outcome
-Ran (Captures command) outcome = Gave FailsOutside outcome
+Ran (Captures command) outcome = Gave (CapturesGives command) outcome
 Ran (Identify command) outcome = Gave IdentifyGives outcome
 Ran (Several command) outcome = Gave (SeveralGives command) outcome
 Ran (Call command) outcome = Gave (ScriptGives command) outcome

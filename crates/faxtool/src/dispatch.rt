@@ -1,6 +1,4 @@
 //! What is done for a command: its files are looked at, it runs, and its fault is shown.
-
-ghost use Rattle.faxtool.specs.Apart.{IsApartOutcome};
 ghost use Rattle.faxtool.specs.Jobs.{HasWidth};
 ghost use Rattle.faxtool.specs.Ran.{Gave, Ran};
 ghost use Rattle.raster.specs.Pixels.{IsWidth};

@@ -6,8 +6,7 @@ ghost use Rattle.page_files.specs.NextT6.{EndsByEofb};
 ghost use Rattle.page_files.specs.Refusals.{EndsInEmptyRuns};
 ghost use Rattle.raster.specs.Packed.{bits_of};
 ghost use Rattle.raster.specs.Pixels.{IsWidth};
-ghost use Rattle.faults.specs.Faults.{IsOutside};
-ghost use Rattle.std.specs.Prelude.{◌≡◌, IfErr, IfSome, Some, false};
+ghost use Rattle.std.specs.Prelude.{◌≡◌, IfSome, Some, false};
 
 mod row_widths;
 mod told;

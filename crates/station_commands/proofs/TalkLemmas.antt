@@ -1,14 +1,11 @@
 -- A station and its keeper that are led by lines.
-use Rattle.std.proofs.Common.{ℕ, ◌≡◌, List, Err, Ok, Result, inl, inr, refl, subst, zero, suc}
+use Rattle.std.proofs.Common.{ℕ, ◌≡◌, List, subst}
 use Rattle.std.specs.Prelude.{Option}
-use Rattle.station_commands.specs.Talks.{AfterLosses, EndsTalk, LedTo, StoppedAt, Talks}
-use Rattle.station_commands.specs.declared.station.Halted.{Halted}
+use Rattle.station_commands.specs.Talks.{LedTo, StoppedAt}
 use Rattle.conversations.specs.Conversations.{ConversationFields}
 use Rattle.conversations.specs.Conversing.{Converses, StopsSo, Talker, talk_state}
 use Rattle.conversations.specs.declared.conversing.ConverseFault.{ConverseFault}
-use Rattle.conversations.specs.declared.conversing.ConverseFault.TheVariants.{NoMemory}
 use Rattle.conversations.specs.declared.conversing.Ending.{Ending}
-use Rattle.conversations.specs.declared.conversing.Ending.TheVariants.{Over, Lost, Unkept}
 use Rattle.faults.specs.declared.fault.ToolFault.{ToolFault}
 
 pub led : {S K : Type 0} (t : Talker S K) (unread left unsaid said : Option (List ℕ)) (old new : ConversationFields S) (keeper kept : K)

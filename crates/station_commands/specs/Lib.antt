@@ -1,5 +1,6 @@
 -- The definitions of `dial` and `answer`.
 pub mod CallNotes
+pub mod Files
 pub mod Folders
 pub mod Lateness
 pub mod NoLines

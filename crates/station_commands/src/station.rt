@@ -338,8 +338,11 @@ pub struct AnswerCommand {
 impl Runs for AnswerCommand {
     ghost use Rattle.std.specs.Prelude.{None};
     ghost use Rattle.station_commands.specs.Talks.{AnswerGives};
+    ghost use Rattle.station_commands.specs.Files.{answer_files};
 
     ghost width = { λ command. None };
+
+    ghost its_files = { answer_files };
 
     ghost gives = { λ command result. AnswerGives command result };
 
@@ -490,8 +493,11 @@ pub struct DialCommand {
 impl Runs for DialCommand {
     ghost use Rattle.std.specs.Prelude.{None};
     ghost use Rattle.station_commands.specs.Talks.{DialGives};
+    ghost use Rattle.station_commands.specs.Files.{dial_files};
 
     ghost width = { λ command. None };
+
+    ghost its_files = { dial_files };
 
     ghost gives = { λ command result. DialGives command result };
 

@@ -1,8 +1,9 @@
 //! Calls over a bad line.
 
 ghost use Rattle.calls.specs.Calls.{HaveRows};
+ghost use Rattle.commands.specs.Files.{drive_files, named_in};
 ghost use Rattle.commands.specs.Runs.{AreDriven, IsDriven, IsUndriven};
-ghost use Rattle.std.specs.Prelude.{IfErr, IfOk, OnOk};
+ghost use Rattle.std.specs.Prelude.{◌≡◌, IfErr, IfOk, OnOk};
 
 use crate::call::{CallFiles, diagram};
 use call_tallies::drive_many;
@@ -45,6 +46,8 @@ impl Runs for DriveCommand {
 
     ghost width = { λ command. None };
 
+    ghost its_files = { drive_files };
+
     ghost gives = { λ command result. DriveGives command result };
 
     fn names(&self) -> Names<'_> {
@@ -79,7 +82,9 @@ impl Runs for DriveCommand {
 }
 
 impl DriveCommand {
-    fn files(&self) -> CallFiles<'_> {
+    fn files(&self) -> CallFiles<'_>
+        ensures { named_in result ≡ drive_files self.now }
+    {
         CallFiles {
             input: self.input.as_str(),
             out: self.out.as_deref(),

@@ -2,6 +2,7 @@
 
 ghost use Rattle.faults.specs.Faults.{IsOutside};
 ghost use Rattle.commands.specs.Each.{EndsSo};
+ghost use Rattle.commands.specs.Files.{base_name};
 ghost use Rattle.commands.specs.Each.{EndsAs, EndsFound, EndsRefused, IsDecodedSo, IsFileEnd, IsPageEnd, IsReadTo, file_end};
 ghost use Rattle.page_files.specs.Decodings.{broken_asked};
 ghost use Rattle.page_files.specs.Found.{Finds};
@@ -28,6 +29,7 @@ use page_files::{
 use raster::Page;
 use std::alloc::{AllocError, Global};
 use std::io::Write;
+use std::path::Path;
 use std::slice;
 
 /// Writes every page of many files as images.
@@ -59,8 +61,11 @@ pub(crate) enum PageEnd {
 impl Runs for EachCommand {
     ghost use Rattle.std.specs.Prelude.{option_map};
     ghost use Rattle.commands.specs.Each.{EachGives};
+    ghost use Rattle.commands.specs.Files.{each_files};
 
     ghost width = { λ command. option_map (λ form. form.width) command.form };
+
+    ghost its_files = { each_files };
 
     ghost gives = { EachGives };
 
@@ -98,14 +103,13 @@ impl Runs for EachCommand {
 }
 
 /// Returns a file's name without its folders.
-fn base_of(name: &str) -> &str {
+fn base_of(name: &str) -> &str
+    ensures { result.now ≡ base_name name.now }
+{
     if name == STANDARD {
         return "stdin";
     }
-    match name.rsplit_once('/') {
-        Some((_folders, last)) => last,
-        None => name,
-    }
+    Path::new(name).file_name().unwrap_or(name)
 }
 
 /// Prints the line, or the record, of a file. Errors: `Io` (8) if it can't be printed, `NoMemory` (9).

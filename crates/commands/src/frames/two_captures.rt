@@ -1,7 +1,8 @@
 //! The command `frames` where it draws two captures.
 
+ghost use Rattle.commands.specs.Captured.{IsCapture};
 ghost use Rattle.faults.specs.Faults.{IsOutside};
-ghost use Rattle.std.specs.Prelude.{IfErr};
+ghost use Rattle.std.specs.Prelude.{IfErr, IfOk};
 
 use crate::call::diagram;
 use call_pictures::{CapturedFrames, captured_frames, ladder_of};
@@ -33,11 +34,14 @@ pub struct CapturesCommand {
 
 impl Runs for CapturesCommand {
     ghost use Rattle.std.specs.Prelude.{None};
-    ghost use Rattle.command_files.specs.Runs.{FailsOutside};
+    ghost use Rattle.commands.specs.Captured.{CapturesGives};
+    ghost use Rattle.commands.specs.Files.{captures_files};
 
     ghost width = { λ command. None };
 
-    ghost gives = { λ command result. FailsOutside result };
+    ghost its_files = { captures_files };
+
+    ghost gives = { λ command result. CapturesGives command result };
 
     fn names(&self) -> Names<'_> {
         Names {
@@ -82,7 +86,8 @@ impl CapturesCommand {
         name: &str,
         part: Part,
     ) -> Result<CapturedFrames, ToolFault>
-        ensures { IfErr result IsOutside }
+        ensures read { IfOk result (IsCapture self.now.order) }
+        ensures fault { IfErr result IsOutside }
     {
         let mut reader = input::open(context, name, part, Watch::Shown)?;
         let frames = captured_frames(context.alloc(), &mut reader, self.order);

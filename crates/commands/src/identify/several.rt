@@ -28,8 +28,11 @@ pub struct SeveralCommand {
 impl Runs for SeveralCommand {
     ghost use Rattle.std.specs.Prelude.{None};
     ghost use Rattle.commands.specs.Several.{SeveralGives};
+    ghost use Rattle.commands.specs.Files.{several_files};
 
     ghost width = { λ command. None };
+
+    ghost its_files = { several_files };
 
     ghost gives = { SeveralGives };
 

@@ -1,5 +1,5 @@
 //! The words that the program is called with.
-ghost use Rattle.std.specs.Prelude.{◌≡◌, ◌≢◌, IfOk, IfSome, MatchOption, MatchResult, Some, codes, false, true};
+ghost use Rattle.std.specs.Prelude.{◌≡◌, IfOk, IfSome, MatchOption, MatchResult, Some, codes, false, true};
 ghost use Rattle.faxtool.specs.declared.args.unfit.Unfit.TheVariants.{NoRate, NoScript, ScriptAndLine, ScriptAndLose};
 ghost use Rattle.std.specs.Prelude.{ℕ, Option, if◌then◌else◌, is_some, map, option_map, string_bytes};
 ghost use Rattle.clap.specs.Words.{first_of, found_of, kind_of, rows_of, subcommand_rows_of};

@@ -1,14 +1,12 @@
 -- What the check asks of `conversation`.
-use Rattle.std.proofs.Common.{◌≡◌, ◌∙◌, ap, false, refl, subst, sym, ℕ}
+use Rattle.std.proofs.Common.{◌∙◌, ap, false, refl, subst, sym, ℕ}
 use Rattle.std.specs.Prelude.{None, Some}
 use Rattle.station_commands.specs.Talks.{NewAnswering}
 use Rattle.conversations.specs.Conversations.{ConversationFields}
-use Rattle.conversations.specs.declared.writing.Says.{Says}
 use Rattle.stations.specs.AnswererStep.{new_answerer}
 use Rattle.stations.specs.CallerStep.{no_params}
 use Rattle.stations.specs.Limiting.{LimitedFields}
 use Rattle.stations.specs.declared.turn.Turn.TheVariants.{Dis}
-use Rattle.terminals.specs.Clocks.{new_clock}
 use Rattle.terminals.specs.Speaking.{Speaking}
 use Rattle.station_commands.specs.Talks.{receiving}
 use Rattle.station_commands.proofs.station.AnswerCommand.conversation.Goals as goal

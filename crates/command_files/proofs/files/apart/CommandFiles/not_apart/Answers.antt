@@ -1,5 +1,5 @@
 -- What the check asks of `not_apart`.
-use Rattle.std.proofs.Common.{refl, rules, subst}
+use Rattle.std.proofs.Common.{refl, subst}
 use Rattle.command_files.specs.Apart.{AreFirstTwo}
 use Rattle.command_files.proofs.files.apart.CommandFiles.not_apart.Goals as goal
 
