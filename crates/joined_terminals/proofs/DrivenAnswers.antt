@@ -90,7 +90,7 @@ spoken_goes step true old new may h e = goes_by step old new may h e
 spoken_goes step false old new may h e = goes_by step old (answerer_speaks false new) may h e
 
 module _ (law : HearingTakes) where
-  turns_of : (old : Driven) (heard : ConversationFields LimitedFields) (others : List PlainItem) (given : PlainGiven) (brought : Bool) →
+  pub turns_of : (old : Driven) (heard : ConversationFields LimitedFields) (others : List PlainItem) (given : PlainGiven) (brought : Bool) →
       Gives limited_behaviour old.answerer.terminal given heard.terminal brought →
       (comes : Comes IsPiece old.answerer.terminal.framing old.to_answerer given others) →
       (silent : Bool) ×
@@ -117,7 +117,7 @@ module _ (law : HearingTakes) where
       subst (λ u. Goes (answerer_line line ∷ []) old h.heard old.stored u) none
       (spoken_goes (answerer_line line) turns.0 old (record old { answerer = h.heard; to_answerer = h.others }) none takes refl)
 
-  lost_turns : (old : Driven) (new : ConversationFields LimitedFields) (others : List PlainItem) (given : PlainGiven) →
+  pub lost_turns : (old : Driven) (new : ConversationFields LimitedFields) (others : List PlainItem) (given : PlainGiven) →
       LosesFrames limited_behaviour old.answerer.terminal given new.terminal →
       (comes : Comes IsPiece old.answerer.terminal.framing old.to_answerer given others) →
       (silent : Bool) × TurnsSo limited_behaviour IsPiece old.answerer.terminal old.to_answerer others given comes new.terminal silent

@@ -21,3 +21,9 @@ pub mod KeptSafe
 pub mod DrivenAnswers
 pub mod DrivenCalls
 pub mod Promised
+pub mod Counting
+pub mod Hearing
+pub mod HeldSafe
+pub mod HoldsOne
+pub mod HeldAnswers
+pub mod HeldPromised

@@ -39,7 +39,7 @@ module _ {S K : Type 0} (b : Behaviour S) (k : Keeping S K) (lends : BurstsOf S)
   given_so_far left new bursts rest (inl some) = inl some.0
   given_so_far left new bursts rest (inr all) = inr all.0
 
-  part_given : (ready new : ConversationFields S) (kept_in : K) (before after : Option (List ℕ)) →
+  pub part_given : (ready new : ConversationFields S) (kept_in : K) (before after : Option (List ℕ)) →
       TellsPart b k lends ready new kept_in before after ⊎ TellsAll S K b k lends ready new kept_in before after →
       GivesPart S b.side lends ready new
   part_given ready new kept_in before after (inl some) =

@@ -17,7 +17,7 @@ use Rattle.joined_terminals.specs.Steps.Step.{pages_stored}
 
 -- Where a step may be taken if each page is kept before anything is said after it: the answerer gives a burst only where no page is left in
 -- it, and once a page was refused it gives bursts and does nothing else. A page that is held for others stays in the answerer, which says
--- RNR meanwhile, so steps with held pages are others: there law `held_is_not_confirmed` of conversations holds.
+-- RNR meanwhile: those steps are in `Held.antt`.
 abbrev pub IsKept : Step → Driven → Type 0
 IsKept (caller_line line) d = Unit {0}
 IsKept (answerer_line line) d = d.unkept ≡ []

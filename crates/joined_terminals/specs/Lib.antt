@@ -9,3 +9,5 @@ pub mod DrivenSafety
 pub mod Kept
 pub mod Answered
 pub mod Promised
+pub mod Held
+pub mod HeldAnswers

@@ -3,11 +3,13 @@
 ghost use Rattle.joined_terminals.specs.Answered.{AnswersAreSteps};
 ghost use Rattle.joined_terminals.specs.Promised.{CallersAnswer, CallersBreakOff, StoringAnswers, StoringBreaksOff};
 ghost use Rattle.joined_terminals.specs.DrivenSafety.{ConversationsAreSafe};
+ghost use Rattle.joined_terminals.specs.Held.{HeldAreDriven, HeldAreStored};
+ghost use Rattle.joined_terminals.specs.HeldAnswers.{HeldAnswersAreSteps, HoldingAnswers, HoldingBreaksOff};
 ghost use Rattle.joined_terminals.specs.Kept.{ConfirmedAreStored, KeptAreDriven};
 ghost use Rattle.joined_terminals.specs.Octets.{BurstsAreHeard, BurstsArePieces, HearingTakes, SendingSends};
 ghost use Rattle.joined_terminals.specs.Safety.{JoinedAreSafe, TerminalsAreSafe};
 
-use conversations::{Keeper, PageStore};
+use conversations::{Keeper, PageHolder, PageStore};
 use stations::StoppableCaller;
 
 /// Two terminals are joined by a half-duplex line: a caller whose call can be stopped, and an answerer with limits. Whatever happens, the
@@ -85,4 +87,33 @@ pub fn contracts_are_answers<P: PageStore, K: Keeper<StoppableCaller>>()
     ensures answerer_fails { StoringBreaksOff P P.stores P.refuses }
     ensures caller { CallersAnswer K K.keeps }
     ensures caller_fails { CallersBreakOff K K.keeps }
+{}
+
+/// If no page is confirmed that is still in the answerer, as where others store its pages, each page that the caller counts confirmed is
+/// among those stored, also where the store lost or refused a page; and a normal end of the caller means that all pages are stored.
+pub fn held_are_stored()
+    ensures stored { HeldAreStored }
+    ensures driven { HeldAreDriven }
+{
+    conversations_are_safe();
+    stations::laws::answerers_keep();
+}
+
+/// What `answer` promises of a line, of an answerer that takes one page at a time, whose pages are held for others, is a list of such steps,
+/// also where it fails. It leaves the caller as it was, and the answerer takes one page at a time after it.
+pub fn held_answers_are_steps()
+    ensures { HeldAnswersAreSteps }
+{
+    terminals_are_safe();
+    conversations::laws::held_is_not_confirmed();
+    stations::laws::limited_serves();
+    stations::laws::answerers_keep();
+    stations::laws::always_answered();
+}
+
+/// The contract of `answer`, of an answerer whose pages are handed over to a holder that can be seen as a list, gives the answers of which
+/// `held_answers_are_steps` speaks, if the line comes of what is on its way.
+pub fn held_contracts_are_answers<P: PageHolder>()
+    ensures ok { HoldingAnswers P P.hands P.refuses P.stores P.held }
+    ensures err { HoldingBreaksOff P P.hands P.refuses P.stores P.held }
 {}
