@@ -16,14 +16,13 @@ pub mod DrivenWays
 pub mod DrivenCallers
 pub mod DrivenAnswerers
 pub mod DrivenSafe
-pub mod Beside
-pub mod KeptSafe
 pub mod DrivenAnswers
 pub mod DrivenCalls
 pub mod Promised
 pub mod Counting
 pub mod Hearing
 pub mod HeldSafe
+pub mod KeptSafe
 pub mod HoldsOne
 pub mod HeldAnswers
 pub mod HeldPromised

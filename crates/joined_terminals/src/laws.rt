@@ -69,7 +69,7 @@ pub fn confirmed_are_stored()
     ensures stored { ConfirmedAreStored }
     ensures driven { KeptAreDriven }
 {
-    conversations_are_safe();
+    held_are_stored();
 }
 
 /// What `answer` of a conversation promises of a line, of a caller and of an answerer whose pages are stored, is a list of such steps by
