@@ -656,5 +656,9 @@ driven : (steps : List Step) (old new : Driven) → DrivesHeld steps old new →
 driven [] old new h = h
 driven (step ∷ more) old new h = (h.0, h.2, driven more h.0 new h.3)
 
+wider : (sent : SentBurst) (sends : Bool) (d : Driven) → pages_of d.answerer ≢ [] → d.answerer.terminal.speaking.turn ≡ SendRnr →
+    IsHeld (answerer_gives sent sends) d × (¬ IsKept (answerer_gives sent sends) d)
+wider sent sends d has rnr = (inr (λ e. (let is : SendRnr ≡ Mcf = sym rnr ∙ e in cc)), has)
+
 pub held_are_driven : HeldAreDriven
-held_are_driven = record { kept = kept; driven = driven }
+held_are_driven = record { kept = kept; driven = driven; wider = wider }
