@@ -102,7 +102,7 @@ spoken_goes step true old new may h e none one = goes_by step old new may h e no
 spoken_goes step false old new may h e none one = goes_by step old (answerer_speaks false new) may h e none one
 
 -- a conversation whose call is stopped for a reason, if there is one
-watched : HoldersKnown → (c : ConversationFields LimitedFields) → HoldsOne c.terminal.speaking → (why : Option Refusal) →
+pub watched : HoldersKnown → (c : ConversationFields LimitedFields) → HoldsOne c.terminal.speaking → (why : Option Refusal) →
     HoldsOne (stopped_for limited_behaviour why c).terminal.speaking
 watched known c one None = one
 watched known c one (Some why) = stopped_holds known c.terminal.speaking one
@@ -221,7 +221,7 @@ module _ (law : HearingTakes) (known : HoldersKnown) where
 
 -- ---- bursts
 
-counted_on : (old : Speaking LimitedFields) → HoldsOne old → HoldsOne (record old { taken = old.taken + 1 })
+pub counted_on : (old : Speaking LimitedFields) → HoldsOne old → HoldsOne (record old { taken = old.taken + 1 })
 counted_on old one =
     record { limit = one.limit; room = one.room; within = one.within; busy = one.busy; silent = one.silent }
 
@@ -387,7 +387,7 @@ module _ (law : HearingTakes) (known : HoldersKnown) where
   without_memory line old new none one h = leads (refuses_goes law known line old new none one h)
 
 -- a new answerer
-new_holds : (document : Document) (wish : Wish) (caps : Caps) (limits : Limits) (first : Driven) →
+pub new_holds : (document : Document) (wish : Wish) (caps : Caps) (limits : Limits) (first : Driven) →
     Begins document wish caps limits (joined first) → limits.pages ≡ 1 → 0 < limits.octets →
     (first.unkept ≡ []) × HoldsOne first.answerer.terminal.speaking
 new_holds document wish caps limits first begins limit octets =

@@ -26,3 +26,4 @@ pub mod KeptSafe
 pub mod HoldsOne
 pub mod HeldAnswers
 pub mod HeldPromised
+pub mod OnePage

@@ -1,6 +1,6 @@
 -- Steps by which no page is confirmed that is still in the answerer, and what the store has after them. So an answerer works whose pages
 -- others store: a page stays in it until it is kept, and meanwhile it says RNR.
-use Rattle.std.specs.Prelude.{◌≡◌, ◌≢◌, ◌⊎◌, [], ◌∷◌, Bool, List}
+use Rattle.std.specs.Prelude.{◌≡◌, ◌≢◌, ◌<◌, ◌⊎◌, [], ◌∷◌, Bool, List}
 use Rattle.conversations.specs.Answering.{pages_of}
 use Rattle.signals.specs.declared.params.Caps.{Caps}
 use Rattle.signals.specs.declared.params.Wish.{Wish}
@@ -13,7 +13,7 @@ use Rattle.joined_terminals.specs.Driven.{Driven, joined}
 use Rattle.joined_terminals.specs.Joining.{Begins}
 use Rattle.joined_terminals.specs.Kept.{DrivesKept, IsKept, IsSafeStore}
 use Rattle.joined_terminals.specs.Steps.{Does, Drives, Step}
-use Rattle.joined_terminals.specs.Steps.Step.{answerer_gives}
+use Rattle.joined_terminals.specs.Steps.Step.{answerer_gives, page_refused}
 
 -- Where a step may be taken if no page is confirmed that is still in the answerer: while a page is left in it, it gives no burst of MCF, but
 -- may give any other, such as RNR. All else is as where each page is kept before anything is said after it.
@@ -41,3 +41,15 @@ abbrev pub HeldAreStored : Type 0
 HeldAreStored =
     (document : Document) (wish : Wish) (caps : Caps) (limits : Limits) (steps : List Step) (first last : Driven) →
     Each IsFullPage document → Begins document wish caps limits (joined first) → DrivesHeld steps first last → IsSafeStore document last
+
+-- a step by which no page is dropped: one that can't be handed over stays in the answerer
+abbrev pub DropsNone : Step → Type 0
+DropsNone page_refused = ⊥
+DropsNone step = Unit {0}
+
+-- The law: if the answerer takes one page at a time, each confirmed page is stored, whatever happens and whenever its pages are stored.
+abbrev pub OnePageIsStored : Type 0
+OnePageIsStored =
+    (document : Document) (wish : Wish) (caps : Caps) (limits : Limits) (steps : List Step) (first last : Driven) →
+    Each IsFullPage document → limits.pages ≡ 1 → 0 < limits.octets → Begins document wish caps limits (joined first) →
+    Each DropsNone steps → Drives steps first last → IsSafeStore document last

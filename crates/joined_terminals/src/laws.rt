@@ -3,7 +3,7 @@
 ghost use Rattle.joined_terminals.specs.Answered.{AnswersAreSteps};
 ghost use Rattle.joined_terminals.specs.Promised.{CallersAnswer, CallersBreakOff, StoringAnswers, StoringBreaksOff};
 ghost use Rattle.joined_terminals.specs.DrivenSafety.{ConversationsAreSafe};
-ghost use Rattle.joined_terminals.specs.Held.{HeldAreDriven, HeldAreStored};
+ghost use Rattle.joined_terminals.specs.Held.{HeldAreDriven, HeldAreStored, OnePageIsStored};
 ghost use Rattle.joined_terminals.specs.HeldAnswers.{HeldAnswersAreSteps, HoldingAnswers, HoldingBreaksOff};
 ghost use Rattle.joined_terminals.specs.Kept.{ConfirmedAreStored, KeptAreDriven};
 ghost use Rattle.joined_terminals.specs.Octets.{BurstsAreHeard, BurstsArePieces, HearingTakes, SendingSends};
@@ -97,6 +97,18 @@ pub fn held_are_stored()
 {
     conversations_are_safe();
     stations::laws::answerers_keep();
+}
+
+/// Whatever happens to an answerer that takes one page at a time, and whenever its pages are stored, each page that the caller counts
+/// confirmed is among those stored, unless pages are dropped; and a normal end of the caller means that all pages are stored.
+pub fn one_page_is_stored()
+    ensures { OnePageIsStored }
+{
+    held_are_stored();
+    conversations::laws::held_is_not_confirmed();
+    stations::laws::limited_serves();
+    stations::laws::answerers_keep();
+    stations::laws::always_answered();
 }
 
 /// What `answer` promises of a line, of an answerer that takes one page at a time, whose pages are held for others, is a list of such steps,
