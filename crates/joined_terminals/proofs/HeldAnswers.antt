@@ -121,7 +121,7 @@ module _ (law : HearingTakes) (known : HoldersKnown) where
         takes = h.takes;
         given = record { others = h.others; comes = h.comes; silent = turns.0; turns = turns.1; is = refl };
       } in
-      spoken_goes (answerer_line line) turns.0 old (record old { answerer = h.heard; to_answerer = h.others }) none takes refl none
+      spoken_goes (answerer_line line) turns.0 old (record old { answerer = h.heard; to_answerer = h.others }) tt takes refl none
       (given_holds known old.answerer.terminal h.heard.terminal old.to_answerer h.others turns.0 given h.takes.brought h.takes.given h.comes
       turns.1 one)
 
@@ -137,7 +137,7 @@ module _ (law : HearingTakes) (known : HoldersKnown) where
       at (inl e) =
           let refuses : AnswererRefusesLine line old (record old { answerer = new }) =
           record { answerer = new; refuses = h.refuses; given = inl (e, refl) } in
-          spoken_goes (answerer_refuses line) true old (record old { answerer = new }) none refuses refl none
+          spoken_goes (answerer_refuses line) true old (record old { answerer = new }) tt refuses refl none
           (subst (λ (t : TerminalFields LimitedFields). HoldsOne t.speaking) (sym e) one)
       at (inr loses) =
           let turns = lost_turns law old new h.others given loses h.comes in
@@ -148,7 +148,7 @@ module _ (law : HearingTakes) (known : HoldersKnown) where
             given = inr
                 (loses, record { others = h.others; comes = h.comes; silent = turns.0; turns = turns.1; is = refl });
           } in
-          spoken_goes (answerer_refuses line) turns.0 old (record old { answerer = new; to_answerer = h.others }) none refuses refl none
+          spoken_goes (answerer_refuses line) turns.0 old (record old { answerer = new; to_answerer = h.others }) tt refuses refl none
           (lost_holds known old.answerer.terminal new.terminal old.to_answerer h.others turns.0 given loses h.comes turns.1 one)
 
   watch_goes : (d : Driven) (heard : ConversationFields LimitedFields) (s : List PagePixels) → d.answerer ≡ heard → d.stored ≡ s →
@@ -160,7 +160,7 @@ module _ (law : HearingTakes) (known : HoldersKnown) where
       subst (λ (c : ConversationFields LimitedFields). HoldsOne c.terminal.speaking) (sym e) one in
       subst (λ x. Goes (answerer_watches ∷ []) d (refused_so limited_behaviour x) s) e
       (subst (λ x. Goes (answerer_watches ∷ []) d (refused_so limited_behaviour d.answerer) x) f
-      (spoken_goes answerer_watches silent d (record d { answerer = refused_so limited_behaviour d.answerer }) none refl refl none
+      (spoken_goes answerer_watches silent d (record d { answerer = refused_so limited_behaviour d.answerer }) tt refl refl none
       (watched known d.answerer here (refusal_in d.answerer.watch))))
 
   -- ---- what is done of the page
@@ -190,7 +190,7 @@ module _ (law : HearingTakes) (known : HoldersKnown) where
   hands_go false None (page ∷ pages) d ready stored none one h =
       subst (λ x. Goes (page_unhanded ∷ []) d x stored) (sym h.1)
       (subst (λ x. Goes (page_unhanded ∷ []) d (hung_up_so limited_cut_off d.answerer) x) (sym h.0)
-      (goes_by page_unhanded d (answerer_speaks false (record d { answerer = hung_up_so limited_cut_off d.answerer })) none refl refl none
+      (goes_by page_unhanded d (answerer_speaks false (record d { answerer = hung_up_so limited_cut_off d.answerer })) tt refl refl none
       (hung_up_holds known d.answerer.terminal.speaking one)))
 
   holds_go : (said : Said) (kept : Bool) (held : Option (List ℕ)) (d : Driven) (ready : ConversationFields LimitedFields)
@@ -200,14 +200,14 @@ module _ (law : HearingTakes) (known : HoldersKnown) where
       let now : Speaking LimitedFields = d.answerer.terminal.speaking in
       let most = one_at_most known.held now.station.limits now.station.station.pages one.limit one.within in
       subst (λ x. Goes (pages_stored ∷ []) d x stored) (sym h.1)
-      (goes_by pages_stored d (record d { answerer = with_pages_taken d.answerer; stored = stored }) none
+      (goes_by pages_stored d (record d { answerer = with_pages_taken d.answerer; stored = stored }) tt
       (record { all_kept = none; stored = stored; stores = each_of (pages_of d.answerer) d.stored stored most h.0; is = refl }) refl none
       (taken_holds known d.answerer.terminal.speaking one))
   holds_go (Told Lost file) kept held d ready stored none one h =
       let silent : Bool = is_silent (limited_behaviour.stop_says d.answerer.terminal.speaking.station) in
       subst (λ x. Goes (page_lost ∷ []) d x stored) (sym h.1)
       (subst (λ x. Goes (page_lost ∷ []) d (stopped_so limited_behaviour d.answerer) x) (sym h.0)
-      (spoken_goes page_lost silent d (record d { answerer = stopped_so limited_behaviour d.answerer }) none refl refl none
+      (spoken_goes page_lost silent d (record d { answerer = stopped_so limited_behaviour d.answerer }) tt refl refl none
       (stopped_holds known d.answerer.terminal.speaking one)))
   holds_go Quiet kept held d ready stored none one h = hands_go kept held (pages_of d.answerer) d ready stored none one h
   holds_go Busy kept held d ready stored none one h = hands_go kept held (pages_of d.answerer) d ready stored none one h

@@ -51,6 +51,7 @@ use Rattle.joined_terminals.proofs.Counting.{stopped_counts}
 use Rattle.joined_terminals.proofs.DrivenAnswers.{drives_both}
 use Rattle.joined_terminals.proofs.DrivenCallers.{given_next}
 use Rattle.joined_terminals.proofs.DrivenWays.{each_appended}
+use Rattle.joined_terminals.proofs.Gone.{IsGone, gone_for, gone_hung_up, gone_lost, gone_stopped}
 use Rattle.joined_terminals.proofs.Hearing.{Hears, given_heard, left_of_none, lost_heard, stopped_pages, stopped_quiet}
 use Rattle.joined_terminals.proofs.Left.{reply_taken, said_by}
 use Rattle.joined_terminals.proofs.Safe.{whole}
@@ -122,8 +123,8 @@ record Stands (first d : Driven) : Type 0 where
   -- no MCF is on its way to the caller, or all pages are stored
   coming : NoMcf d.to_caller ⊎ AllStored d
   saying : Saying d
-  -- no page was refused, or DCN is said
-  leaving : (d.unkept ≡ []) ⊎ (d.answerer.terminal.speaking.turn ≡ Dcn)
+  -- no page was refused, or the answerer leaves
+  leaving : (d.unkept ≡ []) ⊎ IsGone d.answerer.terminal.speaking
 
 module _ (document : Document) (first : Driven) (safe : (steps : List Step) (d : Driven) → Drives steps first d → IsSafeDriven document d) where
   -- where no page is left and none was refused, the pages stored are all that there are
@@ -307,9 +308,9 @@ module _ (document : Document) (first : Driven) (safe : (steps : List Step) (d :
   after_answerer silent d answerer others = answerer_speaks silent (record d { answerer = answerer; to_answerer = others })
 
   answerer_spoke : (silent : Bool) (d : Driven) (answerer : ConversationFields LimitedFields) (others : List PlainItem) →
-      Stands first d → d.unkept ≡ [] → Hears d.answerer.terminal.speaking answerer.terminal.speaking d.to_answerer others silent →
-      (own : List Step) → Drives own first (after_answerer silent d answerer others) → Stands first (after_answerer silent d answerer others)
-  answerer_spoke true d answerer others s none m own led =
+      Stands first d → (d.unkept ≡ []) ⊎ IsGone answerer.terminal.speaking →
+      Hears d.answerer.terminal.speaking answerer.terminal.speaking d.to_answerer others silent → (own : List Step) → Drives own first (after_answerer silent d answerer others) → Stands first (after_answerer silent d answerer others)
+  answerer_spoke true d answerer others s leaves m own led =
       record {
         own = own;
         led = led;
@@ -318,7 +319,7 @@ module _ (document : Document) (first : Driven) (safe : (steps : List Step) (d :
         stored = s.stored;
         coming = coming s.coming;
         saying = saying s.saying;
-        leaving = inl none;
+        leaving = leaves;
       }
     where
       coming : NoMcf d.to_caller ⊎ AllStored d → NoMcf d.to_caller ⊎ AllStored (after_answerer true d answerer others)
@@ -340,7 +341,7 @@ module _ (document : Document) (first : Driven) (safe : (steps : List Step) (d :
       saying (inl e) = inl e
       saying (inr (inl not)) = inr (inl (same_turn not (m.quiet refl)))
       saying (inr (inr shut)) = inr (inr (m.none_come shut.0, shut.1))
-  answerer_spoke false d answerer others s none m own led =
+  answerer_spoke false d answerer others s leaves m own led =
       record {
         own = own;
         led = led;
@@ -349,7 +350,7 @@ module _ (document : Document) (first : Driven) (safe : (steps : List Step) (d :
         stored = s.stored;
         coming = coming s.coming;
         saying = inr (inr (refl, refl));
-        leaving = inl none;
+        leaving = leaves;
       }
     where
       coming : NoMcf d.to_caller ⊎ AllStored d → NoMcf d.to_caller ⊎ AllStored (after_answerer false d answerer others)
@@ -361,13 +362,13 @@ module _ (document : Document) (first : Driven) (safe : (steps : List Step) (d :
             none_refused = all.none_refused;
           })
 
-  answerer_goes : (step : Step) (d new : Driven) → Stands first d → d.unkept ≡ [] → Does step d new → (silent : Bool)
-      (answerer : ConversationFields LimitedFields) (others : List PlainItem) →
+  answerer_goes : (step : Step) (d new : Driven) → Stands first d → Does step d new → (silent : Bool)
+      (answerer : ConversationFields LimitedFields) (others : List PlainItem) → (d.unkept ≡ []) ⊎ IsGone answerer.terminal.speaking →
       Hears d.answerer.terminal.speaking answerer.terminal.speaking d.to_answerer others silent →
       new ≡ after_answerer silent d answerer others → Stands first new
-  answerer_goes step d new s none does silent answerer others m e =
+  answerer_goes step d new s does silent answerer others leaves m e =
       subst (Stands first) (sym e)
-      (answerer_spoke silent d answerer others s none m (s.own ++ step ∷ [])
+      (answerer_spoke silent d answerer others s leaves m (s.own ++ step ∷ [])
       (subst (λ n. Drives (s.own ++ step ∷ []) first n) e (one_more d new s step does)))
 
   same_answerer : (d : Driven) (answerer : ConversationFields LimitedFields) → answerer.terminal ≡ d.answerer.terminal →
@@ -379,17 +380,28 @@ module _ (document : Document) (first : Driven) (safe : (steps : List Step) (d :
         quiet = λ f. inl (ap (λ (x : TerminalFields LimitedFields). x.speaking.turn) e);
       }
 
-  answerer_refused : (keeps : AnswerersKeep) (d new : Driven) (line : TimedLine) → Stands first d → d.unkept ≡ [] →
-      AnswererRefusesLine line d new → Stands first new
-  answerer_refused keeps d new line s none h = at h.given
+  -- a page was refused, and the answerer leaves, or it leaves now
+  still_leaving : (d : Driven) (answerer : ConversationFields LimitedFields) → (d.unkept ≡ []) ⊎ IsGone d.answerer.terminal.speaking →
+      (IsGone d.answerer.terminal.speaking → IsGone answerer.terminal.speaking) → (d.unkept ≡ []) ⊎ IsGone answerer.terminal.speaking
+  still_leaving d answerer (inl none) goes_on = inl none
+  still_leaving d answerer (inr gone) goes_on = inr (goes_on gone)
+
+  answerer_refused : (keeps : AnswerersKeep) (d new : Driven) (line : TimedLine) → Stands first d → AnswererRefusesLine line d new →
+      Stands first new
+  answerer_refused keeps d new line s h = at h.given
     where
       at : ((h.answerer.terminal ≡ d.answerer.terminal) × (new ≡ record d { answerer = h.answerer })) ⊎
           (LosesFrames limited_behaviour d.answerer.terminal (gives limited_behaviour d.answerer h.refuses.shown line) h.answerer.terminal ×
           AnswererIsGiven (gives limited_behaviour d.answerer h.refuses.shown line) d h.answerer new) → Stands first new
       at (inl e) =
-          answerer_goes (answerer_refuses line) d new s none h true h.answerer d.to_answerer (same_answerer d h.answerer e.0) e.1
+          answerer_goes (answerer_refuses line) d new s h true h.answerer d.to_answerer
+          (still_leaving d h.answerer s.leaving
+          (λ gone. subst (λ (t : TerminalFields LimitedFields). IsGone t.speaking) (sym e.0) gone)) (same_answerer d h.answerer e.0) e.1
       at (inr p) =
-          answerer_goes (answerer_refuses line) d new s none h p.1.silent h.answerer p.1.others
+          answerer_goes (answerer_refuses line) d new s h p.1.silent h.answerer p.1.others
+          (still_leaving d h.answerer s.leaving
+          (λ gone. gone_lost d.answerer.terminal h.answerer.terminal d.to_answerer p.1.others p.1.silent
+          (gives limited_behaviour d.answerer h.refuses.shown line) p.0 p.1.comes p.1.turns gone))
           (lost_heard keeps d.answerer.terminal h.answerer.terminal d.to_answerer p.1.others p.1.silent
           (gives limited_behaviour d.answerer h.refuses.shown line) p.0 p.1.comes p.1.turns) p.1.is
 
@@ -440,7 +452,7 @@ module _ (document : Document) (first : Driven) (safe : (steps : List Step) (d :
           stored = stored;
           coming = kept_coming s.coming;
           saying = s.saying;
-          leaving = s.leaving;
+          leaving = inl h.all_kept;
         })
 
   module _ (d new : Driven) (s : Stands first d) (h : RefusesPage d new) where
@@ -473,7 +485,7 @@ module _ (document : Document) (first : Driven) (safe : (steps : List Step) (d :
           stored = stored;
           coming = refused_coming s.coming;
           saying = inr (inr (refl, refl));
-          leaving = inr refl;
+          leaving = inr (gone_hung_up (with_pages_taken d.answerer).terminal.speaking);
         })
 
   -- ---- bursts of the answerer
@@ -493,12 +505,12 @@ module _ (document : Document) (first : Driven) (safe : (steps : List Step) (d :
 
     -- what goes onto the line has no MCF, or all pages are stored
     confirms : (pages_of d.answerer ≡ []) ⊎ (d.answerer.terminal.speaking.turn ≢ Mcf) → Saying d →
-        (d.unkept ≡ []) ⊎ (d.answerer.terminal.speaking.turn ≡ Dcn) → NoMcf more ⊎ AllStored d
+        (d.unkept ≡ []) ⊎ IsGone d.answerer.terminal.speaking → NoMcf more ⊎ AllStored d
     confirms (inr not) saying leaving = inl (no_more not)
     confirms (inl left) (inl e) leaving = inl (subst NoMcf (sym (shut_none sends d.answerer_clear h.burst.items e)) tt)
     confirms (inl left) (inr (inl not)) leaving = inl (no_more not)
     confirms (inl left) (inr (inr shut)) (inl none) = inr (record { shut = shut; none_left = left; none_refused = none })
-    confirms (inl left) (inr (inr shut)) (inr gone) = inl (no_more (λ e. (let is : Dcn ≡ Mcf = sym gone ∙ e in cc)))
+    confirms (inl left) (inr (inr shut)) (inr gone) = inl (no_more (λ e. (let is : Dcn ≡ Mcf = sym gone.0 ∙ e in cc)))
 
     same : h.answerer.terminal.speaking ≡ record d.answerer.terminal.speaking { taken = d.answerer.terminal.speaking.taken + 1 }
     same = (given_next AnswererSide answerer_lends d.answerer h.answerer sent d.answerer.begun h.gives).speaking
@@ -523,10 +535,9 @@ module _ (document : Document) (first : Driven) (safe : (steps : List Step) (d :
     given_saying (inr (inl not)) = inr (inl (λ e. not (sym same_turn ∙ e)))
     given_saying (inr (inr shut)) = inr (inr shut)
 
-    given_leaving : (d.unkept ≡ []) ⊎ (d.answerer.terminal.speaking.turn ≡ Dcn) →
-        (d.unkept ≡ []) ⊎ (h.answerer.terminal.speaking.turn ≡ Dcn)
+    given_leaving : (d.unkept ≡ []) ⊎ IsGone d.answerer.terminal.speaking → (d.unkept ≡ []) ⊎ IsGone h.answerer.terminal.speaking
     given_leaving (inl none) = inl none
-    given_leaving (inr gone) = inr (same_turn ∙ gone)
+    given_leaving (inr gone) = inr (subst IsGone (sym same) gone)
 
     gives_burst : (pages_of d.answerer ≡ []) ⊎ (d.answerer.terminal.speaking.turn ≢ Mcf) → Stands first new
     gives_burst may =
@@ -553,26 +564,30 @@ module _ (document : Document) (first : Driven) (safe : (steps : List Step) (d :
         h.caller.terminal d.to_caller h.given.others h.given.silent t r (gives caller_behaviour d.caller h.takes.shown line)
         h.takes.brought h.takes.given h.given.comes h.given.turns) h.given.is
     goes (answerer_line line) d new s may h =
-        answerer_goes (answerer_line line) d new s may h h.given.silent h.answerer h.given.others
+        answerer_goes (answerer_line line) d new s h h.given.silent h.answerer h.given.others (inl h.all_kept)
         (given_heard keeps d.answerer.terminal h.answerer.terminal d.to_answerer h.given.others h.given.silent
         (gives limited_behaviour d.answerer h.takes.shown line) h.takes.brought h.takes.given h.given.comes h.given.turns) h.given.is
     goes (caller_refuses line) d new s may h = caller_refused d new line s h
-    goes (answerer_refuses line) d new s may h = answerer_refused keeps d new line s may h
+    goes (answerer_refuses line) d new s may h = answerer_refused keeps d new line s h
     goes caller_watches d new s may h =
         caller_goes caller_watches d new s h
         (silent_unless (refusal_in d.caller.watch) (is_silent (caller_behaviour.stop_says d.caller.terminal.speaking.station)))
         (refused_so caller_behaviour d.caller) d.to_caller (watched d (refusal_in d.caller.watch)) h
     goes answerer_watches d new s may h =
-        answerer_goes answerer_watches d new s may h
+        answerer_goes answerer_watches d new s h
         (silent_unless (refusal_in d.answerer.watch) (is_silent (limited_behaviour.stop_says d.answerer.terminal.speaking.station)))
-        (refused_so limited_behaviour d.answerer) d.to_answerer (stops_for d (refusal_in d.answerer.watch)) h
+        (refused_so limited_behaviour d.answerer) d.to_answerer
+        (still_leaving d (refused_so limited_behaviour d.answerer) s.leaving (gone_for d.answerer (refusal_in d.answerer.watch)))
+        (stops_for d (refusal_in d.answerer.watch)) h
     goes pages_stored d new s may h = stores_on d new s h
     goes page_refused d new s may h = refuses_on d new s h
     goes page_lost d new s may h =
-        answerer_goes page_lost d new s may h (is_silent (limited_behaviour.stop_says d.answerer.terminal.speaking.station))
-        (stopped_so limited_behaviour d.answerer) d.to_answerer (stops d) h
+        answerer_goes page_lost d new s h (is_silent (limited_behaviour.stop_says d.answerer.terminal.speaking.station))
+        (stopped_so limited_behaviour d.answerer) d.to_answerer
+        (still_leaving d (stopped_so limited_behaviour d.answerer) s.leaving (gone_stopped d.answerer.terminal.speaking)) (stops d) h
     goes page_unhanded d new s may h =
-        answerer_goes page_unhanded d new s may h false (hung_up_so limited_cut_off d.answerer) d.to_answerer (hangs_up d) h
+        answerer_goes page_unhanded d new s h false (hung_up_so limited_cut_off d.answerer) d.to_answerer
+        (inr (gone_hung_up d.answerer.terminal.speaking)) (hangs_up d) h
     goes (caller_gives sent sends) d new s may h = caller_gives_on d new s sent sends h
     goes (answerer_gives sent sends) d new s may h = gives_burst d new s sent sends h may
     goes items_lost d new s may h = loses_on d new s h
@@ -634,19 +649,8 @@ held_are_stored keeps all document wish caps limits steps first last full begins
 -- ---- the steps of others
 
 kept_is_held : (step : Step) (d : Driven) → IsKept step d → IsHeld step d
-kept_is_held (caller_line line) d may = may
-kept_is_held (answerer_line line) d may = may
-kept_is_held (caller_refuses line) d may = may
-kept_is_held (answerer_refuses line) d may = may
-kept_is_held caller_watches d may = may
-kept_is_held answerer_watches d may = may
-kept_is_held pages_stored d may = may
-kept_is_held page_refused d may = may
-kept_is_held page_lost d may = may
-kept_is_held page_unhanded d may = may
-kept_is_held (caller_gives sent sends) d may = may
 kept_is_held (answerer_gives sent sends) d may = inl may
-kept_is_held items_lost d may = may
+kept_is_held _ d may = tt
 
 kept : (steps : List Step) (old new : Driven) → DrivesKept steps old new → DrivesHeld steps old new
 kept [] old new h = h

@@ -21,6 +21,7 @@ pub mod DrivenCalls
 pub mod Promised
 pub mod Counting
 pub mod Hearing
+pub mod Gone
 pub mod HeldSafe
 pub mod KeptSafe
 pub mod HoldsOne

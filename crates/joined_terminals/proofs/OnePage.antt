@@ -1,13 +1,12 @@
 -- An answerer that takes one page at a time gives no MCF while a page is left in it, whatever happens.
 use Rattle.std.proofs.Common.{◌≡◌, ◌∷◌, [], List, Bool, true, false, inl, inr, ◌⊎◌, sym, subst}
 use Rattle.conversations.specs.Answering.{limited_behaviour}
-use Rattle.conversations.specs.Conversations.{ConversationFields, LosesFrames, gives, hung_up_so, refused_so, stopped_so}
+use Rattle.conversations.specs.Conversations.{ConversationFields, LosesFrames, gives, hung_up_so, refused_so, stopped_so, with_pages_taken}
 use Rattle.conversations.specs.Led.{caller_behaviour}
 use Rattle.conversations.specs.Refusing.{refusal_in}
 use Rattle.conversations.specs.declared.line.TimedLine.{TimedLine}
 use Rattle.signals.specs.declared.signal.Side.TheVariants.{Answerer as AnswererSide}
 use Rattle.stations.specs.Inputs.{PlainItem}
-use Rattle.stations.specs.Laws.{Each}
 use Rattle.stations.specs.Limiting.{LimitedFields}
 use Rattle.stations.specs.Stopping.{StoppableCallerFields}
 use Rattle.terminals.specs.Runs.{TerminalFields}
@@ -15,7 +14,7 @@ use Rattle.terminals.specs.Speaking.{is_silent}
 use Rattle.terminals.specs.Stopping.{limited_cut_off}
 use Rattle.joined_terminals.specs.Answered.{answerer_lends}
 use Rattle.joined_terminals.specs.Driven.{Driven, answerer_speaks, caller_speaks}
-use Rattle.joined_terminals.specs.Held.{DrivesHeld, DropsNone, HeldAreStored, IsHeld, OnePageIsStored}
+use Rattle.joined_terminals.specs.Held.{DrivesHeld, HeldAreStored, IsHeld, OnePageIsStored}
 use Rattle.joined_terminals.specs.HeldAnswers.{HoldsOne}
 use Rattle.joined_terminals.specs.Steps.{AnswererIsGiven, AnswererRefusesLine, CallerIsGiven, CallerRefusesLine, Does, Drives, Step}
 use Rattle.joined_terminals.specs.Steps.{silent_unless}
@@ -26,36 +25,24 @@ use Rattle.joined_terminals.proofs.DrivenCallers.{given_next}
 use Rattle.joined_terminals.proofs.HeldAnswers.{counted_on, new_holds, watched}
 use Rattle.joined_terminals.proofs.HoldsOne.{HoldersKnown, given_holds, hung_up_holds, lost_holds, stopped_holds, taken_holds}
 
--- no page was refused, and the answerer takes one page at a time
-record IsWell (d : Driven) : Type 0 where
-  none : d.unkept ≡ []
-  one : HoldsOne d.answerer.terminal.speaking
+-- the answerer takes one page at a time
+abbrev IsWell : Driven → Type 0
+IsWell d = HoldsOne d.answerer.terminal.speaking
 
 may_go : (step : Step) (d : Driven) → IsWell d → IsHeld step d
-may_go (caller_line line) d well = tt
-may_go (answerer_line line) d well = well.none
-may_go (caller_refuses line) d well = tt
-may_go (answerer_refuses line) d well = well.none
-may_go caller_watches d well = tt
-may_go answerer_watches d well = well.none
-may_go pages_stored d well = well.none
-may_go page_refused d well = well.none
-may_go page_lost d well = well.none
-may_go page_unhanded d well = well.none
-may_go (caller_gives sent sends) d well = tt
-may_go (answerer_gives sent sends) d well = well.one.silent
-may_go items_lost d well = tt
+may_go (answerer_gives sent sends) d well = well.silent
+may_go _ d well = tt
 
--- steps of the caller leave the answerer, and no page is refused
+-- steps of the caller leave the answerer
 caller_so : (silent : Bool) (d new : Driven) (caller : ConversationFields StoppableCallerFields) (others : List PlainItem) → IsWell d →
     new ≡ caller_speaks silent (record d { caller = caller; to_caller = others }) → IsWell new
-caller_so true d new caller others well e = subst IsWell (sym e) (record { none = well.none; one = well.one })
-caller_so false d new caller others well e = subst IsWell (sym e) (record { none = well.none; one = well.one })
+caller_so true d new caller others well e = subst IsWell (sym e) well
+caller_so false d new caller others well e = subst IsWell (sym e) well
 
 answerer_so : (silent : Bool) (d new : Driven) (answerer : ConversationFields LimitedFields) (others : List PlainItem) → IsWell d →
     HoldsOne answerer.terminal.speaking → new ≡ answerer_speaks silent (record d { answerer = answerer; to_answerer = others }) → IsWell new
-answerer_so true d new answerer others well one e = subst IsWell (sym e) (record { none = well.none; one = one })
-answerer_so false d new answerer others well one e = subst IsWell (sym e) (record { none = well.none; one = one })
+answerer_so true d new answerer others well one e = subst IsWell (sym e) one
+answerer_so false d new answerer others well one e = subst IsWell (sym e) one
 
 caller_refused : (d new : Driven) (line : TimedLine) → IsWell d → CallerRefusesLine line d new → IsWell new
 caller_refused d new line well h = at h.given
@@ -75,54 +62,52 @@ module _ (known : HoldersKnown) where
           AnswererIsGiven (gives limited_behaviour d.answerer h.refuses.shown line) d h.answerer new) → IsWell new
       at (inl e) =
           answerer_so true d new h.answerer d.to_answerer well
-          (subst (λ (t : TerminalFields LimitedFields). HoldsOne t.speaking) (sym e.0) well.one) e.1
+          (subst (λ (t : TerminalFields LimitedFields). HoldsOne t.speaking) (sym e.0) well) e.1
       at (inr p) =
           answerer_so p.1.silent d new h.answerer p.1.others well
           (lost_holds known d.answerer.terminal h.answerer.terminal d.to_answerer p.1.others p.1.silent
-          (gives limited_behaviour d.answerer h.refuses.shown line) p.0 p.1.comes p.1.turns well.one) p.1.is
+          (gives limited_behaviour d.answerer h.refuses.shown line) p.0 p.1.comes p.1.turns well) p.1.is
 
-  stays_well : (step : Step) (d new : Driven) → IsWell d → DropsNone step → Does step d new → IsWell new
-  stays_well (caller_line line) d new well drops h = caller_so h.given.silent d new h.caller h.given.others well h.given.is
-  stays_well (answerer_line line) d new well drops h =
+  stays_well : (step : Step) (d new : Driven) → IsWell d → Does step d new → IsWell new
+  stays_well (caller_line line) d new well h = caller_so h.given.silent d new h.caller h.given.others well h.given.is
+  stays_well (answerer_line line) d new well h =
       answerer_so h.given.silent d new h.answerer h.given.others well
       (given_holds known d.answerer.terminal h.answerer.terminal d.to_answerer h.given.others h.given.silent
-      (gives limited_behaviour d.answerer h.takes.shown line) h.takes.brought h.takes.given h.given.comes h.given.turns well.one) h.given.is
-  stays_well (caller_refuses line) d new well drops h = caller_refused d new line well h
-  stays_well (answerer_refuses line) d new well drops h = answerer_refused d new line well h
-  stays_well caller_watches d new well drops h =
+      (gives limited_behaviour d.answerer h.takes.shown line) h.takes.brought h.takes.given h.given.comes h.given.turns well) h.given.is
+  stays_well (caller_refuses line) d new well h = caller_refused d new line well h
+  stays_well (answerer_refuses line) d new well h = answerer_refused d new line well h
+  stays_well caller_watches d new well h =
       caller_so (silent_unless (refusal_in d.caller.watch) (is_silent (caller_behaviour.stop_says d.caller.terminal.speaking.station)))
       d new (refused_so caller_behaviour d.caller) d.to_caller well h
-  stays_well answerer_watches d new well drops h =
+  stays_well answerer_watches d new well h =
       answerer_so
       (silent_unless (refusal_in d.answerer.watch) (is_silent (limited_behaviour.stop_says d.answerer.terminal.speaking.station))) d new
-      (refused_so limited_behaviour d.answerer) d.to_answerer well (watched known d.answerer well.one (refusal_in d.answerer.watch)) h
-  stays_well pages_stored d new well drops h =
-      subst IsWell (sym h.is) (record { none = well.none; one = taken_holds known d.answerer.terminal.speaking well.one })
-  stays_well page_refused d new well drops h = absurd drops
-  stays_well page_lost d new well drops h =
-      answerer_so (is_silent (limited_behaviour.stop_says d.answerer.terminal.speaking.station)) d new
-      (stopped_so limited_behaviour d.answerer) d.to_answerer well (stopped_holds known d.answerer.terminal.speaking well.one) h
-  stays_well page_unhanded d new well drops h =
-      answerer_so false d new (hung_up_so limited_cut_off d.answerer) d.to_answerer well
-      (hung_up_holds known d.answerer.terminal.speaking well.one) h
-  stays_well (caller_gives sent sends) d new well drops h =
-      subst IsWell (sym h.is) (record { none = well.none; one = well.one })
-  stays_well (answerer_gives sent sends) d new well drops h =
+      (refused_so limited_behaviour d.answerer) d.to_answerer well (watched known d.answerer well (refusal_in d.answerer.watch)) h
+  stays_well pages_stored d new well h =
+      subst IsWell (sym h.is) (taken_holds known d.answerer.terminal.speaking well)
+  stays_well page_refused d new well h =
       subst IsWell (sym h.is)
-      (record {
-        none = well.none;
-        one = subst HoldsOne (sym (given_next AnswererSide answerer_lends d.answerer h.answerer sent d.answerer.begun h.gives).speaking)
-            (counted_on d.answerer.terminal.speaking well.one);
-      })
-  stays_well items_lost d new well drops h = subst IsWell (sym h.is) (record { none = well.none; one = well.one })
+      (hung_up_holds known (with_pages_taken d.answerer).terminal.speaking (taken_holds known d.answerer.terminal.speaking well))
+  stays_well page_lost d new well h =
+      answerer_so (is_silent (limited_behaviour.stop_says d.answerer.terminal.speaking.station)) d new
+      (stopped_so limited_behaviour d.answerer) d.to_answerer well (stopped_holds known d.answerer.terminal.speaking well) h
+  stays_well page_unhanded d new well h =
+      answerer_so false d new (hung_up_so limited_cut_off d.answerer) d.to_answerer well
+      (hung_up_holds known d.answerer.terminal.speaking well) h
+  stays_well (caller_gives sent sends) d new well h =
+      subst IsWell (sym h.is) well
+  stays_well (answerer_gives sent sends) d new well h =
+      subst IsWell (sym h.is)
+      (subst HoldsOne (sym (given_next AnswererSide answerer_lends d.answerer h.answerer sent d.answerer.begun h.gives).speaking)
+      (counted_on d.answerer.terminal.speaking well))
+  stays_well items_lost d new well h = subst IsWell (sym h.is) well
 
-  all_held : (steps : List Step) (d last : Driven) → IsWell d → Each DropsNone steps → Drives steps d last → DrivesHeld steps d last
-  all_held [] d last well drops h = h
-  all_held (step ∷ more) d last well drops h =
-      (h.0, may_go step d well, h.1, all_held more h.0 last (stays_well step d h.0 well drops.0 h.1) drops.1 h.2)
+  all_held : (steps : List Step) (d last : Driven) → IsWell d → Drives steps d last → DrivesHeld steps d last
+  all_held [] d last well h = h
+  all_held (step ∷ more) d last well h =
+      (h.0, may_go step d well, h.1, all_held more h.0 last (stays_well step d h.0 well h.1) h.2)
 
 pub one_page_is_stored : HeldAreStored → HoldersKnown → OnePageIsStored
-one_page_is_stored stored known document wish caps limits steps first last full limit octets begins drops drives =
-    let new = new_holds document wish caps limits first begins limit octets in
+one_page_is_stored stored known document wish caps limits steps first last full limit octets begins drives =
     stored document wish caps limits steps first last full begins
-    (all_held known steps first last (record { none = new.0; one = new.1 }) drops drives)
+    (all_held known steps first last (new_holds document wish caps limits first begins limit octets).1 drives)

@@ -13,13 +13,13 @@ use Rattle.joined_terminals.specs.Driven.{Driven, joined}
 use Rattle.joined_terminals.specs.Joining.{Begins}
 use Rattle.joined_terminals.specs.Kept.{DrivesKept, IsKept, IsSafeStore}
 use Rattle.joined_terminals.specs.Steps.{Does, Drives, Step}
-use Rattle.joined_terminals.specs.Steps.Step.{answerer_gives, page_refused}
+use Rattle.joined_terminals.specs.Steps.Step.{answerer_gives}
 
 -- Where a step may be taken if no page is confirmed that is still in the answerer: while a page is left in it, it gives no burst of MCF, but
--- may give any other, such as RNR. All else is as where each page is kept before anything is said after it.
+-- may give any other, such as RNR.
 abbrev pub IsHeld : Step → Driven → Type 0
 IsHeld (answerer_gives sent sends) d = (pages_of d.answerer ≡ []) ⊎ (d.answerer.terminal.speaking.turn ≢ Mcf)
-IsHeld step d = IsKept step d
+IsHeld step d = Unit {0}
 
 -- steps lead from one state of both to another, one after the other, each from where it may be taken
 abbrev pub DrivesHeld : List Step → Driven → Driven → Type 0
@@ -42,14 +42,9 @@ HeldAreStored =
     (document : Document) (wish : Wish) (caps : Caps) (limits : Limits) (steps : List Step) (first last : Driven) →
     Each IsFullPage document → Begins document wish caps limits (joined first) → DrivesHeld steps first last → IsSafeStore document last
 
--- a step by which no page is dropped: one that can't be handed over stays in the answerer
-abbrev pub DropsNone : Step → Type 0
-DropsNone page_refused = ⊥
-DropsNone step = Unit {0}
-
 -- The law: if the answerer takes one page at a time, each confirmed page is stored, whatever happens and whenever its pages are stored.
 abbrev pub OnePageIsStored : Type 0
 OnePageIsStored =
     (document : Document) (wish : Wish) (caps : Caps) (limits : Limits) (steps : List Step) (first last : Driven) →
     Each IsFullPage document → limits.pages ≡ 1 → 0 < limits.octets → Begins document wish caps limits (joined first) →
-    Each DropsNone steps → Drives steps first last → IsSafeStore document last
+    Drives steps first last → IsSafeStore document last

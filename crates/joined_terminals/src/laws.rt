@@ -100,7 +100,7 @@ pub fn held_are_stored()
 }
 
 /// Whatever happens to an answerer that takes one page at a time, and whenever its pages are stored, each page that the caller counts
-/// confirmed is among those stored, unless pages are dropped; and a normal end of the caller means that all pages are stored.
+/// confirmed is among those stored; and a normal end of the caller means that all pages are stored.
 pub fn one_page_is_stored()
     ensures { OnePageIsStored }
 {
