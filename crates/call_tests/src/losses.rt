@@ -44,48 +44,69 @@ fn white_call(alloc: Global) -> Result<DrivenCall, Fail> {
     Ok(DrivenCall::new(alloc, document, wish, caps, patience)?)
 }
 
+/// How a call whose items have these fates ends: whether nothing comes after its end, both ends, and the number of stored pages.
+type Ending = (bool, Option<End>, Option<End>, usize);
+
+/// The ending of a call whose items have these fates.
+fn ending_of(alloc: Global, letters: &str) -> Result<Ending, Fail> {
+    let mut call = white_call(alloc)?;
+    let _steps = call.drive(&fates_of(alloc, letters)?, 1000)?;
+    let is_over = call.step(Fate::Comes).is_none();
+    let ending = call.into_live().into_ending();
+    Ok((
+        is_over,
+        ending.caller_end,
+        ending.answerer_end,
+        ending.pages.len(),
+    ))
+}
+
+/// The call goes through.
+const NORMAL: Ending = (true, Some(End::Normal), Some(End::Normal), 1);
+
+/// The caller ends so, and the answerer, whose peer left, stores no page.
+const fn broken(caller: End) -> Ending {
+    (true, Some(caller), Some(End::PeerLeft), 0)
+}
+
 // With no loss there come: DIS, DCS, the training check, CFR; FCD, three RCP, PPS, MCF; DCN.
 #[test]
 fn the_fewest_losses_that_break_a_call(rt: HostRuntime) -> Result<(), Fail> {
     let alloc = rt.alloc();
-    let normal = (End::Normal, End::Normal, 1);
-    for (letters, broken) in [
-        // the DIS
-        ("L L", normal),
-        ("L L L", (End::NoAnswer, End::PeerLeft, 0)),
-        // the DCS, whose training check comes; and the CFR
-        ("C LC LC", normal),
-        ("C LC LC LC", (End::NoReply, End::PeerLeft, 0)),
-        ("C CCL CCL", normal),
-        ("C CCL CCL CCL", (End::NoReply, End::PeerLeft, 0)),
-        // the training check at each of six speeds, whose FTT comes
-        ("C CSC CSC CSC CSC CSC", normal),
-        (
-            "C CSC CSC CSC CSC CSC CSC",
-            (End::Training, End::PeerLeft, 0),
-        ),
-        // the PPS
-        ("CCCC CCCCL L", normal),
-        ("CCCC CCCCL L L", (End::NoReply, End::PeerLeft, 0)),
-        // the PPS, and then its MCF: the page is stored, and the caller never hears it
-        ("CCCC CCCCL CL", normal),
-        ("CCCC CCCCL CL CL", (End::NoReply, End::Normal, 1)),
-        // the same FCD in each burst, whose PPR comes
-        ("CCCC LCCCCC LCCCCC LCCCCC", normal),
-        (
-            "CCCC LCCCCC LCCCCC LCCCCC LCCCCC",
-            (End::Unreadable, End::PeerLeft, 0),
-        ),
-        // the DCN
-        ("CCCC CCCCCC L", (End::Normal, End::NoAnswer, 1)),
-    ] {
-        let mut call = white_call(alloc)?;
-        let _steps = call.drive(&fates_of(alloc, letters)?, 1000)?;
-        assert!(rt; call.step(Fate::Comes).is_none(), "{letters}");
-        let ending = call.into_live().into_ending();
-        assert_eq!(rt; ending.caller_end, Some(broken.0), "{letters}");
-        assert_eq!(rt; ending.answerer_end, Some(broken.1), "{letters}");
-        assert_eq!(rt; ending.pages.len(), broken.2, "{letters}");
-    }
+    // the DIS
+    assert_eq!(rt; ending_of(alloc, "L L")?, NORMAL);
+    assert_eq!(rt; ending_of(alloc, "L L L")?, broken(End::NoAnswer));
+    // the DCS, whose training check comes; and the CFR
+    assert_eq!(rt; ending_of(alloc, "C LC LC")?, NORMAL);
+    assert_eq!(rt; ending_of(alloc, "C LC LC LC")?, broken(End::NoReply));
+    assert_eq!(rt; ending_of(alloc, "C CCL CCL")?, NORMAL);
+    assert_eq!(rt; ending_of(alloc, "C CCL CCL CCL")?, broken(End::NoReply));
+    // the training check at each of six speeds, whose FTT comes
+    let trained = "C CSC CSC CSC CSC CSC";
+    assert_eq!(rt; ending_of(alloc, trained)?, NORMAL);
+    let failed = "C CSC CSC CSC CSC CSC CSC";
+    assert_eq!(rt; ending_of(alloc, failed)?, broken(End::Training));
+    Ok(())
+}
+
+// The same of what comes after the CFR.
+#[test]
+fn the_fewest_losses_of_a_page(rt: HostRuntime) -> Result<(), Fail> {
+    let alloc = rt.alloc();
+    // the PPS
+    assert_eq!(rt; ending_of(alloc, "CCCC CCCCL L")?, NORMAL);
+    assert_eq!(rt; ending_of(alloc, "CCCC CCCCL L L")?, broken(End::NoReply));
+    // the PPS, and then its MCF: the page is stored, and the caller never hears it
+    assert_eq!(rt; ending_of(alloc, "CCCC CCCCL CL")?, NORMAL);
+    let unheard = (true, Some(End::NoReply), Some(End::Normal), 1);
+    assert_eq!(rt; ending_of(alloc, "CCCC CCCCL CL CL")?, unheard);
+    // the same FCD in each burst, whose PPR comes
+    let asked = "CCCC LCCCCC LCCCCC LCCCCC";
+    assert_eq!(rt; ending_of(alloc, asked)?, NORMAL);
+    let too_often = "CCCC LCCCCC LCCCCC LCCCCC LCCCCC";
+    assert_eq!(rt; ending_of(alloc, too_often)?, broken(End::Unreadable));
+    // the DCN
+    let alone = (true, Some(End::Normal), Some(End::NoAnswer), 1);
+    assert_eq!(rt; ending_of(alloc, "CCCC CCCCCC L")?, alone);
     Ok(())
 }
