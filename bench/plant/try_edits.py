@@ -1,62 +1,131 @@
 #!/usr/bin/env python3
 """Tries the must-fail edits that the gate leaves out for their time, those of bench/plant/edits.
 
-    bench/plant/try_edits.py [CRATE..]
+    bench/plant/try_edits.py [CRATE[/WORD]..]        (at the top of the repository, over what its checks kept)
 
-Without a word it tries those of every crate. It copies the sources into a temporary folder, puts these edits in place of the gate's,
-and runs `rt ci CRATE..` there: proofs that a gate on this machine has kept are taken over, so that an edit takes 6 to 60 processor
-seconds. Prints what `rt ci` says, then each edit that was refused for another reason than a goal that became false
-(must_fail_reasons.py says how that is seen). Ends with status 1 if there is one, or one that is still proved."""
+Without a word it tries those of every crate; with one, those whose name has it. Each is put into a copy of its crate, over the libraries
+that a gate or `rt check` left below it, and the function that it changes is checked alone, which takes a fraction of a minute. The whole
+crate is checked where no function is changed, or where that one is still proved: then what calls it has to refuse. Prints for each edit
+what was refused, whether that is a goal that became false (must_fail_reasons.py says how that is seen), and a count. JOBS in the
+environment is how many checks run side by side, 4 where it isn't set. Ends with status 1 if an edit is still proved, or is refused for
+another reason alone."""
+import concurrent.futures
 import os
-import shutil
+import queue
+import re
 import subprocess
 import sys
 import tempfile
 from pathlib import Path
 
-from must_fail_reasons import TRIED, shows_a_goal
+from must_fail_reasons import shows_a_goal
+from refuted import JOBS, QUEUE, place
 
 TOP = Path(__file__).resolve().parent.parent.parent
 EDITS = TOP / "bench" / "plant" / "edits"
+# How a function begins in a formatted source.
+FUNCTION = re.compile(r'(?:    )?(?:pub(?:\(\w+\))? )?(?:const |extern "C" |unsafe )*fn (\w+)')
 
 
-def copy_sources(to, names):
-    """Copies the crates without what was built, with the edits of these crates in place of the gate's."""
-    for file in ("crates.txt", "HANDLES"):
-        shutil.copy(TOP / file, to / file)
-    shutil.copytree(TOP / "crates", to / "crates", ignore=shutil.ignore_patterns("out", "must-fail"))
-    for name in names:
-        shutil.copytree(EDITS / name, to / "crates" / name / "must-fail")
+def pairs_of(edit):
+    """The file, the old text and the new one of each pair of an edit."""
+    file, old, found = None, None, []
+    for line in edit.read_text().split("\n"):
+        word, _, text = line.partition(": ")
+        if word == "file":
+            file = text.strip()
+        elif word == "old":
+            old = text
+        elif line.startswith("new:"):
+            found.append((file, old, line.removeprefix("new:").removeprefix(" ")))
+    return found
 
 
-def run_gate(folder, names):
-    """Runs `rt ci` over these crates, and returns its lines and its status."""
-    path = os.environ["PATH"] + os.pathsep + "/opt/rattle/bin"
-    command = ["rt", "ci", *names]
-    ran = subprocess.Popen(command, cwd=folder, env={**os.environ, "PATH": path}, stdout=subprocess.PIPE, text=True)
-    lines = []
-    for line in ran.stdout:
-        print(line, end="", flush=True)
-        lines.append(line.strip())
-    return lines, ran.wait()
+def function_at(text, at, module):
+    """The name of the function that stands at this place of a formatted source, by its type and its trait or by its module; None if
+    none does."""
+    owner, name = module, None
+    for line in text[:at].split("\n"):
+        kind = re.match(r"(?:pub(?:\(crate\))? )?(?:impl|trait)\b(?:<.*?>)? (.*?) \{$", line)
+        if kind:
+            trait, _, own = kind[1].rpartition(" for ")
+            bare = lambda it: re.sub(r"<.*|&('\w+ )?", "", it).split("::")[-1]
+            owner, name = bare(own) + bare(trait), None
+        elif line == "}":
+            owner, name = module, None
+        else:
+            begun = FUNCTION.match(line)
+            name = begun[1] if begun else name
+    return f"{owner}::{name}" if name else None
+
+
+def changed_function(crate, pairs):
+    """The function that an edit changes first; None if it changes none."""
+    for file, old, _new in pairs:
+        path = TOP / "crates" / crate / file
+        if file.startswith("src/"):
+            module = path.parent.name if path.name == "mod.rt" else path.stem
+            text = path.read_text()
+            begin = text.find(old)
+            # an old text may begin at the end of the line before the function
+            return function_at(text, begin + len(old), crate if module == "lib" else module)
+    return None
+
+
+def said(folder, *words):
+    """Whether a check passes, and the lines that say why not."""
+    command = QUEUE + ["rt", "check", "--jobs", "1", *words]
+    done = subprocess.run(command, cwd=folder, capture_output=True, text=True)
+    lines = (done.stdout + done.stderr).split("\n")
+    only = next((found for found in (re.match(r"only=(\d+) proved=(\d+)", line) for line in lines) if found), None)
+    passes = done.returncode == 0 and (only[1] == only[2] != "0" if "--only" in words and only else True)
+    told = [line.strip() for line in lines if re.match(r"(note: )?\S+:\d+:\d+:", line)]
+    return passes, told or [line for line in lines if line][-3:]
+
+
+def tried(top, crate, edit):
+    """Whether an edit is refused as it should be, and what is said of it."""
+    folder, pairs = Path(place(top, crate)), pairs_of(edit)
+    name = changed_function(crate, pairs)
+    for file, old, new in pairs:
+        path = folder / file
+        path.write_text(path.read_text().replace(old, new))
+    passes, told = said(folder, "--only", name) if name else (True, [])
+    where = name or "the crate"
+    if passes:
+        where = "the crate"
+        passes, told = said(folder)
+    if passes:
+        return False, "NOT REFUSED"
+    reason = next(filter(shows_a_goal, told), None)
+    return (True, f"refused, {where}: {reason[:160]}") if reason else (False, f"for another reason, {where}: {told[0][:160]}")
 
 
 def main(words):
-    every = sorted(folder.name for folder in EDITS.iterdir() if any(folder.glob("*.edit")))
-    lacking = [word for word in words if word not in every]
+    wanted = [word.partition("/") for word in words] or [(folder.name, "", "") for folder in sorted(EDITS.iterdir())]
+    lacking = [crate for crate, _slash, _word in wanted if not (EDITS / crate).is_dir()]
     if lacking:
         print(f"bench/plant/edits has no edits of {lacking[0]}", file=sys.stderr)
         return 2
-    names = words or every
-    with tempfile.TemporaryDirectory(prefix="edits-") as room:
-        copy_sources(Path(room), names)
-        lines, status = run_gate(room, names)
-    tried = [found for found in map(TRIED.match, lines) if found]
-    others = [found for found in tried if not shows_a_goal(found[2])]
-    for found in others:
-        print(f"for another reason: {found[1]}: {found[2]}")
-    print(f"{len(tried)} edits of {' '.join(names)} were tried, {len(others)} refused for another reason than a goal that became false")
-    return 1 if status or others or not tried else 0
+    edits = [(crate, edit) for crate, _slash, word in wanted for edit in sorted((EDITS / crate).glob("*.edit")) if word in edit.stem]
+    places, count = queue.Queue(), 0
+    with tempfile.TemporaryDirectory(prefix="edits-") as top:
+        for number in range(JOBS):
+            places.put(f"{top}/{number}")
+
+        def judged(told):
+            mine = places.get()
+            try:
+                return told, tried(mine, *told)
+            finally:
+                places.put(mine)
+
+        with concurrent.futures.ThreadPoolExecutor(JOBS) as pool:
+            for (crate, edit), (is_refused, text) in pool.map(judged, edits):
+                count += is_refused
+                print(f"{crate}/{edit.stem}: {text}", flush=True)
+    print(f"{count} of {len(edits)} refused by a goal that became false")
+    return 0 if edits and count == len(edits) else 1
 
 
 if __name__ == "__main__":
