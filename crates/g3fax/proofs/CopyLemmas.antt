@@ -1,7 +1,8 @@
 -- Rows that are copied by their octets.
-use Rattle.std.proofs.Common.{◌≡◌, ℕ, ◌+◌, ◌*◌, ◌<◌, ◌≤◌, false, List, [], ◌∷◌, ◌++◌, length, take, replicate}
+use Rattle.std.proofs.Common.{◌≡◌, ℕ, ◌+◌, ◌*◌, ◌≤◌, false, List, [], ◌∷◌, ◌++◌, length, take, replicate}
 use Rattle.std.proofs.Common.{sym, ap, ◌∙◌, arith, get_or}
-use Rattle.std.proofs.lemmas.List.{take_at, take_more}
+use Rattle.std.specs.Prelude.{All}
+use Rattle.std.proofs.lemmas.List.{get_or-append-add, length-append, take_at}
 use Rattle.raster.specs.declared.packed.Order.TheVariants.{MsbFirst}
 use Rattle.raster.specs.declared.row.Color.{Color}
 use Rattle.raster.specs.Pages.{PagePixels, IsPage}
@@ -22,10 +23,12 @@ row_read row octets holds =
     (ap (take n) (sym holds.filled.filled) ∙ take-bits_in MsbFirst octets n (8 * length octets) most))
 
 -- a row of a page is as wide as the page
-pub row_wide : (page : PagePixels) (rows : List (List Color)) (n : ℕ) (row : List Color) → IsPage page → rows ≡ page.rows → n < length rows
-    → row ≡ get_or rows n row → length row ≡ page.width
-row_wide page rows n row is same within here =
-    ap length (here ∙ ap (λ (xs : List (List Color)). get_or xs n row) same) ∙ is.wide n row (rw (← same) within)
+pub row_wide : (page : PagePixels) (before after : List (List Color)) (row : List Color) → IsPage page
+    → before ++ row ∷ after ≡ page.rows → length row ≡ page.width
+row_wide page before after row is all =
+    let wide : All (λ (r : List Color). length r ≡ page.width) (before ++ row ∷ after) = rw all is.wide in
+    let here : get_or (before ++ row ∷ after) (length before + 0) row ≡ row = get_or-append-add before (row ∷ after) 0 row in
+    ap length (sym here) ∙ wide (length before + 0) row (omega (arith, length-append before (row ∷ after)))
 
 -- a row of a page has octets enough for the page's width
 pub row_fits : (page : PagePixels) (row : List Color) (octets : List ℕ) → length row ≡ page.width → HoldsRow row octets
@@ -37,11 +40,8 @@ abbrev pub with_rows : PagePixels → List (List Color) → PagePixels
 with_rows page rows = record page { rows = rows }
 
 -- one row more is copied
-pub copy_more : (page : PagePixels) (rows : List (List Color)) (n : ℕ) (row : List Color) (octets : List ℕ) → IsPage page
-    → rows ≡ page.rows → n < length rows → row ≡ get_or rows n row → HoldsRow row octets
-    → take n rows ++ row_pixels page.width octets ∷ [] ≡ take (n + 1) rows
-copy_more page rows n row octets is same within here holds =
-    let wide : length row ≡ page.width = row_wide page rows n row is same within here in
-    let read : row_pixels page.width octets ≡ get_or rows n row =
-    ap (λ k. row_pixels k octets) (sym wide) ∙ (sym (row_read row octets holds) ∙ here) in
-    ap (λ (x : List Color). take n rows ++ x ∷ []) read ∙ sym (take_more rows n row within)
+pub copy_more : (page : PagePixels) (before after : List (List Color)) (row : List Color) (octets : List ℕ) → IsPage page
+    → before ++ row ∷ after ≡ page.rows → HoldsRow row octets → before ++ row_pixels page.width octets ∷ [] ≡ before ++ row ∷ []
+copy_more page before after row octets is all holds =
+    let wide : length row ≡ page.width = row_wide page before after row is all in
+    ap (λ (x : List Color). before ++ x ∷ []) (ap (λ k. row_pixels k octets) (sym wide) ∙ sym (row_read row octets holds))

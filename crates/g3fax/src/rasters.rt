@@ -123,7 +123,7 @@ fn lay_rows(page: &Page, apart: u64, buffer: &mut [u8])
     while number > 0 {
         number -= 1;
         let at = apart as u128 * number as u128;
-        put(rows[number].octets(), at as usize, buffer);
+        put(rows.row(number).octets(), at as usize, buffer);
     }
 }
 

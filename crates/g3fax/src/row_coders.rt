@@ -65,7 +65,7 @@ fn push_coded(alloc: Global, coder: &mut RowCoder, octets: &[u8]) -> u32
         Ok(row) => row,
         Err(fault) => return fault.number() as u32,
     };
-    match coder.push_row(&row) {
+    match coder.push_row(&row.lent()) {
         Ok(()) => OK,
         Err(fault) => fault.number() as u32,
     }

@@ -5,7 +5,7 @@ use Rattle.std.specs.Int.{trailing_ones}
 use lib.Count.{count_trailing_zeros}
 use Rattle.std.proofs.lemmas.List.{append-nil}
 use Rattle.std.proofs.lemmas.List.FromFn.{get_or-map-range_with_len}
-use Rattle.std.proofs.lemmas.Nat.{pow-add, mul-le, shl_whole}
+use Rattle.std.proofs.lemmas.Nat.{shl_whole}
 use Rattle.std.proofs.Math.Nat.{pow-le-pow_right}
 use Rattle.std.proofs.lemmas.Bool.{and_parts, ltb-true, lt-ltb, le-ltb, cases_lt, eqb-true, agree_below_at}
 use Rattle.raster.specs.Octets.{number}
@@ -13,7 +13,7 @@ use Rattle.raster.specs.Words.{number_bits}
 use Rattle.raster.proofs.OctetBits.{octet_bits}
 use Rattle.run_tables.specs.Numbers.{number_text}
 use Rattle.run_tables.specs.Texts.{begins}
-use Rattle.run_tables.proofs.NumberLemmas.{number_append, length-number_text}
+use Rattle.run_tables.proofs.NumberLemmas.{joined_below, number_append, length-number_text}
 use Rattle.hdlc.specs.declared.bit_buffer.BitBuffer.{BitBuffer}
 use Rattle.hdlc.specs.Flags.{flag}
 use Rattle.hdlc.specs.Writing.{IsWriting}
@@ -62,15 +62,6 @@ writes_octet old new start bits more waits next last count mid end same ones is 
     rw (← all, ← run_) (writes_bits (old ++ waits) start bits more count w)
 
 -- ---- numbers that grow at their low end
-
--- so many bits more, and the number that they are
-pub joined_below : (a b high low : ℕ) → high < 2 ^ a → low < 2 ^ b → high * 2 ^ b + low < 2 ^ (a + b)
-joined_below a b high low h l =
-    let k : ℕ = 2 ^ b in
-    let top : (high + 1) * k ≤ 2 ^ a * k = mul-le (high + 1) k (2 ^ a) k (omega arith) (omega arith) in
-    let whole : 2 ^ (a + b) ≡ 2 ^ a * k = pow-add 2 a b in
-    let one : (high + 1) * k ≡ high * k + k = omega arith in
-    omega arith
 
 -- a shift by so many that no bit is lost
 pub shifted_whole : (a b high : ℕ) → high < 2 ^ a → a + b ≤ 32 → high * 2 ^ b % 4294967296 ≡ high * 2 ^ b

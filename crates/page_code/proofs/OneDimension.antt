@@ -21,3 +21,4 @@ pub mod PageParts
 pub mod PageRefusals
 pub mod PagesGoOn
 pub mod LinesMean
+pub mod WhiteRows

@@ -10,3 +10,4 @@ pub mod Repairing
 pub mod Kinds
 pub mod KindLaws
 pub mod LinesMean
+pub mod WhiteRows

@@ -172,7 +172,7 @@ fn write_page(
     ensures err { OnErr result (KeepsBits bits.old bits.new) }
 {
     match coding {
-        Coding::OneDim => one_dim::write_page(alloc, page.rows(), bits),
+        Coding::OneDim => one_dim::write_page(alloc, &page.rows(), bits),
         Coding::T6 => t6::write::write_page(alloc, bits, page),
     }
 }

@@ -15,13 +15,15 @@ pub(crate) mod eol;
 pub(crate) mod one_row;
 pub(crate) mod open_row;
 pub(crate) mod repair;
+pub(crate) mod white_rows;
 
 use crate::coding::{PageCode, decode_in, encode_in};
 use crate::one_dim::eol::{Eol, after_five_eols, eol_at, quick_eol};
-use crate::page::{Progress, push_row};
+use crate::one_dim::white_rows::{WhiteRow, white_rows};
+use crate::page::Progress;
 use crate::turned::{code_of, turned_code};
 use raster::packed::Order;
-use raster::{Coding, MAX_ROWS, Page, Row};
+use raster::{Coding, MAX_ROWS, Page, Painter, RowRef, Rows};
 use run_tables::{BitReader, BitWriter, CodeFault, CodeFaultKind};
 use std::alloc::{AllocError, Global};
 
@@ -116,23 +118,27 @@ fn next_row(octets: &[u8], order: Order, to: &Progress) -> Start
     }
 }
 
-/// Reads the row at a place, in the memory of a list.
+/// Reads the row at a place onto the page, in the memory of a list and of a painter of the page's width.
 fn read_row(
     alloc: Global,
     octets: &[u8],
     order: Order,
     place: u128,
     list: &mut Vec<u32>,
+    painter: &mut Painter,
     to: &mut Progress,
 ) -> Result<(), CodeFault>
     requires within { place ≤ 8 * length octets.now }
     requires room { length to.old.page.rows < max_rows }
     requires width { IsWidth to.old.page.width }
-    ensures { ReadsRowOfPage (bits_of order octets.now) place to.old to.new result }
+    requires wide { painter.old.width ≡ to.old.page.width }
+    requires octets { painter.old.width + 64 ≤ 8 * length painter.old.octets.items }
+    ensures row { ReadsRowOfPage (bits_of order octets.now) place to.old to.new result }
+    ensures wide { painter.new.width ≡ painter.old.width }
+    ensures octets { painter.new.width + 64 ≤ 8 * length painter.new.octets.items }
 {
     let mut reader = BitReader::at(octets, order, place);
-    let row = reader.read_row_1d_in(alloc, to.page.width(), list)?;
-    push_row(&mut to.page, row)?;
+    reader.read_row_onto(alloc, &mut to.page, list, painter)?;
     to.place = reader.place();
     Ok(())
 }
@@ -150,9 +156,14 @@ fn read_in_order(
     ensures { ReadsOn Coding.OneDim (bits_of order octets.now) to.old to.new result }
 {
     let mut list = Vec::new(alloc);
+    let mut painter = Painter::begin(alloc, to.page.width())?;
+    let white = WhiteRow::of(to.page.width());
     loop {
         match next_row(octets, order, to) {
-            Start::Row(place) => read_row(alloc, octets, order, place, &mut list, to)?,
+            Start::Row(place) => {
+                read_row(alloc, octets, order, place, &mut list, &mut painter, to)?;
+                white_rows(white, place, octets, order, to)?;
+            }
             Start::End(used) => return Ok(used),
             Start::Refused(fault) => return Err(fault),
         }
@@ -192,7 +203,7 @@ pub(crate) fn write_rtc(bits: &mut BitWriter) -> Result<(), AllocError>
 #[inline(always)]
 pub(crate) fn write_row(
     bits: &mut BitWriter,
-    row: &Row,
+    row: &RowRef<'_>,
     list: &mut Vec<u32>,
 ) -> Result<(), AllocError>
     requires { 0 < length row.now }
@@ -204,14 +215,14 @@ pub(crate) fn write_row(
 }
 
 /// Writes the rows, each after an EOL.
-fn write_rows(alloc: Global, rows: &[Row], bits: &mut BitWriter) -> Result<(), AllocError>
+fn write_rows(alloc: Global, rows: &Rows<'_>, bits: &mut BitWriter) -> Result<(), AllocError>
     requires { All (λ row. 0 < length row) rows.now }
     ensures ok { OnOk result (Appends (rows_words rows.now) bits.old bits.new) }
     ensures err { OnErr result (KeepsBits bits.old bits.new) }
 {
     let mut list = Vec::new(alloc);
-    for row in rows {
-        write_row(bits, row, &mut list)?;
+    for at in 0..rows.len() {
+        write_row(bits, &rows.row(at), &mut list)?;
     }
     Ok(())
 }
@@ -219,7 +230,7 @@ fn write_rows(alloc: Global, rows: &[Row], bits: &mut BitWriter) -> Result<(), A
 /// Writes the rows of a page and the return to control.
 pub(crate) fn write_page(
     alloc: Global,
-    rows: &[Row],
+    rows: &Rows<'_>,
     bits: &mut BitWriter,
 ) -> Result<(), AllocError>
     requires { All (λ row. 0 < length row) rows.now }

@@ -50,11 +50,9 @@ pub(crate) fn push_row(page: &mut Page, row: Row) -> Result<(), AllocError>
 
 /// Appends a white row, if there is room for it. Errs only if memory is refused.
 #[inline(always)]
-pub(crate) fn push_white(alloc: Global, page: &mut Page) -> Result<(), AllocError>
-    requires width { IsWidth page.old.width }
+pub(crate) fn push_white(page: &mut Page) -> Result<(), AllocError>
     requires room { length page.old.rows < max_rows }
     ensures { OnOk result (page.new ≡ record page.old { rows = page.old.rows ++ white_line page.old.width ∷ [] }) }
 {
-    let white = Row::from_changes(alloc, &[], page.width())?;
-    push_row(page, white)
+    page.push_changes(&[])
 }

@@ -184,7 +184,7 @@ impl RowReader {
         let white = Row::from_valid_runs(alloc, &[width])?;
         let lists = Lists {
             runs: Vec::new(alloc),
-            lines: Lines::after(alloc, &white)?,
+            lines: Lines::after(alloc, &white.lent())?,
             passed: PassedRow::none(),
         };
         Ok(RowReader {

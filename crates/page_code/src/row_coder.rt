@@ -11,7 +11,7 @@ use crate::one_dim;
 use crate::t6::mode::EOFB;
 use crate::t6::write::Lines;
 use raster::packed::Order;
-use raster::{Coding, MAX_ROWS, RasterFault, Row};
+use raster::{Coding, MAX_ROWS, RasterFault, Row, RowRef};
 use run_tables::BitWriter;
 use std::alloc::{AllocError, Global};
 use std::marker::Model;
@@ -27,7 +27,7 @@ fn first_lines(alloc: Global, coding: Coding, width: u32) -> Result<Lines, Alloc
         Coding::OneDim => Ok(Lines::none(alloc)),
         Coding::T6 => {
             let white = Row::from_valid_runs(alloc, &[width])?;
-            Lines::after(alloc, &white)
+            Lines::after(alloc, &white.lent())
         }
     }
 }
@@ -36,7 +36,7 @@ fn first_lines(alloc: Global, coding: Coding, width: u32) -> Result<Lines, Alloc
 fn write_row(
     coding: Coding,
     writer: &mut BitWriter,
-    row: &Row,
+    row: &RowRef<'_>,
     lines: &mut Lines,
 ) -> Result<(), AllocError>
     requires some { 0 < length row.now }
@@ -135,7 +135,7 @@ impl RowCoder {
 
     /// Appends a row at the page's bottom. Errs with `WrongRowWidth` (2), with `TooManyRows` (3) after 20,000
     /// rows, and with `NoMemory` (9); an error changes nothing.
-    pub fn push_row(&mut self, row: &Row) -> Result<(), RasterFault>
+    pub fn push_row(&mut self, row: &RowRef<'_>) -> Result<(), RasterFault>
         ensures { PushesRow self.old row.now self.new result }
     {
         if row.width() != self.width {

@@ -16,7 +16,7 @@ ghost use Rattle.std.specs.Prelude.{◌≡◌, ◌<◌, ◌++◌, ◌∷◌, [],
 use crate::options::PageForm;
 use faults::{NO_MEMORY, ToolFault};
 use page_code::{CodesPages, Coding, PageRead, RefusedCode, RowCoder};
-use raster::{Page, Row, read_first_pbm};
+use raster::{Page, RowRef, read_first_pbm};
 use run_tables::Order;
 use std::alloc::{AllocError, Global};
 use std::io::{Read, Write};
@@ -101,7 +101,7 @@ pub fn write_code<W: Write>(
     let mut coder = RowCoder::new(alloc, coding, order, page.width())?;
     let mut held = Vec::new(alloc);
     for row in rows {
-        code_row(&mut coder, row, &mut held)?;
+        code_row(&mut coder, &row, &mut held)?;
         write_held(&mut held, writer)?;
     }
     end_code(coder, &mut held)?;
@@ -110,7 +110,7 @@ pub fn write_code<W: Write>(
 }
 
 /// Codes a row, and takes the octets that are whole out of the coder.
-fn code_row(coder: &mut RowCoder, row: &Row, held: &mut Vec<u8>) -> Result<(), ToolFault>
+fn code_row(coder: &mut RowCoder, row: &RowRef<'_>, held: &mut Vec<u8>) -> Result<(), ToolFault>
     requires wide { length row.now ≡ coder.old.width }
     requires few { coder.old.count < max_rows }
     ensures same { OnOk result (IsSameCoder coder.old coder.new) }

@@ -10,6 +10,7 @@ pub mod ChangeLemmas
 pub mod TurningLemmas
 pub mod PaintingLemmas
 pub mod AlikeLemmas
+pub mod StoredLemmas
 pub mod TextLemmas
 pub mod PbmParts
 pub mod PbmPieces

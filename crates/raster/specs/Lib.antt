@@ -7,6 +7,9 @@ pub mod Changes
 pub mod Painting
 pub mod Faults
 pub mod Pages
+pub mod Stored
+pub mod Appending
+pub mod PaintedRows
 pub mod Text
 pub mod Pbm
 pub mod PbmText

@@ -2,7 +2,8 @@
 
 ghost use Rattle.raster.specs.Changes.{AppendsChanges, AreChanges, IsRising, turning};
 ghost use Rattle.raster.specs.Pixels.{colors, IsWidth};
-ghost use Rattle.raster.specs.Packed.{bit_in, bits_in, bits_of, place_in, AreAlike, IsPacked, Bits, FillsOctets};
+ghost use Rattle.raster.specs.Appending.{AppendsKept, CutsLast};
+ghost use Rattle.raster.specs.Packed.{bit_in, bits_in, bits_of, kept_bits, place_in, AreAlike, AreKept, IsPacked, Bits, FillsOctets};
 ghost use Rattle.raster.specs.Painting.{FitsPainter, Paints};
 ghost use Rattle.raster.specs.Runs.{colored};
 ghost use Rattle.raster.specs.Words.{IsWordAt, IsFirstOtherBit, bit_of_word};
@@ -111,7 +112,7 @@ fn zeros(alloc: Global, count: usize) -> Result<Vec<u8>, AllocError>
 }
 
 /// The number of octets that hold `count` bits; the last one may be filled in part.
-fn octets_for(count: u32) -> usize
+pub(crate) fn octets_for(count: u32) -> usize
     ensures { result ≡ (count + 7) / 8 }
 {
     (count as usize + 7) / 8
@@ -128,6 +129,19 @@ fn clear_after(order: Order, octets: &mut Vec<u8>, count: u32)
     }
     let last = (count / 8) as usize;
     octets[last] = first_of_octet(order, octets[last], count % 8);
+}
+
+/// Clears the bits of the last octet after the first `count` bits of the octets from `start` on, in the order of a row.
+#[inline(always)]
+pub(crate) fn clear_last(octets: &mut Vec<u8>, start: usize, count: u32)
+    requires { length octets.old.items ≡ start + (count + 7) / 8 }
+    ensures { (before own : List ℕ) → octets.old.items ≡ before ++ own → length before ≡ start → CutsLast count before own octets.new.items }
+{
+    if count % 8 == 0 {
+        return;
+    }
+    let last = start + (count / 8) as usize;
+    octets[last] = first_of_octet(Order::MsbFirst, octets[last], count % 8);
 }
 
 /// A list of bits, kept eight an octet in the order of a row; or, if all are alike, as one bit without
@@ -279,6 +293,83 @@ impl PackedBits {
         })
     }
 
+    /// The same bits, lent.
+    #[inline(always)]
+    pub(crate) fn lent(&self) -> LentBits<'_>
+        ensures { result ≡ self.now }
+    {
+        LentBits {
+            octets: &self.octets,
+            alike: self.alike,
+            count: self.count,
+        }
+    }
+}
+
+/// Bits that are lent, kept eight an octet in the order of a row; where they all are alike, as one bit and with no octets.
+#[derive(Debug, Drop)]
+pub(crate) struct LentBits<'a> {
+    octets: &'a [u8],
+    alike: Option<bool>,
+    count: u32,
+}
+
+impl<'a> Model for LentBits<'a> {
+    ghost use Rattle.raster.specs.Packed.{kept_bits, AreKept};
+    ghost use Rattle.raster.specs.declared.packed.Order.TheVariants.{MsbFirst};
+    ghost use Rattle.std.specs.Prelude.{Bool, List};
+
+    ghost Value = { List Bool };
+
+    ghost view = { λ p. kept_bits p.alike MsbFirst p.octets.now p.count };
+
+    ghost invariant = { λ p. AreKept p.alike MsbFirst p.octets.now p.count };
+}
+
+impl<'a> LentBits<'a> {
+    /// Bits that are kept in octets, or as one.
+    #[inline(always)]
+    pub(crate) fn of_kept(octets: &'a [u8], alike: Option<bool>, count: u32) -> LentBits<'a>
+        requires { AreKept alike Order.MsbFirst octets.now count }
+        ensures { result ≡ kept_bits alike Order.MsbFirst octets.now count }
+    {
+        LentBits {
+            octets,
+            alike,
+            count,
+        }
+    }
+
+    /// The same bits, lent once more.
+    #[inline(always)]
+    pub(crate) fn again(&self) -> LentBits<'a>
+        ensures { result ≡ self.now }
+    {
+        LentBits {
+            octets: self.octets,
+            alike: self.alike,
+            count: self.count,
+        }
+    }
+
+    /// Appends the octets that hold the bits, and answers the one that all of them are, where they are kept so, without octets.
+    /// Errs where memory is refused, which changes nothing.
+    #[inline(always)]
+    #[tactic(auto, using(crate::proofs::PackedLemmas::views))]
+    pub(crate) fn append_to(&self, octets: &mut Vec<u8>) -> Result<Option<bool>, AllocError>
+        requires small { length self.now ≤ 2432 }
+        ensures ok { IfOk result (λ alike. AppendsKept self.now (length self.now) octets.old.items octets.new.items alike) }
+        ensures err { OnErr result (octets.new.items ≡ octets.old.items) }
+    {
+        match self.alike {
+            Some(bit) => Ok(Some(bit)),
+            None => {
+                octets.extend_from_slice(&self.octets[..octets_for(self.count)])?;
+                Ok(None)
+            }
+        }
+    }
+
     /// The number of bits.
     #[tactic(auto, using(crate::proofs::PackedLemmas::views))]
     pub(crate) fn len(&self) -> u32
@@ -295,7 +386,7 @@ impl PackedBits {
     {
         match self.alike {
             Some(bit) => bit,
-            None => bit_of(Order::MsbFirst, &self.octets, place),
+            None => bit_of(Order::MsbFirst, self.octets, place),
         }
     }
 
@@ -309,7 +400,7 @@ impl PackedBits {
         match self.alike {
             Some(same) if same == bit => self.count,
             Some(_) => from,
-            None => first_other(&self.octets, from, self.count, bit),
+            None => first_other(self.octets, from, self.count, bit),
         }
     }
 
@@ -323,7 +414,7 @@ impl PackedBits {
         ensures err { OnErr result (out.new.items ≡ out.old.items) }
     {
         let Some(bit) = self.alike else {
-            return changes(&self.octets, self.count, out);
+            return changes(self.octets, self.count, out);
         };
         if bit {
             out.push(0)?;
@@ -344,7 +435,7 @@ impl PackedBits {
         ensures changes { AreChanges (colors self.now) (take result out.new.items) }
     {
         let Some(bit) = self.alike else {
-            return put_changes(&self.octets, self.count, out);
+            return put_changes(self.octets, self.count, out);
         };
         if bit {
             out[0] = 0;
@@ -353,8 +444,8 @@ impl PackedBits {
         0
     }
 
-    /// The octets that hold the bits, borrowed; the last one is filled with 0 bits.
-    pub(crate) fn octets(&self) -> &[u8]
+    /// The octets that hold the bits, lent, the last one filled with 0 bits.
+    pub(crate) fn octets(&self) -> &'a [u8]
         ensures { FillsOctets Order.MsbFirst self.now result.now }
     {
         match self.alike {

@@ -1,14 +1,15 @@
 //! Rows painted from runs, and from the places where their color turns.
 
+ghost use Rattle.raster.specs.PaintedRows.{AppendsPainted};
 ghost use Rattle.raster.specs.Changes.{IsRising, turning};
 ghost use Rattle.raster.specs.Packed.{bit_in, bits_in, IsPacked};
 ghost use Rattle.raster.specs.Painting.{drawn_bit, FitsPainter, IsStored, Paints};
 ghost use Rattle.raster.specs.Pixels.{colors, IsWidth};
 ghost use Rattle.raster.specs.Runs.{colored};
 ghost use Rattle.raster.specs.declared.row.Color.{Color};
-ghost use Rattle.std.specs.Prelude.{ℕ, true, false, ◌≡◌, ◌≤◌, ◌<◌, ◌+◌, ◌-◌, ◌*◌, ◌%◌, All, IfOk, [], ◌∷◌, ◌++◌, List, if◌then◌else◌, length, nat_lt, not, sum};
+ghost use Rattle.std.specs.Prelude.{ℕ, true, false, ◌≡◌, ◌≤◌, ◌<◌, ◌+◌, ◌-◌, ◌*◌, ◌%◌, All, IfOk, None, OnErr, OnOk, [], ◌∷◌, ◌++◌, List, if◌then◌else◌, length, nat_lt, not, sum};
 
-use crate::packed::Order;
+use crate::packed::{Order, octets_for};
 use crate::words::{first_bits, octets_of, put_octets};
 use std::alloc::{AllocError, Global};
 
@@ -252,6 +253,41 @@ impl Painter {
         self.place = place;
         self.end = end;
         self.word = word;
+    }
+
+    /// Begins another row of the width, in the same memory.
+    #[inline(always)]
+    pub fn restart(&mut self)
+        requires width { IsWidth self.old.width }
+        requires room { self.old.width + 64 ≤ 8 * length self.old.octets.items }
+        ensures fits { FitsPainter self.new }
+        ensures width { self.new.width ≡ self.old.width }
+        ensures place { self.new.place ≡ 0 }
+        ensures paints { Paints [] self.new }
+    {
+        self.octets.fill(0);
+        self.place = 0;
+        self.end = 64;
+        self.word = 0;
+    }
+
+    /// Appends the octets of the whole row to those of a page. Errs where memory is refused, which appends none.
+    #[inline(always)]
+    pub(crate) fn append_to(&mut self, octets: &mut Vec<u8>) -> Result<(), AllocError>
+        requires fits { FitsPainter self.old }
+        requires whole { self.old.place ≡ self.old.width }
+        ensures ok { OnOk result (AppendsPainted self.old octets.old.items octets.new.items) }
+        ensures err { OnErr result (octets.new.items ≡ octets.old.items) }
+        ensures width { self.new.width ≡ self.old.width }
+        ensures room { self.new.width + 64 ≤ 8 * length self.new.octets.items }
+    {
+        let brush = Brush {
+            end: self.end,
+            word: self.word,
+        };
+        finish(&mut self.octets, brush, self.width);
+        octets.extend_from_slice(&self.octets[..octets_for(self.width)])?;
+        Ok(())
     }
 
     /// The row's width.

@@ -1,5 +1,6 @@
 //! Rows of pixels.
 
+ghost use Rattle.raster.specs.Appending.{AppendsRow};
 ghost use Rattle.raster.specs.Changes.{AppendsChanges, AreChanges, IsNextChange, IsRising, turning};
 ghost use Rattle.raster.specs.Pbm.{row_pixels};
 ghost use Rattle.raster.specs.PbmText.{HoldsRow};
@@ -11,7 +12,7 @@ ghost use Rattle.std.specs.Prelude.{List, ◌≡◌, ◌≤◌, ◌<◌, ◌+◌
 ghost use Rattle.std.specs.Prelude.{All, IfOk, IfErr, SomeIff, IsOkUnless, IsTrue};
 
 use crate::fault::RasterFault;
-use crate::packed::{Order, PackedBits};
+use crate::packed::{LentBits, Order, PackedBits};
 use crate::painting::Painter;
 use std::alloc::{AllocError, Global};
 use std::marker::Model;
@@ -183,7 +184,138 @@ impl Row {
         Ok(Row { pixels })
     }
 
-    /// The row's width in pixels, 1 to 2,432.
+    /// The row, lent.
+    #[inline(always)]
+    pub fn lent(&self) -> RowRef<'_>
+        ensures { result ≡ self.now }
+    {
+        RowRef {
+            pixels: self.pixels.lent(),
+        }
+    }
+
+    /// The width in pixels, 1 to 2,432.
+    #[inline(always)]
+    pub fn width(&self) -> u32
+        ensures width { result ≡ length self.now }
+        ensures range { IsWidth result }
+    {
+        self.lent().width()
+    }
+
+    /// The pixel at a place, from 0 at the left.
+    #[inline(always)]
+    pub fn pixel(&self, at: u32) -> Color
+        requires { at < length self.now }
+        ensures { slice_get self.now at ≡ Some result }
+    {
+        self.lent().pixel(at)
+    }
+
+    /// The row's octets as Netpbm's raw PBM format has them: eight pixels an octet, the leftmost in the
+    /// highest bit, 1 for black, and the last octet filled with 0 bits.
+    #[inline(always)]
+    pub fn octets(&self) -> &[u8]
+        ensures { HoldsRow self.now result.now }
+    {
+        self.lent().octets()
+    }
+
+    /// The least changing position at or above `from`, or the width where there is none
+    /// (ITU-T T.6, 2.2.1).
+    #[inline(always)]
+    pub fn next_change(&self, from: u32) -> u32
+        ensures { IsNextChange self.now from result }
+    {
+        self.lent().next_change(from)
+    }
+
+    /// Writes all changing positions of the row, in rising order (ITU-T T.6, 2.2.1), over the first places of
+    /// a list that has room for one a pixel and 64 more, and answers how many they are.
+    #[inline(always)]
+    pub fn put_changes(&self, out: &mut Vec<u32>) -> usize
+        requires { length self.now + 64 ≤ length out.old.items }
+        ensures length { length out.new.items ≡ length out.old.items }
+        ensures few { result ≤ length out.new.items }
+        ensures changes { AreChanges self.now (take result out.new.items) }
+    {
+        self.lent().put_changes(out)
+    }
+
+    /// Appends all changing positions of the row, in rising order (ITU-T T.6, 2.2.1). Errs where memory
+    /// is refused, which changes nothing.
+    #[inline(always)]
+    pub fn changes(&self, alloc: Global, out: &mut Vec<u32>) -> Result<(), AllocError>
+        ensures ok { OnOk result (AppendsChanges self.now out.old.items out.new.items) }
+        ensures err { OnErr result (out.new.items ≡ out.old.items) }
+    {
+        self.lent().changes(alloc, out)
+    }
+
+    /// Appends the row's own runs in pixels: white first, and the later ones above 0. Errs with
+    /// `NoMemory`, which changes nothing.
+    #[inline(always)]
+    pub fn runs(&self, alloc: Global, out: &mut Vec<u32>) -> Result<(), RasterFault>
+        ensures ok { OnOk result (AppendsRuns self.now out.old.items out.new.items) }
+        ensures err { OnErr result (out.new.items ≡ out.old.items) }
+        ensures only { IsOkUnless result RasterFault.NoMemory }
+    {
+        self.lent().runs(alloc, out)
+    }
+}
+
+/// A row that is lent, seen as the list of its pixels, leftmost first: what `Row` answers, of a row of a page.
+#[derive(Debug, Drop)]
+pub struct RowRef<'a> {
+    pixels: LentBits<'a>,
+}
+
+impl<'a> Model for RowRef<'a> {
+    ghost use Rattle.std.specs.Prelude.{◌≡◌, List, length};
+    ghost use Rattle.raster.specs.declared.row.Color.{Color};
+    ghost use Rattle.raster.specs.Pixels.{colors, IsWidth};
+
+    ghost Value = { List Color };
+
+    ghost view = { λ row. colors row.pixels };
+
+    ghost invariant = { λ row. IsWidth (length row.pixels) };
+}
+
+impl<'a> RowRef<'a> {
+    /// The row of bits.
+    #[inline(always)]
+    #[tactic(auto, using(crate::proofs::RowLemmas::lengths))]
+    pub(crate) fn of_bits(pixels: LentBits<'a>) -> RowRef<'a>
+        requires { IsWidth (length pixels) }
+        ensures { result ≡ colors pixels.entry }
+    {
+        RowRef { pixels }
+    }
+
+    /// The same row, lent once more.
+    #[inline(always)]
+    pub fn again(&self) -> RowRef<'a>
+        ensures { result ≡ self.now }
+    {
+        RowRef {
+            pixels: self.pixels.again(),
+        }
+    }
+
+    /// Appends the row's octets to a page's, and answers the bit that all its pixels are, where they are kept so, without octets.
+    /// Errs where memory is refused, which changes nothing.
+    #[inline(always)]
+    #[tactic(auto, using(crate::proofs::RowLemmas::lengths))]
+    pub(crate) fn append_to(&self, octets: &mut Vec<u8>) -> Result<Option<bool>, AllocError>
+        ensures ok { IfOk result (λ alike. AppendsRow self.now octets.old.items octets.new.items alike) }
+        ensures err { OnErr result (octets.new.items ≡ octets.old.items) }
+    {
+        let _width = self.width(); // tells the proof that it is a width
+        self.pixels.append_to(octets)
+    }
+
+    /// The width in pixels, 1 to 2,432.
     #[tactic(auto, using(crate::proofs::RowLemmas::lengths))]
     pub fn width(&self) -> u32
         ensures width { result ≡ length self.now }
@@ -203,7 +335,7 @@ impl Row {
 
     /// The row's octets, borrowed, as in Netpbm's raw PBM format: eight pixels an octet, the leftmost in the
     /// highest bit, 1 for black, and the last octet filled with 0 bits.
-    pub fn octets(&self) -> &[u8]
+    pub fn octets(&self) -> &'a [u8]
         ensures { HoldsRow self.now result.now }
     {
         let octets = self.pixels.octets(); // the proof speaks of them by this name

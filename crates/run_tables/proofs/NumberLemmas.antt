@@ -4,7 +4,7 @@ use Rattle.std.proofs.Common.{◌++◌, length, replicate, drop, get_or, nat_eq,
 use mathlib.Core.Bool.{beq}
 use Rattle.std.specs.Int.{bit_at}
 use Rattle.std.proofs.Math.Nat.{div-div-eq-div-mul, div-eq_of_lt, suc-add}
-use Rattle.std.proofs.lemmas.Nat.{pow-add, div-mul-add, div_below, pow_pos}
+use Rattle.std.proofs.lemmas.Nat.{pow-add, div-mul-add, div_below, mul-le, pow_pos}
 use Rattle.std.proofs.lemmas.Nat.Bits.{bit_at-zero, bit_at_cat_low, bit_at-lt, same_from_bits_below}
 use Rattle.std.proofs.lemmas.List.{length-drop, same_lists, get_or-drop, get_or_past}
 use Rattle.std.proofs.lemmas.List.FromFn.{get_or-map-range_with_len, length-map-range_with_len}
@@ -129,6 +129,15 @@ number_append a b high low h =
           lower count b high low
               (omega arith),
         ) refl
+
+-- so many bits more, and the number that they are
+pub joined_below : (a b high low : ℕ) → high < 2 ^ a → low < 2 ^ b → high * 2 ^ b + low < 2 ^ (a + b)
+joined_below a b high low h l =
+    let k : ℕ = 2 ^ b in
+    let top : (high + 1) * k ≤ 2 ^ a * k = mul-le (high + 1) k (2 ^ a) k (omega arith) (omega arith) in
+    let whole : 2 ^ (a + b) ≡ 2 ^ a * k = pow-add 2 a b in
+    let one : (high + 1) * k ≡ high * k + k = omega arith in
+    omega arith
 
 -- a number is the text that writes it
 pub number_same : (count a b : ℕ) → a < 2 ^ count → b < 2 ^ count → number_text count a ≡ number_text count b → a ≡ b

@@ -1,7 +1,10 @@
 -- The results of reading a one-dimensional row, and the reader after it (ITU-T T.4, 4.1.1).
-use Rattle.std.specs.Prelude.{ℕ, ◌≡◌, ◌≢◌, ◌+◌, ◌<◌, ◌≤◌, ◌++◌, List, length, replicate, None, Some, Option, Result, Ok, Err, sum, ◌⊎◌}
+use Rattle.std.specs.Prelude.{ℕ, ◌≡◌, ◌≢◌, ◌+◌, ◌<◌, ◌≤◌, ◌++◌, ◌∷◌, [], Bool, true, false, List, length, replicate, None, Some, Option, Result, Ok, Err, sum, ◌⊎◌}
 use Rattle.raster.specs.declared.row.Color.{Color}
 use Rattle.raster.specs.declared.row.Color.TheVariants.{White}
+use Rattle.raster.specs.declared.painting.Painter.{Painter}
+use Rattle.raster.specs.Pages.{PagePixels}
+use Rattle.raster.specs.Painting.{Paints}
 use Rattle.raster.specs.Runs.{colored}
 use Rattle.raster.specs.Pixels.{other}
 use Rattle.run_tables.specs.declared.fault.CodeFault.{CodeFault}
@@ -63,7 +66,30 @@ abbrev pub WholeRow : ℕ → Reading → Reading → Result (List Color) CodeFa
 WholeRow width old new (Ok row) = ReadsRow width old new row
 WholeRow width old new (Err fault) = fault.kind ≢ NoMemory → RefusesRow width old fault
 
+-- some runs of a row were read and painted, `room` pixels are left, and a run of this color is next
+abbrev pub PaintsRuns : ℕ → Reading → Reading → Painter → Color → ℕ → Type 0
+PaintsRuns width old new painter color room = (runs : List ℕ) × Paints runs painter × IsInRow width old new runs color room
+
+-- the runs of a whole row were read and painted
+abbrev pub PaintsRow : ℕ → Reading → Reading → Painter → Type 0
+PaintsRow width old new painter = (runs : List ℕ) × Paints runs painter × RowRuns width old new runs (Ok tt)
+
 -- a row was read by its runs, or nothing changed
 abbrev pub IsQuickRow : ℕ → Reading → Reading → Option (List Color) → Type 0
 IsQuickRow width old new None = new ≡ old
 IsQuickRow width old new (Some row) = (runs : List ℕ) × RowRuns width old new runs (Ok tt) × (row ≡ colored White runs)
+
+-- a row as wide as a page was read by its runs and appended to the page, or nothing changed
+abbrev pub IsQuickRowOnto : PagePixels → PagePixels → Reading → Reading → Bool → Type 0
+IsQuickRowOnto page next old new false = (new ≡ old) × (next ≡ page)
+IsQuickRowOnto page next old new true = (row : List Color) × IsQuickRow page.width old new (Some row)
+    × (next ≡ record page { rows = page.rows ++ row ∷ [] })
+
+-- a row as wide as a page was read and appended to the page
+abbrev pub ReadsRowOnto : PagePixels → PagePixels → Reading → Reading → Type 0
+ReadsRowOnto page next old new = (row : List Color) × ReadsRow page.width old new row × (next ≡ record page { rows = page.rows ++ row ∷ [] })
+
+-- a whole row was read so, or the row is refused; NoMemory says nothing of the row; a refusal leaves the page as it was
+abbrev pub WholeRowOnto : PagePixels → PagePixels → Reading → Reading → Result (Unit {0}) CodeFault → Type 0
+WholeRowOnto page next old new (Ok done) = ReadsRowOnto page next old new
+WholeRowOnto page next old new (Err fault) = (next ≡ page) × (fault.kind ≢ NoMemory → RefusesRow page.width old fault)

@@ -15,5 +15,6 @@ mod writer;
 pub use crate::fault::{CodeFault, CodeFaultKind};
 pub use crate::reader::{Among, BitReader, RunCode};
 pub use crate::table::{BLACK, Code, WHITE, codes};
+pub use crate::write_table::run_word;
 pub use crate::writer::BitWriter;
 pub use raster::packed::Order;

@@ -1,15 +1,20 @@
 //! Reading of rows in one dimension (ITU-T T.4, 4.1.1). A reader's contract says that reading the whole from before a call is reading on
 //! after it, or is the refusal that the call returns; so a loop's invariant is one equation, and the public clauses follow from the laws.
 
+ghost use Rattle.raster.specs.Pages.{max_rows};
+ghost use Rattle.raster.specs.Painting.{FitsPainter};
 ghost use Rattle.raster.specs.Pixels.{IsWidth};
 ghost use Rattle.run_tables.specs.RowReading.{IsInRow, IsQuickRow, ReadsRow, RefusesRow, RowRuns, WholeRow};
+ghost use Rattle.run_tables.specs.RowReading.{IsQuickRowOnto, PaintsRow, PaintsRuns, ReadsRowOnto, WholeRowOnto};
 ghost use Rattle.run_tables.specs.Reading.{Reading};
-ghost use Rattle.std.specs.Prelude.{ℕ, IfOk, IfErr, OnErr, ◌≡◌, ◌≢◌};
+ghost use Rattle.run_tables.specs.Windows.{IsWindow, passed};
+ghost use Rattle.std.specs.Bool.{OnTrue};
+ghost use Rattle.std.specs.Prelude.{ℕ, IfOk, IfErr, OnErr, OnOk, ◌≡◌, ◌≢◌, ◌≤◌, ◌<◌, ◌+◌, ◌*◌, length};
 
 use crate::fault::{CodeFault, CodeFaultKind};
 use crate::reader::BitReader;
 use crate::window::Window;
-use raster::{Color, Painter, Row};
+use raster::{Color, Page, Painter, Row};
 use std::alloc::{AllocError, Global};
 
 impl<'a> BitReader<'a> {
@@ -77,25 +82,91 @@ impl<'a> BitReader<'a> {
         let mut painter = Painter::begin(alloc, width)?;
         painter.push_run(first);
         painter.push_run(second);
-        let mut room = width - first - second;
+        let all = self.paint_rest(&mut window, &mut painter, width - first - second);
+        if !all {
+            return Ok(None);
+        }
+        *self = window.into_reader();
+        Ok(Some(Row::of_painter(painter)))
+    }
+
+    /// As `quick_row`, for a page that has room for the row, which is appended to it; `painter` is of the page's
+    /// width, and what it has painted doesn't matter. Returns whether a row was read; else nothing changed.
+    #[inline(always)]
+    fn quick_row_onto(&mut self, page: &mut Page, painter: &mut Painter) -> Result<bool, AllocError>
+        requires width { IsWidth page.old.width }
+        requires room { length page.old.rows < max_rows }
+        requires wide { painter.old.width ≡ page.old.width }
+        requires octets { painter.old.width + 64 ≤ 8 * length painter.old.octets.items }
+        ensures row { IfOk result (IsQuickRowOnto page.old page.new self.old self.new) }
+        ensures page { OnErr result (page.new ≡ page.old) }
+        ensures wide { painter.new.width ≡ painter.old.width }
+        ensures octets { painter.new.width + 64 ≤ 8 * length painter.new.octets.items }
+    {
+        let _place = self.place(); // shows the proof that it is within the bits
+        let width = page.width();
+        let Some(mut window) = Window::at(self.look_ahead()) else {
+            return Ok(false);
+        };
+        let Some(first) = window.run(Color::White, width) else {
+            return Ok(false);
+        };
+        if first == width {
+            page.push_changes(&[])?;
+            *self = window.into_reader();
+            return Ok(true);
+        }
+        let Some(second) = window.run(Color::Black, width - first) else {
+            return Ok(false);
+        };
+        if second == width {
+            page.push_changes(&[0])?;
+            *self = window.into_reader();
+            return Ok(true);
+        }
+        painter.restart();
+        painter.push_run(first);
+        painter.push_run(second);
+        let all = self.paint_rest(&mut window, painter, width - first - second);
+        if !all {
+            return Ok(false);
+        }
+        page.push_painted(painter)?;
+        *self = window.into_reader();
+        Ok(true)
+    }
+
+    /// Reads the runs of a row from a white one on, up to its end, and paints them. `self` is the reader at the
+    /// row's beginning. Returns whether all of them can be read quickly.
+    #[inline(always)]
+    fn paint_rest(&self, window: &mut Window<'a>, painter: &mut Painter, left: u32) -> bool
+        requires window { IsWindow window.old.reader window.old.used window.old.word }
+        requires fits { FitsPainter painter.old }
+        requires left { painter.old.place + left ≡ painter.old.width }
+        requires row { PaintsRuns painter.old.width self.now (passed window.old.reader window.old.used) painter.old Color.White left }
+        ensures window { IsWindow window.new.reader window.new.used window.new.word }
+        ensures fits { FitsPainter painter.new }
+        ensures width { painter.new.width ≡ painter.old.width }
+        ensures whole { OnTrue result (painter.new.place ≡ painter.new.width) }
+        ensures row { OnTrue result (PaintsRow painter.old.width self.now (passed window.new.reader window.new.used) painter.new) }
+    {
+        let mut room = left;
         while room > 0 {
             let Some(white) = window.run(Color::White, room) else {
-                return Ok(None);
+                return false;
             };
             painter.push_run(white);
             room -= white;
             if room == 0 {
-                *self = window.into_reader();
-                return Ok(Some(Row::of_painter(painter)));
+                return true;
             }
             let Some(black) = window.run(Color::Black, room) else {
-                return Ok(None);
+                return false;
             };
             painter.push_run(black);
             room -= black;
         }
-        *self = window.into_reader();
-        Ok(Some(Row::of_painter(painter)))
+        true
     }
 
     /// Reads the other runs of a row, code by code: `next` is the color of the next one, and `left` pixels
@@ -147,8 +218,48 @@ impl<'a> BitReader<'a> {
         if let Some(row) = self.quick_row(alloc, width)? {
             return Ok(row);
         }
+        self.row_by_runs(alloc, width, list)
+    }
+
+    /// As `whole_row`, by the runs.
+    fn row_by_runs(
+        &mut self,
+        alloc: Global,
+        width: u32,
+        list: &mut Vec<u32>,
+    ) -> Result<Row, CodeFault>
+        requires { IsWidth width }
+        ensures { WholeRow width self.old self.new result }
+    {
         self.row_runs(width, list)?;
         Ok(Row::from_valid_runs(alloc, list)?)
+    }
+
+    /// As `whole_row`, for a page that has room for the row, which is appended to it.
+    #[inline(always)]
+    fn whole_row_onto(
+        &mut self,
+        alloc: Global,
+        page: &mut Page,
+        list: &mut Vec<u32>,
+        painter: &mut Painter,
+    ) -> Result<(), CodeFault>
+        requires width { IsWidth page.old.width }
+        requires room { length page.old.rows < max_rows }
+        requires wide { painter.old.width ≡ page.old.width }
+        requires octets { painter.old.width + 64 ≤ 8 * length painter.old.octets.items }
+        ensures row { WholeRowOnto page.old page.new self.old self.new result }
+        ensures wide { painter.new.width ≡ painter.old.width }
+        ensures octets { painter.new.width + 64 ≤ 8 * length painter.new.octets.items }
+    {
+        if self.quick_row_onto(page, painter)? {
+            return Ok(());
+        }
+        let row = self.row_by_runs(alloc, page.width(), list)?;
+        match page.push_row(row) {
+            Ok(()) => Ok(()),
+            Err(_) => Err(CodeFault::from(AllocError)),
+        }
     }
 
     /// Reads the next row in one dimension, `width` pixels wide: its run codes, white first (ITU-T T.4,
@@ -185,6 +296,39 @@ impl<'a> BitReader<'a> {
             Ok(row) => {
                 *self = ahead;
                 Ok(row)
+            }
+            Err(fault) => Err(fault.begun_at(self.place())),
+        }
+    }
+
+    /// As `read_row_1d_in`, for a page that has room for the row, which is as wide as the page and is appended to
+    /// it. The row is painted in the memory of a painter of the page's width; what it has painted doesn't matter,
+    /// before or after. An error changes neither the reader nor the page.
+    #[inline(always)]
+    pub fn read_row_onto(
+        &mut self,
+        alloc: Global,
+        page: &mut Page,
+        list: &mut Vec<u32>,
+        painter: &mut Painter,
+    ) -> Result<(), CodeFault>
+        requires width { IsWidth page.old.width }
+        requires room { length page.old.rows < max_rows }
+        requires wide { painter.old.width ≡ page.old.width }
+        requires octets { painter.old.width + 64 ≤ 8 * length painter.old.octets.items }
+        ensures reads { OnOk result (ReadsRowOnto page.old page.new self.old self.new) }
+        ensures refuses { IfErr result (λ fault. fault.kind ≢ CodeFaultKind.NoMemory → RefusesRow page.old.width self.old fault) }
+        ensures memory { IfErr result (λ fault. fault.kind ≡ CodeFaultKind.NoMemory → fault.place ≡ self.old.place) }
+        ensures stays { OnErr result (self.new ≡ self.old) }
+        ensures page { OnErr result (page.new ≡ page.old) }
+        ensures wide { painter.new.width ≡ painter.old.width }
+        ensures octets { painter.new.width + 64 ≤ 8 * length painter.new.octets.items }
+    {
+        let mut ahead = self.look_ahead();
+        match ahead.whole_row_onto(alloc, page, list, painter) {
+            Ok(()) => {
+                *self = ahead;
+                Ok(())
             }
             Err(fault) => Err(fault.begun_at(self.place())),
         }

@@ -249,10 +249,11 @@ fn word(color: Color, place: usize) -> (u32, u32)
 }
 
 /// The code words of a run of up to 2,623 pixels as one number, and their length in bits.
-pub(crate) fn run_word(color: Color, run: u32) -> (u32, u32)
+pub fn run_word(color: Color, run: u32) -> (u32, u32)
     requires { run ≤ 2623 }
     ensures words { number_bits result.1 result.0 ≡ run_words color run }
     ensures short { result.1 ≤ 26 }
+    ensures below { result.0 < 2 ^ result.1 }
 {
     if run < 64 {
         return word(color, run as usize);

@@ -13,7 +13,7 @@ ghost use Rattle.std.specs.Prelude.{slice_index_or, take, IfOk, OnOk, OnErr};
 
 use crate::write_table::run_word;
 use raster::packed::{Order, word_at, word_octets};
-use raster::{Color, Row};
+use raster::{Color, Row, RowRef};
 use std::alloc::{AllocError, Global};
 use std::marker::Model;
 use std::mem;
@@ -343,12 +343,16 @@ impl BitWriter {
         ensures err { OnErr result (self.new ≡ self.old) }
     {
         let mut changes = Vec::new(alloc);
-        self.write_row_1d_in(row, &mut changes)
+        self.write_row_1d_in(&row.lent(), &mut changes)
     }
 
     /// As `write_row_1d`, in the memory of a list, to write many rows one after the other. What is in the
     /// list doesn't matter, before or after.
-    pub fn write_row_1d_in(&mut self, row: &Row, changes: &mut Vec<u32>) -> Result<(), AllocError>
+    pub fn write_row_1d_in(
+        &mut self,
+        row: &RowRef<'_>,
+        changes: &mut Vec<u32>,
+    ) -> Result<(), AllocError>
         ensures ok { OnOk result (AppendsRow row.now self.old self.new) }
         ensures err { OnErr result (self.new ≡ self.old) }
     {

@@ -24,8 +24,9 @@ pub fn copy_images<R: Read, W: Write>(
 /// The code words of a page's rows, one row after the other with nothing between them.
 pub fn code_rows(alloc: Global, page: &Page) -> Result<Vec<u8>, AllocError> {
     let mut writer = BitWriter::new(alloc, Order::MsbFirst);
+    let mut changes = Vec::new(alloc);
     for row in page.rows() {
-        writer.write_row_1d(alloc, row)?;
+        writer.write_row_1d_in(&row, &mut changes)?;
     }
     Ok(writer.into_octets())
 }

@@ -48,7 +48,7 @@ row_begins width row front rest wide full spells =
         sym (append_assoc (code_bits code) (spell code_bits codes) rest) ∙ ap (λ (l : List Bool). l ++ rest) is in
         subst CodeBegins split (code_stands White code (spell code_bits codes ++ rest) walk.1.stands)
 
-read_begins : (width : ℕ) (x : List Bool) (row : List Color) (used : ℕ) → IsWidth width → ReadsAsRow width x row used → CodeBegins x
+pub read_begins : (width : ℕ) (x : List Bool) (row : List Color) (used : ℕ) → IsWidth width → ReadsAsRow width x row used → CodeBegins x
 read_begins width x row used wide reads = subst CodeBegins (sym reads.split) (row_begins width row reads.front reads.rest wide reads.wide
     reads.spells)
 

@@ -15,7 +15,7 @@ use crate::one_dim::OneDim;
 use crate::one_dim::eol::{Eol, eol_at, zeros_from};
 use crate::page::push_row;
 use raster::packed::Order;
-use raster::{Color, MAX_ROWS, Page, Row};
+use raster::{Color, MAX_ROWS, Page, Row, RowRef};
 use run_tables::{BitReader, CodeFault, CodeFaultKind};
 use std::alloc::{AllocError, Global};
 
@@ -179,7 +179,7 @@ fn find_line(
 
 /// A copy of a row. Errs only if memory is refused.
 #[tactic(auto, using(crate::proofs::OneDimension::LineEnds::lengths))]
-fn copied(alloc: Global, row: &Row) -> Result<Row, AllocError>
+fn copied(alloc: Global, row: &RowRef<'_>) -> Result<Row, AllocError>
     ensures { IfOk result (λ copy. copy ≡ row.now) }
 {
     let _width = row.width(); // shows the proof that it is a page's width
@@ -194,10 +194,11 @@ fn copied(alloc: Global, row: &Row) -> Result<Row, AllocError>
 fn row_before(alloc: Global, page: &Page) -> Result<Row, AllocError>
     ensures { IfOk result (λ row. (row ≡ last_row page.now.width page.now.rows) × (length row ≡ page.now.width)) }
 {
-    match page.rows().last() {
-        Some(row) => copied(alloc, row),
-        None => Row::from_valid_runs(alloc, &[page.width()]),
+    let rows = page.rows();
+    if rows.is_empty() {
+        return Row::from_valid_runs(alloc, &[page.width()]);
     }
+    copied(alloc, &rows.row(rows.len() - 1))
 }
 
 /// Gives a row for the line after the rows so far. Errs only if memory is refused.

@@ -5,6 +5,7 @@ ghost use Rattle.page_code.specs.TwoDimensions.Lines.{BothLines};
 ghost use Rattle.page_code.specs.TwoDimensions.Modes.{runs_added};
 ghost use Rattle.page_code.specs.TwoDimensions.Positions.{a0_of, line_begin, white_line};
 ghost use Rattle.page_code.specs.TwoDimensions.Reading.{LeadsOn, StepsAlong};
+ghost use Rattle.raster.specs.Pages.{max_rows};
 ghost use Rattle.raster.specs.Pixels.{IsWidth, max_width};
 ghost use Rattle.run_tables.specs.Reading.{rest_of};
 ghost use Rattle.std.specs.Bool.{OnFalse, OnTrue};
@@ -14,7 +15,7 @@ use crate::t6::a0::A0;
 use crate::t6::front::{Front, to_a1, to_a2, turns_within, under_b2};
 use crate::t6::mode::{ModeCode, Shift};
 use crate::t6::read::quick_modes;
-use raster::Row;
+use raster::{Page, Row, RowRef};
 use run_tables::{BitReader, CodeFaultKind};
 use std::alloc::{AllocError, Global};
 use std::marker::Model;
@@ -68,7 +69,7 @@ impl Model for Lines {
 
 impl Lines {
     /// No pixels yet after a row.
-    pub(crate) fn after(alloc: Global, row: &Row) -> Result<Self, AllocError>
+    pub(crate) fn after(alloc: Global, row: &RowRef<'_>) -> Result<Self, AllocError>
         ensures { IfOk result (λ lines. lines ≡ record { reference = row.now; line = line_begin }) }
     {
         let width = row.width();
@@ -175,6 +176,27 @@ impl Lines {
         ensures { self.new ≡ record self.old { line = line_begin } }
     {
         self.front = Front::begin();
+    }
+
+    /// Appends the row of a whole coding line to a page that has room for it, and the line becomes the next row's
+    /// reference line. Errs if memory is refused, which changes nothing.
+    #[inline(always)]
+    pub(crate) fn push_to(&mut self, page: &mut Page) -> Result<(), AllocError>
+        requires whole { length self.old.line.pixels ≡ length self.old.reference }
+        requires wide { length self.old.reference ≡ page.old.width }
+        requires room { length page.old.rows < max_rows }
+        ensures page { OnOk result (page.new ≡ record page.old { rows = page.old.rows ++ self.old.line.pixels ∷ [] }) }
+        ensures next { OnOk result (self.new ≡ record { reference = self.old.line.pixels; line = line_begin }) }
+        ensures same { OnErr result (self.new ≡ self.old) }
+        ensures kept { OnErr result (page.new ≡ page.old) }
+    {
+        let count = turns_within(&self.list, self.front.turns, self.width);
+        page.push_changes(&self.list[..count])?;
+        end_list(&mut self.list, count, self.width);
+        mem::swap(&mut self.held, &mut self.list);
+        self.known = count + 3;
+        self.front = Front::begin();
+        Ok(())
     }
 
     /// The row of a whole coding line, which becomes the next row's reference line.

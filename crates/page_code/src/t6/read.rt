@@ -15,11 +15,11 @@ ghost use Rattle.raster.specs.declared.row.Color.{Color};
 ghost use Rattle.run_tables.specs.Reading.{rest_of};
 ghost use Rattle.run_tables.specs.Texts.{all_zero, begins, is_cut};
 ghost use Rattle.std.specs.Bool.{OnFalse, OnTrue};
-ghost use Rattle.std.specs.Prelude.{◌≡◌, ◌≤◌, ◌<◌, ◌+◌, [], List, IfNone, IfOk, IfSome, OnErr, OnOk, false, length, true};
+ghost use Rattle.std.specs.Prelude.{◌≡◌, ◌≤◌, ◌<◌, ◌+◌, [], List, Err, IfErr, IfNone, IfOk, IfSome, Ok, OnErr, OnOk, false, length, true};
 
 pub(crate) mod one_row;
 
-use crate::page::{Progress, push_row, push_white};
+use crate::page::{Progress, push_white};
 use crate::t6::front::{Front, left_of_b1, right_of_b1, to_a1, under_b1, under_b2};
 use crate::t6::lines::Lines;
 use crate::t6::mode::{EOFB, EOFB_NUMBER, ModeCode, Shift};
@@ -365,11 +365,13 @@ fn read_mode(reader: &mut BitReader, lines: &mut Lines) -> Result<(), CodeFault>
     }
 }
 
-/// One row after its reference row (ITU-T T.6, 2.2), which is the next one's reference row.
-fn read_row(alloc: Global, reader: &mut BitReader, lines: &mut Lines) -> Result<Row, CodeFault>
-    ensures reads { ReadsRow lines.old.reference reader.old reader.new result }
-    ensures next { IfOk result (λ row. lines.new.reference ≡ row) }
-    ensures same { OnErr result (lines.new.reference ≡ lines.old.reference) }
+/// The modes of one row after its reference row (ITU-T T.6, 2.2), until the coding line is whole.
+#[inline(always)]
+fn read_line(reader: &mut BitReader, lines: &mut Lines) -> Result<(), CodeFault>
+    ensures reads { OnOk result (ReadsRow lines.old.reference reader.old reader.new (Ok lines.new.line.pixels)) }
+    ensures refuses { IfErr result (λ fault. ReadsRow lines.old.reference reader.old reader.new (Err fault)) }
+    ensures whole { OnOk result (length lines.new.line.pixels ≡ length lines.new.reference) }
+    ensures same { lines.new.reference ≡ lines.old.reference }
 {
     let _start = reader.place(); // shows the proof that it is within the bits
     let _width = lines.width(); // shows the proof that there are pixels to read
@@ -380,6 +382,16 @@ fn read_row(alloc: Global, reader: &mut BitReader, lines: &mut Lines) -> Result<
             read_mode(reader, lines)?;
         }
     }
+    Ok(())
+}
+
+/// One row after its reference row, which is the next one's reference row.
+fn read_row(alloc: Global, reader: &mut BitReader, lines: &mut Lines) -> Result<Row, CodeFault>
+    ensures reads { ReadsRow lines.old.reference reader.old reader.new result }
+    ensures next { IfOk result (λ row. lines.new.reference ≡ row) }
+    ensures same { OnErr result (lines.new.reference ≡ lines.old.reference) }
+{
+    read_line(reader, lines)?;
     Ok(lines.row(alloc)?)
 }
 
@@ -391,20 +403,15 @@ fn lines_after(alloc: Global, page: &Page) -> Result<Lines, AllocError>
     let rows = page.rows();
     if rows.is_empty() {
         let white = Row::from_valid_runs(alloc, &[page.width()])?;
-        return Lines::after(alloc, &white);
+        return Lines::after(alloc, &white.lent());
     }
-    Lines::after(alloc, &rows[rows.len() - 1])
+    Lines::after(alloc, &rows.row(rows.len() - 1))
 }
 
 /// Reads on past rows that V0 alone writes, a 1 bit each: white rows after a white one, as many as the next 57
 /// bits begin with.
 #[inline(always)]
-fn white_rows(
-    alloc: Global,
-    lines: &Lines,
-    reader: &mut BitReader,
-    to: &mut Progress,
-) -> Result<(), AllocError>
+fn white_rows(lines: &Lines, reader: &mut BitReader, to: &mut Progress) -> Result<(), AllocError>
     requires width { IsWidth to.old.page.width }
     requires place { reader.old.place ≡ to.old.place }
     requires reference { lines.now.reference ≡ reference_at (white_line to.old.page.width) to.old.page.rows (length to.old.page.rows) }
@@ -423,7 +430,7 @@ fn white_rows(
     let mut word = reader.peek_57();
     let mut used: usize = 0;
     while word >> 63 == 1 && used < 57 && used < room {
-        push_white(alloc, &mut to.page)?;
+        push_white(&mut to.page)?;
         word = word << 1;
         used += 1;
     }
@@ -446,14 +453,14 @@ fn read_in_order(
     let mut lines = lines_after(alloc, &to.page)?;
     let mut reader = BitReader::at(octets, order, to.place);
     loop {
-        white_rows(alloc, &lines, &mut reader, to)?;
+        white_rows(&lines, &mut reader, to)?;
         match start_at(&reader, to.page.rows().len()) {
             Start::Row => {}
             Start::End => return Ok(to.place + EOFB.len() as u128),
             Start::Refused(kind) => return Err(CodeFault::new(to.place, kind)),
         }
-        let row = read_row(alloc, &mut reader, &mut lines)?;
-        push_row(&mut to.page, row)?;
+        read_line(&mut reader, &mut lines)?;
+        lines.push_to(&mut to.page)?;
         to.place = reader.place();
     }
 }

@@ -14,7 +14,7 @@ ghost use Rattle.std.specs.Prelude.{ℕ, List, ◌≡◌, ◌≤◌, ◌<◌, �
 use crate::t6::changes::put_held;
 use crate::t6::front::{Front, b1_at, index_after};
 use crate::t6::mode::{EOFB, ModeCode, Shift};
-use raster::{Color, Page, Row};
+use raster::{Color, Page, Row, RowRef, Rows};
 use run_tables::BitWriter;
 use std::alloc::{AllocError, Global};
 use std::mem;
@@ -205,7 +205,7 @@ impl Lines {
     }
 
     /// Lists for rows as wide as a line, the first of them after it.
-    pub(crate) fn after(alloc: Global, line: &Row) -> Result<Lines, AllocError>
+    pub(crate) fn after(alloc: Global, line: &RowRef<'_>) -> Result<Lines, AllocError>
         ensures fits { IfOk result (λ lines. FitsLines (length line.now) lines.reference.items lines.row.items lines.known) }
         ensures held { IfOk result (λ lines. AreHeld line.now (take lines.known lines.reference.items)) }
     {
@@ -221,7 +221,11 @@ impl Lines {
 
     /// Appends the code of a row after the reference line. The row becomes the next one's reference line.
     #[inline(always)]
-    pub(crate) fn write_row(&mut self, writer: &mut BitWriter, row: &Row) -> Result<(), AllocError>
+    pub(crate) fn write_row(
+        &mut self,
+        writer: &mut BitWriter,
+        row: &RowRef<'_>,
+    ) -> Result<(), AllocError>
         requires { FitsLines (length row.now) self.old.reference.items self.old.row.items self.old.known }
         ensures fits { FitsLines (length row.now) self.new.reference.items self.new.row.items self.new.known }
         ensures code { OnOk result ((line : List Color) → AreHeld line (take self.old.known self.old.reference.items)
@@ -247,8 +251,8 @@ impl Lines {
 fn write_rows(
     alloc: Global,
     writer: &mut BitWriter,
-    white: &Row,
-    rows: &[Row],
+    white: &RowRef<'_>,
+    rows: &Rows<'_>,
 ) -> Result<(), AllocError>
     requires { All (λ row. length row ≡ length white.now) rows.now }
     ensures ok { OnOk result (Appends (rows_code white.now rows.now) writer.old writer.new) }
@@ -256,7 +260,7 @@ fn write_rows(
 {
     let mut lines = Lines::after(alloc, white)?;
     for at in 0..rows.len() {
-        lines.write_row(writer, &rows[at])?;
+        lines.write_row(writer, &rows.row(at))?;
     }
     Ok(())
 }
@@ -272,6 +276,6 @@ pub(crate) fn write_page(
 {
     let rows = page.rows();
     let white = Row::from_valid_runs(alloc, &[page.width()])?;
-    write_rows(alloc, writer, &white, rows)?;
+    write_rows(alloc, writer, &white.lent(), &rows)?;
     writer.push_digits(EOFB)
 }

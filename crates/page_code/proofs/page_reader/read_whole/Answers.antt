@@ -12,7 +12,7 @@ pub returns-else-is_memory : goal.returns-else-is_memory
 returns-else-is_memory c =
     let bits = bits_of c.args.order c.args.octets.now in
     let other = not_memory c.is_memory.result c.in-Err.fault.kind c.is_memory.ensures c.if-is_memory.false in
-    rw c.rows.ensures.rows (
+    rw (c.len.ensures.length, c.rows.ensures.rows) (
       page_refused c.args.coding bits c.args.progress c.read_rows_on.new.to c.in-Err.fault c.requires.width other c.in-Err.ensures,
       rows_before c.args.coding bits c.args.progress c.read_rows_on.new.to c.in-Err.fault c.requires.width other c.in-Err.ensures,
     )

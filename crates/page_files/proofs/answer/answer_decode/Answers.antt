@@ -25,7 +25,7 @@ returns-after-has_end-clause-answered c = λ image writes.
     subst (λ (b : Broken). GivesPage b form octets (End bits) rows image lines) c.asked-broken.ensures
     (subst (λ (r : ReadTo). GivesPage c.asked-broken.result form octets r rows image lines) read_to
     (c.in_ok-page.ensures.given image writes)) in
-    let same : length c.rows-rows.result.now ≡ rows = ap (λ (l : List (List Color)). length l) c.rows-rows.ensures.rows in
+    let same : c.len-rows.result ≡ rows = c.len-rows.ensures.length ∙ ap (λ (l : List (List Color)). length l) c.rows.ensures.rows in
     let told = λ (n : ℕ). end_text c.args.options.verbose c.args.options.records n bits (octets_after octets bits) has_end in
     record {
       read_to = End bits;
@@ -35,7 +35,7 @@ returns-after-has_end-clause-answered c = λ image writes.
       tells = (
         has_end,
         c.in_ok-has_end-in-End.ensures.end,
-        c.in_ok-has_end-in-End.ensures.told ∙ (ap (λ (l : List ℕ). l ++ told (length c.rows-rows.result.now))
+        c.in_ok-has_end-in-End.ensures.told ∙ (ap (λ (l : List ℕ). l ++ told c.len-rows.result)
             (c.in_ok-told.ensures.told ∙ nothing_told c.args.options.records lines
             (no_lines_end asked form octets bits rows image lines given)) ∙ ap told same),
         elim c.if-has_end.branch [

@@ -1,4 +1,4 @@
-use Rattle.std.proofs.Common.{◌≡◌, take}
+use Rattle.std.proofs.Common.{◌≡◌, ◌++◌}
 use Rattle.page_files.specs.CodedPages.{HoldsCode}
 use Rattle.page_files.proofs.coded.write_code.Given as goal
 
@@ -7,5 +7,6 @@ invariant-loop-row g l = record {
   coding : l.coder.coding ≡ l.fn.coding;
   order : l.coder.pending.order ≡ l.fn.order;
   width : l.coder.width ≡ l.page.width;
-  holds : HoldsCode l.coder (take l.row-index l.rows) l.held.items (g.W.Write.contents l.fn.writer) (g.W.Write.contents l.writer);
+  all : l.yielded ++ l.row-iterator ≡ l.page.rows;
+  holds : HoldsCode l.coder l.yielded l.held.items (g.W.Write.contents l.fn.writer) (g.W.Write.contents l.writer);
 }

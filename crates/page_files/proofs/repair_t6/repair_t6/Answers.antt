@@ -17,20 +17,20 @@ pub returns-then-rows-gt0-clause-given : goal.returns-then-rows-gt0-clause-given
 returns-then-rows-gt0-clause-given c = λ image writes.
     let page = c.in_ok-page.field-0.page in
     let bit = c.in_ok-page.field-0.bit in
-    let same : length c.rows-rows.result.now ≡ length page.rows =
-    ap (λ (l : List (List Color)). length l) c.rows-rows.ensures.rows in (
+    let same : c.len-rows.result ≡ length page.rows =
+    c.len-rows.ensures.length ∙ ap (λ (l : List (List Color)). length l) c.rows.ensures.rows in (
       ended c.args.form c.args.octets.now [] image refl c.in_ok-page.field-0.page (length c.in_ok-page.field-0.page.rows) refl writes.0
           c.in-Err.fault (c.in-Err.ensures.refuses (search rules)) (search rules) c.from-fault.result c.from-fault.ensures
           c.in_ok-page.ensures.width c.in_ok-page.ensures.fine c.in_ok-page.ensures.rows c.in_ok-page.field-0.bit c.in_ok-page.ensures.bit
           (omega (arith, c.if-rows-gt0.true, same)) (c.in_ok-page.ensures.ends c.if-at_end.true),
-      c.in_ok-tell_no_eofb.ensures.told ∙ (ap (λ (l : List ℕ). l ++ no_eofb_line (length c.rows-rows.result.now) bit) c.new-lines.ensures.items
+      c.in_ok-tell_no_eofb.ensures.told ∙ (ap (λ (l : List ℕ). l ++ no_eofb_line c.len-rows.result bit) c.new-lines.ensures.items
           ∙ ap (λ (n : ℕ). no_eofb_line n bit) same),
     )
 
 pub returns-clause-given : goal.returns-clause-given
 returns-clause-given c = λ image writes.
-    let same : length c.rows-rows.result.now ≡ length c.in_ok-page.field-0.page.rows =
-    ap (λ (l : List (List Color)). length l) c.rows-rows.ensures.rows in (
+    let same : c.len-rows.result ≡ length c.in_ok-page.field-0.page.rows =
+    c.len-rows.ensures.length ∙ ap (λ (l : List (List Color)). length l) c.rows.ensures.rows in (
       broken c.args.form c.args.octets.now [] image refl c.in_ok-page.field-0.page (length c.in_ok-page.field-0.page.rows) refl writes.0
           c.in-Err.fault (c.in-Err.ensures.refuses (search rules)) (search rules) c.from-fault.result c.from-fault.ensures
           c.in_ok-page.ensures.width c.in_ok-page.ensures.fine c.in_ok-page.ensures.rows c.in_ok-page.field-0.bit c.in_ok-page.ensures.bit

@@ -1,7 +1,8 @@
 use Rattle.std.proofs.Common.{◌+◌, ◌≤◌, ◌++◌, ap, ◌∙◌, arith}
 use Rattle.hdlc.specs.Stuffing.{waiting_bits}
 use Rattle.hdlc.proofs.BitPlaces.{bits_of-one}
-use Rattle.hdlc.proofs.WritingOctets.{shifted_whole, joined_below, joined_fits, joined_bits, run_few}
+use Rattle.run_tables.proofs.NumberLemmas.{joined_below}
+use Rattle.hdlc.proofs.WritingOctets.{shifted_whole, joined_fits, joined_bits, run_few}
 use Rattle.hdlc.proofs.bit_buffer.BitBuffer.with.Goals as goal
 
 pub overflow_add-result : goal.overflow_add-result

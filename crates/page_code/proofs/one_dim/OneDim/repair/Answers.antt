@@ -9,8 +9,8 @@ returns-in-Err-clause-whole c = λ rows used reads.
     whole_err c.args.width (bits_of c.args.order c.args.octets.now) c.requires c.begun_at.result rows used (begun c.args.width (bits_of
     c.args.order c.args.octets.now) c.requires c.in-Err.fault c.begun_at.result c.begun_at.ensures c.in-Err.ensures) reads
 
-pub returns-then-len-rows-clause-whole : goal.returns-then-len-rows-clause-whole
-returns-then-len-rows-clause-whole c = λ rows used reads.
+pub returns-then-len-clause-whole : goal.returns-then-len-clause-whole
+returns-then-len-clause-whole c = λ rows used reads.
     whole_ok c.args.width (bits_of c.args.order c.args.octets.now) c.requires c.in-Ok.given.page.rows c.in-Ok.given.repaired.items rows used
     c.in-Ok.ensures.2 reads
 
@@ -20,8 +20,9 @@ unreachable-requires c =
       arith,
       few,
       c.len.ensures,
+      c.len-2.ensures.length,
       ap length c.rows.ensures.rows,
-      c.if-len-rows.false,
+      c.if-len.false,
     ) in
     reads_no_page c.args.width (bits_of c.args.order c.args.octets.now) c.requires c.in-Ok.given.page.rows c.in-Ok.given.repaired.items
     c.in-Ok-decode.field-0.0.rows c.in-Ok-decode.field-0.1 c.in-Ok.ensures.2 all c.in-Ok-decode.ensures.reads.reads
@@ -32,8 +33,9 @@ returns-clause-refuses c = λ other.
       arith,
       few,
       c.len.ensures,
+      c.len-2.ensures.length,
       ap length c.rows.ensures.rows,
-      c.if-len-rows.false,
+      c.if-len.false,
     ) in
     inl (no_row c.args.width (bits_of c.args.order c.args.octets.now) c.requires c.in-Ok.given.page.rows c.in-Ok.given.repaired.items
     c.in-Err-decode.fault c.in-Ok.ensures.2 all (c.in-Err-decode.ensures.refuses other))

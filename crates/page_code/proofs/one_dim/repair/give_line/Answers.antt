@@ -1,5 +1,5 @@
 -- What the check asks of `give_line`.
-use Rattle.std.proofs.Common.{ap, length, refl}
+use Rattle.std.proofs.Common.{ap, length, refl, ◌∙◌}
 use Rattle.raster.specs.Packed.{bits_of}
 use Rattle.page_code.proofs.OneDimension.Repairs.{gives_broken, gives_read}
 use Rattle.page_code.proofs.OneDimension.RowsOn.{within_bits}
@@ -20,7 +20,7 @@ returns-in_ok-push-in-Broken c =
       page = c.push_row-in-Broken.new.page;
       repaired = c.push.new.self;
       place = c.after_eol-to.result;
-    }) c.in_ok-row.field-0 c.in-Broken.bit c.in_ok-row-in-Broken.row (length c.rows-number.result.now) c.width.ensures c.in_ok-row.ensures
-    c.in-Broken.is c.requires.line c.in_ok-row-in-Broken.ensures.0 c.in_ok-push_row-in-Broken.ensures (ap length
-    c.rows-number.ensures.rows) c.in_ok-push-in-Broken.ensures.items c.after_eol-to.ensures.skipped (within_bits c.args.order
+    }) c.in_ok-row.field-0 c.in-Broken.bit c.in_ok-row-in-Broken.row c.len-number.result c.width.ensures c.in_ok-row.ensures
+    c.in-Broken.is c.requires.line c.in_ok-row-in-Broken.ensures.0 c.in_ok-push_row-in-Broken.ensures (c.len-number.ensures.length ∙
+    ap length c.rows.ensures.rows) c.in_ok-push-in-Broken.ensures.items c.after_eol-to.ensures.skipped (within_bits c.args.order
     c.args.octets.now c.after_eol-to.result c.after_eol-to.ensures.within)

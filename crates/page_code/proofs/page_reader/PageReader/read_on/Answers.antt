@@ -23,8 +23,8 @@ pass_on-passed-requires-clause-before c = passed_from c.self.inside.coding c.sel
 pub returns-in-Some-clause-ok : goal.returns-in-Some-clause-ok
 returns-in-Some-clause-ok c = passed_on c.self.inside.coding c.self.inside.order c.self.inside.progress c.self.inside.passed
     c.self.inside.count c.self.inside.turned.items c.args.self.now c.self.view_is c.args.all.now c.requires c.in-Some.passed
-    (length c.rows.result.now) c.in-Some.ensures.passed c.in-Some.ensures.rows (ap (λ (rows : List (List Color)). length rows)
-    c.rows.ensures.rows)
+    c.len.result c.in-Some.ensures.passed c.in-Some.ensures.rows (c.len.ensures.length ∙
+    ap (λ (rows : List (List Color)). length rows) c.rows.ensures.rows)
 
 pub returns-in_default-read-clause-err : goal.returns-in_default-read-clause-err
 returns-in_default-read-clause-err c = stands_still c.self.inside.coding c.self.inside.order c.self.inside.progress c.self.inside.passed

@@ -8,7 +8,8 @@ use Rattle.page_code.proofs.page_rows.RowReader.new.Goals as goal
 
 pub returns : goal.returns
 returns c =
-    let is : c.in_ok-white.white ≡ white_line c.args.width = c.in_ok-white.ensures ∙ append-nil (replicate c.args.width White) in
+    let is : c.lent.result ≡ white_line c.args.width =
+    c.lent.ensures ∙ (c.in_ok-white.ensures ∙ append-nil (replicate c.args.width White)) in
     record {
       coding_is = refl;
       order_is = refl;

@@ -1,8 +1,6 @@
-use Rattle.std.proofs.Common.{ℕ, List, arith, ap, sym, refl, ◌∙◌, ◌≡◌, ◌+◌, ◌-◌, ◌<◌, length}
+use Rattle.std.proofs.Common.{ℕ, arith, ap, sym, refl, ◌∙◌, ◌≡◌, ◌+◌, ◌-◌, ◌<◌, length}
 use Rattle.std.specs.Prelude.{slice_index_or}
 use Rattle.std.proofs.lemmas.Result.{on_ok_weaker}
-use Rattle.raster.specs.Changes.{AreChanges, IsNextChange}
-use Rattle.raster.specs.declared.row.Color.{Color}
 use Rattle.raster.specs.declared.row.Color.TheVariants.{White, Black}
 use Rattle.run_tables.specs.Codes.{run_words}
 use Rattle.run_tables.proofs.RowWriting.{change_on, first_change, first_written, keeps_on, last_written, same_at, written_on}

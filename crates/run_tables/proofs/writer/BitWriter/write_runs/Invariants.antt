@@ -1,4 +1,4 @@
-use Rattle.std.proofs.Common.{length, ◌-◌, ℕ, List, ◌≡◌, ◌<◌}
+use Rattle.std.proofs.Common.{length, ◌-◌, List, ◌≡◌, ◌<◌}
 use Rattle.std.specs.Prelude.{slice_index_or}
 use Rattle.raster.specs.Changes.{AreChanges}
 use Rattle.raster.specs.declared.row.Color.{Color}

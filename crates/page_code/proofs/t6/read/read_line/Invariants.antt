@@ -1,0 +1,14 @@
+use Rattle.std.proofs.Common.{◌≡◌, ◌<◌, ◌-◌, length}
+use Rattle.page_code.specs.TwoDimensions.Positions.{line_begin}
+use Rattle.page_code.specs.TwoDimensions.Reading.{StepsAlong}
+use Rattle.page_code.proofs.t6.read.read_line.Given as goal
+
+abbrev pub invariant-loop-reader : goal.invariant-loop-reader
+invariant-loop-reader l = record {
+  same : l.lines.reference ≡ l.fn.lines.reference;
+  wide : 0 < length l.fn.lines.reference;
+  along : StepsAlong l.fn.lines.reference l.fn.reader l.reader line_begin l.lines.line;
+}
+
+abbrev pub decreases-loop-reader : goal.decreases-loop-reader
+decreases-loop-reader l = length l.reader.bits - l.reader.place
