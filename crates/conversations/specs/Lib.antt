@@ -13,5 +13,6 @@ pub mod Lines
 pub mod Reading
 pub mod Refusing
 pub mod StoredLines
+pub mod Stores
 pub mod Talking
 pub mod Writing

@@ -1,10 +1,11 @@
 -- What `answer` promises is an answer.
-use Rattle.std.proofs.Common.{◌∷◌, ◌⊎◌, inl, inr, [], List, Bool, true, false, Option, refl, ap, sym, subst}
+use Rattle.std.proofs.Common.{◌++◌, ◌∷◌, ◌⊎◌, inl, inr, [], List, Bool, true, false, Option, refl, sym, subst}
 use Rattle.std.specs.Prelude.{ℕ}
 use Rattle.conversations.specs.Answering.{StoreStep, StoresAll, StoresEach, StoresSome, limited_behaviour}
 use Rattle.conversations.specs.Conversations.{Behaviour, ConversationFields, refused_so}
 use Rattle.conversations.specs.Led.{caller_behaviour}
 use Rattle.conversations.specs.StoredLines.{storing}
+use Rattle.conversations.specs.Stores.{IsStock, IsStore, Stock}
 use Rattle.conversations.specs.Talking.{GivesAll, GivesSoFar, GivesSome, Keeping, KeepsOf, TellsAll, TellsPart, keeping}
 use Rattle.raster.specs.Pages.{PagePixels}
 use Rattle.stations.specs.Limiting.{LimitedFields}
@@ -12,24 +13,31 @@ use Rattle.stations.specs.Stopping.{StoppableCallerFields}
 use Rattle.terminals.specs.Speaking.{BurstsOf}
 use Rattle.terminals.specs.declared.sending.SentBurst.{SentBurst}
 use Rattle.joined_terminals.specs.Answered.{GivesPart, caller_lends, leaves}
-use Rattle.joined_terminals.specs.Promised.{CallersAnswer, CallersBreakOff, IsListed, StoringAnswers, StoringBreaksOff}
+use Rattle.joined_terminals.specs.Promised.{CallersAnswer, CallersBreakOff, StoringAnswers, StoringBreaksOff}
 use Rattle.joined_terminals.specs.Steps.{appends}
 
--- ---- a store as a list
+-- ---- a store and the pages that it may have
 
-module _ {P : Type 0} (stores refuses : StoreStep P) (pages : P → List PagePixels) (l : IsListed P stores refuses pages) where
-  each_listed : (old : P) (xs : List PagePixels) (new : P) → StoresEach stores old xs new → StoresEach appends (pages old) xs (pages new)
-  each_listed old [] new h = ap pages h
-  each_listed old (x ∷ xs) new h = (pages h.0, l.stored old x h.0 h.1, each_listed h.0 xs new h.2)
+module _ {P : Type 0} (stores refuses : StoreStep P) (stock : P → Stock) (l : IsStore P stores refuses stock) where
+  each_stored : (old : P) (xs : List PagePixels) (new : P) → StoresEach stores old xs new → (pages : List PagePixels) →
+      IsStock (stock old) pages → (after : List PagePixels) × IsStock (stock new) after × StoresEach appends pages xs after
+  each_stored old [] new h pages may = (pages, subst (λ s. IsStock (stock s) pages) (sym h) may, refl)
+  each_stored old (x ∷ xs) new h pages may =
+      let r = each_stored h.0 xs new h.2 (pages ++ x ∷ []) (l.stored old x h.0 h.1 pages may) in (r.0, r.1, (pages ++ x ∷ [], refl, r.2))
 
-  some_listed : (old : P) (xs : List PagePixels) (new : P) → StoresSome stores refuses old xs new →
-      StoresSome appends leaves (pages old) xs (pages new)
-  some_listed old xs new h = (h.0, h.1, h.2, pages h.3, h.4, each_listed old h.0 h.3 h.5, l.refused h.3 h.1 new h.6)
+  some_stored : (old : P) (xs : List PagePixels) (new : P) → StoresSome stores refuses old xs new → (pages : List PagePixels) →
+      IsStock (stock old) pages → (after : List PagePixels) × IsStock (stock new) after × StoresSome appends leaves pages xs after
+  some_stored old xs new h pages may =
+      let r = each_stored old h.0 h.3 h.5 pages may in
+      (r.0, l.refused h.3 h.1 new h.6 r.0 r.1, (h.0, h.1, h.2, r.0, h.4, r.2, refl))
 
-  all_listed : (c ready : ConversationFields LimitedFields) (old new : P) (kept : Bool) → StoresAll stores refuses c ready old new kept →
-      StoresAll appends leaves c ready (pages old) (pages new) kept
-  all_listed c ready old new true h = (each_listed old c.terminal.speaking.station.station.pages new h.0, h.1)
-  all_listed c ready old new false h = (some_listed old c.terminal.speaking.station.station.pages new h.0, h.1)
+  all_stored : (c ready : ConversationFields LimitedFields) (old new : P) (kept : Bool) → StoresAll stores refuses c ready old new kept →
+      (pages : List PagePixels) → IsStock (stock old) pages →
+      (after : List PagePixels) × IsStock (stock new) after × StoresAll appends leaves c ready pages after kept
+  all_stored c ready old new true h pages may =
+      let r = each_stored old c.terminal.speaking.station.station.pages new h.0 pages may in (r.0, r.1, (r.2, h.1))
+  all_stored c ready old new false h pages may =
+      let r = some_stored old c.terminal.speaking.station.station.pages new h.0 pages may in (r.0, r.1, (r.2, h.1))
 
 -- ---- what is given of an answer that fails
 
@@ -56,35 +64,41 @@ module _ {S K : Type 0} (b : Behaviour S) (k : Keeping S K) (lends : BurstsOf S)
 -- ---- the contracts
 
 pub storing_answers : (P : Type 0) (stores refuses : StoreStep P) → StoringAnswers P stores refuses
-storing_answers P stores refuses pages l takes tells text old new keeper kept_in before after kept over others same a comes =
-    record {
-      ready = a.ready;
-      is_ready = record {
-        heard = a.heard;
-        takes = a.takes;
-        others = others;
-        comes = comes;
-        keeps = subst (λ s. StoresAll appends leaves (refused_so limited_behaviour a.heard) a.ready s (pages kept_in) kept) (sym same)
-            (all_listed stores refuses pages l (refused_so limited_behaviour a.heard) a.ready keeper kept_in kept a.keeps_so);
-      };
-      turn = record { left = a.left; withholds = a.withholds; bursts = a.writes.bursts; gives = a.writes.gives };
-    }
+storing_answers P stores refuses stock l takes tells text old new keeper kept_in before after kept over others may a comes =
+    let r = all_stored stores refuses stock l (refused_so limited_behaviour a.heard) a.ready keeper kept_in kept a.keeps_so old.stored may in (
+      r.0,
+      r.1,
+      record {
+        ready = a.ready;
+        is_ready = record {
+          heard = a.heard;
+          takes = a.takes;
+          others = others;
+          comes = comes;
+          keeps = r.2;
+        };
+        turn = record { left = a.left; withholds = a.withholds; bursts = a.writes.bursts; gives = a.writes.gives };
+      },
+    )
 
 pub storing_breaks_off : (P : Type 0) (stores refuses : StoreStep P) → StoringBreaksOff P stores refuses
-storing_breaks_off P stores refuses pages l takes tells text old new keeper kept_in before after others same a comes =
+storing_breaks_off P stores refuses stock l takes tells text old new keeper kept_in before after others may a comes =
     let t = storing stores refuses takes tells in
-    record {
-      ready = a.ready;
-      is_ready = record {
-        heard = a.heard;
-        takes = a.takes;
-        others = others;
-        comes = comes;
-        keeps = subst (λ s. StoresAll appends leaves (refused_so limited_behaviour a.heard) a.ready s (pages kept_in) a.kept) (sym same)
-            (all_listed stores refuses pages l (refused_so limited_behaviour a.heard) a.ready keeper kept_in a.kept a.keeps_so);
-      };
-      part = part_given t.station t.keeping t.lends a.ready new kept_in before after a.writes;
-    }
+    let r = all_stored stores refuses stock l (refused_so limited_behaviour a.heard) a.ready keeper kept_in a.kept a.keeps_so old.stored may in (
+      r.0,
+      r.1,
+      record {
+        ready = a.ready;
+        is_ready = record {
+          heard = a.heard;
+          takes = a.takes;
+          others = others;
+          comes = comes;
+          keeps = r.2;
+        };
+        part = part_given t.station t.keeping t.lends a.ready new kept_in before after a.writes;
+      },
+    )
 
 pub callers_answer : (K : Type 0) (keeps : KeepsOf StoppableCallerFields K) → CallersAnswer K keeps
 callers_answer K keeps none takes tells text old new keeper kept_in before after kept over others a comes =

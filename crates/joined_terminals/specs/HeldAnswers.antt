@@ -5,6 +5,7 @@ use Rattle.conversations.specs.Answering.{StoreStep, limited_behaviour}
 use Rattle.conversations.specs.Conversations.{ConversationFields, TakesLine, gives, refused_so}
 use Rattle.conversations.specs.Conversing.{Talker, talker}
 use Rattle.conversations.specs.Holding.{HoldsPages, IsBusyIfFull}
+use Rattle.conversations.specs.Stores.{IsHolder, IsStock, Stock}
 use Rattle.conversations.specs.Talking.{Answers, KeepsLine, keeping}
 use Rattle.conversations.specs.declared.line.Fate.TheVariants.{Kept, Lost}
 use Rattle.conversations.specs.declared.line.Said.{Said}
@@ -112,12 +113,6 @@ pub record HeldAnswersAreSteps : Type 0 where
       (line : TimedLine) (old : Driven) (new : ConversationFields LimitedFields) → old.unkept ≡ [] →
       HoldsOne old.answerer.terminal.speaking → AnswererHasNoMemory line old new → LeadsHolder (answerer_refuses line ∷ []) old new old.stored
 
--- a holder seen as the list of the pages that count as stored: one that is handed over or refused isn't among them, one that is counted is
-pub record IsListedHolder (P : Type 0) (hands refuses counts : StoreStep P) (pages : P → List PagePixels) : Type 0 where
-  pub handed : (old : P) (page : PagePixels) (new : P) → hands old page new → pages new ≡ pages old
-  pub refused : (old : P) (page : PagePixels) (new : P) → refuses old page new → pages new ≡ pages old
-  pub counted : (old : P) (page : PagePixels) (new : P) → counts old page new → pages new ≡ pages old ++ page ∷ []
-
 -- an answerer with limits talks, and its pages are handed over to a holder, which takes some lines and says something
 abbrev pub holding :
     {P : Type 0} → StoreStep P → StoreStep P → StoreStep P → (P → Option (List ℕ)) → (P → Said → Bool) → (P → List ℕ) →
@@ -129,23 +124,25 @@ holding hands refuses counts held takes tells =
 -- The law: what `answer` promises of an answerer whose pages go to such a holder, where it is `Ok`, and the line comes of what is on its way.
 abbrev pub HoldingAnswers : (P : Type 0) → StoreStep P → StoreStep P → StoreStep P → (P → Option (List ℕ)) → Type 0
 HoldingAnswers P hands refuses counts held =
-    (pages : P → List PagePixels) → IsListedHolder P hands refuses counts pages →
+    (stock : P → Stock) → IsHolder P hands refuses counts stock →
     (takes : P → Said → Bool) (tells : P → List ℕ) (text : List ℕ) (old : Driven) (new : ConversationFields LimitedFields)
-    (keeper kept_in : P) (before after : Option (List ℕ)) (kept over : Bool) (others : List PlainItem) → old.stored ≡ pages keeper →
+    (keeper kept_in : P) (before after : Option (List ℕ)) (kept over : Bool) (others : List PlainItem) →
+    IsStock (stock keeper) old.stored →
     let t = holding hands refuses counts held takes tells in
     (answers : Answers LimitedFields P t.station t.keeping t.lends text old.answerer new keeper kept_in before after kept over) →
     Comes IsPiece old.answerer.terminal.framing old.to_answerer (gives limited_behaviour old.answerer answers.takes.shown answers.timed)
     others →
-    HolderAnswers answers.timed kept answers.late old new (pages kept_in)
+    (stored : List PagePixels) × IsStock (stock kept_in) stored × HolderAnswers answers.timed kept answers.late old new stored
 
 -- The law: the same where it is `Err` once the line was taken.
 abbrev pub HoldingBreaksOff : (P : Type 0) → StoreStep P → StoreStep P → StoreStep P → (P → Option (List ℕ)) → Type 0
 HoldingBreaksOff P hands refuses counts held =
-    (pages : P → List PagePixels) → IsListedHolder P hands refuses counts pages →
+    (stock : P → Stock) → IsHolder P hands refuses counts stock →
     (takes : P → Said → Bool) (tells : P → List ℕ) (text : List ℕ) (old : Driven) (new : ConversationFields LimitedFields)
-    (keeper kept_in : P) (before after : Option (List ℕ)) (others : List PlainItem) → old.stored ≡ pages keeper →
+    (keeper kept_in : P) (before after : Option (List ℕ)) (others : List PlainItem) →
+    IsStock (stock keeper) old.stored →
     let t = holding hands refuses counts held takes tells in
     (breaks : KeepsLine LimitedFields P t.station t.keeping t.lends text old.answerer new keeper kept_in before after) →
     Comes IsPiece old.answerer.terminal.framing old.to_answerer (gives limited_behaviour old.answerer breaks.takes.shown breaks.timed)
     others →
-    HolderBreaksOff breaks.timed breaks.kept old new (pages kept_in)
+    (stored : List PagePixels) × IsStock (stock kept_in) stored × HolderBreaksOff breaks.timed breaks.kept old new stored

@@ -1,8 +1,9 @@
 -- What `answer` promises is an answer of which law `answers_are_steps` speaks.
-use Rattle.std.specs.Prelude.{ℕ, ◌≡◌, ◌++◌, ◌∷◌, [], Bool, List, Option}
+use Rattle.std.specs.Prelude.{ℕ, ◌≡◌, Bool, List, Option}
 use Rattle.conversations.specs.Answering.{StoreStep, limited_behaviour}
 use Rattle.conversations.specs.Conversations.{ConversationFields, gives}
 use Rattle.conversations.specs.Led.{caller_behaviour}
+use Rattle.conversations.specs.Stores.{IsStock, IsStore, Stock}
 use Rattle.conversations.specs.StoredLines.{storing}
 use Rattle.conversations.specs.Talking.{Answers, KeepsLine, KeepsOf, keeping}
 use Rattle.conversations.specs.declared.line.Said.{Said}
@@ -15,11 +16,6 @@ use Rattle.joined_terminals.specs.Driven.{Driven}
 use Rattle.joined_terminals.specs.Octets.{IsPiece}
 use Rattle.joined_terminals.specs.Steps.{Comes, IsOneAtMost}
 
--- a store seen as a list of pages: one that is stored comes after those before, and one that is refused isn't among them
-pub record IsListed (P : Type 0) (stores refuses : StoreStep P) (pages : P → List PagePixels) : Type 0 where
-  pub stored : (old : P) (page : PagePixels) (new : P) → stores old page new → pages new ≡ pages old ++ page ∷ []
-  pub refused : (old : P) (page : PagePixels) (new : P) → refuses old page new → pages new ≡ pages old
-
 -- a keeper that leaves each conversation as it is, as that of a caller does
 abbrev pub LeavesAll : (S K : Type 0) → KeepsOf S K → Type 0
 LeavesAll S K keeps =
@@ -29,26 +25,28 @@ LeavesAll S K keeps =
 -- The law: what `answer` promises of an answerer whose pages go to such a store, where it is `Ok`, and the line comes of what is on its way.
 abbrev pub StoringAnswers : (P : Type 0) → StoreStep P → StoreStep P → Type 0
 StoringAnswers P stores refuses =
-    (pages : P → List PagePixels) → IsListed P stores refuses pages →
+    (stock : P → Stock) → IsStore P stores refuses stock →
     (takes : P → Said → Bool) (tells : P → List ℕ) (text : List ℕ) (old : Driven) (new : ConversationFields LimitedFields)
-    (keeper kept_in : P) (before after : Option (List ℕ)) (kept over : Bool) (others : List PlainItem) → old.stored ≡ pages keeper →
+    (keeper kept_in : P) (before after : Option (List ℕ)) (kept over : Bool) (others : List PlainItem) →
+    IsStock (stock keeper) old.stored →
     let t = storing stores refuses takes tells in
     (answers : Answers LimitedFields P t.station t.keeping t.lends text old.answerer new keeper kept_in before after kept over) →
     Comes IsPiece old.answerer.terminal.framing old.to_answerer (gives limited_behaviour old.answerer answers.takes.shown answers.timed)
     others →
-    AnswererAnswers answers.timed kept answers.late old new (pages kept_in)
+    (stored : List PagePixels) × IsStock (stock kept_in) stored × AnswererAnswers answers.timed kept answers.late old new stored
 
 -- The law: the same where it is `Err` and the pages were kept before.
 abbrev pub StoringBreaksOff : (P : Type 0) → StoreStep P → StoreStep P → Type 0
 StoringBreaksOff P stores refuses =
-    (pages : P → List PagePixels) → IsListed P stores refuses pages →
+    (stock : P → Stock) → IsStore P stores refuses stock →
     (takes : P → Said → Bool) (tells : P → List ℕ) (text : List ℕ) (old : Driven) (new : ConversationFields LimitedFields)
-    (keeper kept_in : P) (before after : Option (List ℕ)) (others : List PlainItem) → old.stored ≡ pages keeper →
+    (keeper kept_in : P) (before after : Option (List ℕ)) (others : List PlainItem) →
+    IsStock (stock keeper) old.stored →
     let t = storing stores refuses takes tells in
     (breaks : KeepsLine LimitedFields P t.station t.keeping t.lends text old.answerer new keeper kept_in before after) →
     Comes IsPiece old.answerer.terminal.framing old.to_answerer (gives limited_behaviour old.answerer breaks.takes.shown breaks.timed)
     others →
-    AnswererBreaksOff breaks.timed breaks.kept old new (pages kept_in)
+    (stored : List PagePixels) × IsStock (stock kept_in) stored × AnswererBreaksOff breaks.timed breaks.kept old new stored
 
 -- The law: what `answer` promises of a caller, whose keeper leaves it as it is, where it is `Ok`.
 abbrev pub CallersAnswer : (K : Type 0) → KeepsOf StoppableCallerFields K → Type 0

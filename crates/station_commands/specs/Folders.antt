@@ -7,6 +7,8 @@ use Rattle.conversations.specs.Answering.{StoresAll}
 use Rattle.conversations.specs.Conversations.{ConversationFields, hung_up_so}
 use Rattle.conversations.specs.Holding.{HoldsPages}
 use Rattle.conversations.specs.Refusing.{gap_in}
+use Rattle.conversations.specs.Stores.{IsHolder, IsStore, Stock}
+use Rattle.conversations.specs.Stores.Stock.{at_least}
 use Rattle.conversations.specs.declared.line.Fate.TheVariants.{Kept, Lost}
 use Rattle.conversations.specs.declared.line.Said.{Said}
 use Rattle.conversations.specs.declared.line.Said.TheVariants.{Quiet, Busy, Received, NotReady, Ready, Missed, Told, Stop, End}
@@ -144,6 +146,15 @@ pub record FolderRefuses (old : Folder) (page : PagePixels) (new : Folder) : Typ
   pub tally : new.tally ≡ old.tally
   pub limits : new.limits ≡ old.limits
   pub stopped : new.stopped ≡ stopped_for why old.stopped
+
+-- what is known of the pages in a folder: there are as many as it counts, or more
+abbrev pub stock_of : Folder → Stock
+stock_of folder = at_least folder.tally.pages
+
+-- The law: whether a folder stores pages itself or hands them over, it has as many as it counts.
+pub record FolderIsStore : Type 0 where
+  pub stores : IsStore Folder FolderStores FolderRefuses stock_of
+  pub holds : IsHolder Folder FolderHands FolderRefuses (λ old page new. FolderCounts old new) stock_of
 
 -- the answerer's pages are handed over (true) or stored, after a line that says this; all were
 abbrev pub KeepsPages : Bool → Said → ConversationFields LimitedFields → ConversationFields LimitedFields → Folder → Folder → Bool → Type 0
