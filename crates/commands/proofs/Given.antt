@@ -1,5 +1,6 @@
 -- What engines give, as the commands say it.
 use Rattle.std.proofs.Common.{◌≡◌, ◌∙◌, ℕ, Bool, [], List, Option, Global, String, ap, refl, inl, inr, subst, sym}
+use Rattle.std.proofs.lemmas.Option.{none-some}
 use Rattle.std.specs.Prelude.{Err, IfErr, IfOk, MatchOption, None, Ok, OnOk, Result, Some}
 use Rattle.captures.specs.Contents.{ReadsAll}
 use Rattle.captures.specs.Frames.{ListsFrames}
@@ -33,7 +34,7 @@ found_in command (Err fault) from to before after Stored given = tt
 pub is_given : {X Y : Type 0} (P : X → Type 0) (given : Option X) (seen : Option Y) (it : Y) → MatchOption given (seen ≡ None) P
     → seen ≡ Some it → (kept : X) × (given ≡ Some kept)
 is_given P (Some kept) seen it shows is = (kept, refl)
-is_given P None seen it none is = absurd (subst (λ o. MatchOption o (Unit {0}) (λ it. ⊥)) (sym none ∙ is) tt)
+is_given P None seen it none is = absurd (none-some it (sym none ∙ is))
 
 -- pages were stored in the folder that is given, or that failed
 pub stores_given : (command : FramesCommand) (given : Result Completeness ToolFault)

@@ -6,10 +6,8 @@ use Rattle.captures.specs.Captured.{captured}
 use Rattle.captures.specs.Found.{FoundStep, TakesEach}
 use Rattle.captures.specs.Frames.{ListsFrames}
 use Rattle.captures.specs.Fronts.{FrontStep, SalvagesAll}
-use Rattle.captures.specs.declared.captured.Captured.{Captured}
 use Rattle.captures.specs.declared.captured.Captured.TheVariants.{Page}
 use Rattle.captures.specs.declared.frames.ListOptions.{ListOptions}
-use Rattle.captures.specs.declared.numbers.PageNumbers.{PageNumbers}
 use Rattle.command_files.specs.Runs.{completeness_of}
 use Rattle.command_files.specs.declared.command.Completeness.{Completeness}
 use Rattle.command_files.specs.declared.command.Completeness.TheVariants.{Lacking, Whole}
@@ -36,23 +34,16 @@ ListsOctets command octets = (before after : Option (List ℕ)) × (worth : Bool
 
 -- ---- their pages
 
--- The number of the last page, and whether nothing is missing of any page, before and after something was found in a capture. A page has
--- its PPS's own number, counted from 1. If something is missing of a page, not all is whole.
-abbrev pub NotesFound : PageNumbers → Bool → Captured → PageNumbers → Bool → Type 0
-NotesFound old whole (Page mark page) new still = (new.page ≡ mark.page + 1) × (still ≡ whole)
-NotesFound old whole found new still = (new ≡ old) × (still ≡ false)
-
--- The same for the rows of a page before a gap: they are a page with its own number, and not all is whole.
-abbrev pub NotesFront : ℕ → PageNumbers → Bool → Type 0
-NotesFront number new still = (new.page ≡ number + 1) × (still ≡ false)
-
--- a folder takes what was found, and isn't empty then
+-- A folder takes what was found in a capture, and isn't empty then. A page has its PPS's own number, counted from 1. If something is
+-- missing of a page, not all is whole.
 abbrev pub takes_found : FoundStep Folder
-takes_found old found new = NotesFound old.numbers old.is_whole found new.numbers new.is_whole × (new.is_empty ≡ false)
+takes_found old (Page mark page) new =
+    (new.numbers.page ≡ mark.page + 1) × (new.is_whole ≡ old.is_whole) × (new.is_empty ≡ false)
+takes_found old found new = (new.numbers ≡ old.numbers) × (new.is_whole ≡ false) × (new.is_empty ≡ false)
 
--- a folder takes the rows of a page before a gap, and isn't empty then
+-- a folder takes the rows of a page before a gap: they are a page with its own number, and not all is whole
 abbrev pub takes_front : FrontStep Folder
-takes_front old number page new = NotesFront number new.numbers new.is_whole × (new.is_empty ≡ false)
+takes_front old number page new = (new.numbers.page ≡ number + 1) × (new.is_whole ≡ false) × (new.is_empty ≡ false)
 
 -- a folder that has taken nothing yet
 pub record IsNew (folder : Folder) : Type 0 where
@@ -72,7 +63,7 @@ StoresPagesOf command octets completeness = ListsOctets command octets × ((old 
     × StoresCaptured command.salvage (good (bits_of command.order octets)) old new
     × (completeness ≡ completeness_of (new.is_whole && not new.is_empty)))
 
--- without a folder of pages nothing can be lacking
+-- the frames were listed, and that is all; or, with a folder, their pages were stored too
 abbrev pub ListsOrStores : {A : Type 0} → FramesCommand → Option A → List ℕ → Completeness → Type 0
 ListsOrStores command None octets completeness = ListsOctets command octets × (completeness ≡ Whole)
 ListsOrStores command (Some folder) octets completeness = StoresPagesOf command octets completeness

@@ -1,4 +1,5 @@
 //! What is done for a command: its files are looked at, it runs, and its fault is shown.
+
 ghost use Rattle.faxtool.specs.Jobs.{HasWidth};
 ghost use Rattle.faxtool.specs.Ran.{Gave, Ran};
 ghost use Rattle.raster.specs.Pixels.{IsWidth};
