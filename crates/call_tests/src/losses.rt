@@ -61,52 +61,43 @@ fn ending_of(alloc: Global, letters: &str) -> Result<Ending, Fail> {
     ))
 }
 
-/// The call goes through.
-const NORMAL: Ending = (true, Some(End::Normal), Some(End::Normal), 1);
+/// The letters of a call, the ends of the caller and the answerer, and the number of stored pages. With no loss there come: DIS, DCS, the
+/// training check, CFR; FCD, three RCP, PPS, MCF; DCN.
+const CALLS: [(&str, End, End, usize); 15] = [
+    // the DIS
+    ("L L", End::Normal, End::Normal, 1),
+    ("L L L", End::NoAnswer, End::PeerLeft, 0),
+    // the DCS, whose training check comes; and the CFR
+    ("C LC LC", End::Normal, End::Normal, 1),
+    ("C LC LC LC", End::NoReply, End::PeerLeft, 0),
+    ("C CCL CCL", End::Normal, End::Normal, 1),
+    ("C CCL CCL CCL", End::NoReply, End::PeerLeft, 0),
+    // the training check at each of six speeds, whose FTT comes
+    ("C CSC CSC CSC CSC CSC", End::Normal, End::Normal, 1),
+    ("C CSC CSC CSC CSC CSC CSC", End::Training, End::PeerLeft, 0),
+    // the PPS
+    ("CCCC CCCCL L", End::Normal, End::Normal, 1),
+    ("CCCC CCCCL L L", End::NoReply, End::PeerLeft, 0),
+    // the PPS, and then its MCF: the page is stored, and the caller never hears it
+    ("CCCC CCCCL CL", End::Normal, End::Normal, 1),
+    ("CCCC CCCCL CL CL", End::NoReply, End::Normal, 1),
+    // the same FCD in each burst, whose PPR comes
+    ("CCCC LCCCCC LCCCCC LCCCCC", End::Normal, End::Normal, 1),
+    (
+        "CCCC LCCCCC LCCCCC LCCCCC LCCCCC",
+        End::Unreadable,
+        End::PeerLeft,
+        0,
+    ),
+    // the DCN
+    ("CCCC CCCCCC L", End::Normal, End::NoAnswer, 1),
+];
 
-/// The caller ends so, and the answerer, whose peer left, stores no page.
-const fn broken(caller: End) -> Ending {
-    (true, Some(caller), Some(End::PeerLeft), 0)
-}
-
-// With no loss there come: DIS, DCS, the training check, CFR; FCD, three RCP, PPS, MCF; DCN.
 #[test]
 fn the_fewest_losses_that_break_a_call(rt: HostRuntime) -> Result<(), Fail> {
-    let alloc = rt.alloc();
-    // the DIS
-    assert_eq!(rt; ending_of(alloc, "L L")?, NORMAL);
-    assert_eq!(rt; ending_of(alloc, "L L L")?, broken(End::NoAnswer));
-    // the DCS, whose training check comes; and the CFR
-    assert_eq!(rt; ending_of(alloc, "C LC LC")?, NORMAL);
-    assert_eq!(rt; ending_of(alloc, "C LC LC LC")?, broken(End::NoReply));
-    assert_eq!(rt; ending_of(alloc, "C CCL CCL")?, NORMAL);
-    assert_eq!(rt; ending_of(alloc, "C CCL CCL CCL")?, broken(End::NoReply));
-    // the training check at each of six speeds, whose FTT comes
-    let trained = "C CSC CSC CSC CSC CSC";
-    assert_eq!(rt; ending_of(alloc, trained)?, NORMAL);
-    let failed = "C CSC CSC CSC CSC CSC CSC";
-    assert_eq!(rt; ending_of(alloc, failed)?, broken(End::Training));
-    Ok(())
-}
-
-// The same of what comes after the CFR.
-#[test]
-fn the_fewest_losses_of_a_page(rt: HostRuntime) -> Result<(), Fail> {
-    let alloc = rt.alloc();
-    // the PPS
-    assert_eq!(rt; ending_of(alloc, "CCCC CCCCL L")?, NORMAL);
-    assert_eq!(rt; ending_of(alloc, "CCCC CCCCL L L")?, broken(End::NoReply));
-    // the PPS, and then its MCF: the page is stored, and the caller never hears it
-    assert_eq!(rt; ending_of(alloc, "CCCC CCCCL CL")?, NORMAL);
-    let unheard = (true, Some(End::NoReply), Some(End::Normal), 1);
-    assert_eq!(rt; ending_of(alloc, "CCCC CCCCL CL CL")?, unheard);
-    // the same FCD in each burst, whose PPR comes
-    let asked = "CCCC LCCCCC LCCCCC LCCCCC";
-    assert_eq!(rt; ending_of(alloc, asked)?, NORMAL);
-    let too_often = "CCCC LCCCCC LCCCCC LCCCCC LCCCCC";
-    assert_eq!(rt; ending_of(alloc, too_often)?, broken(End::Unreadable));
-    // the DCN
-    let alone = (true, Some(End::Normal), Some(End::NoAnswer), 1);
-    assert_eq!(rt; ending_of(alloc, "CCCC CCCCCC L")?, alone);
+    for (letters, caller, answerer, pages) in CALLS {
+        let ending = (true, Some(caller), Some(answerer), pages);
+        assert_eq!(rt; ending_of(rt.alloc(), letters)?, ending, "{letters}");
+    }
     Ok(())
 }

@@ -34,32 +34,39 @@ fn send_frame(alloc: Global, octets: &mut Vec<u8>, head: &[u8], zeros: usize) ->
     Ok(())
 }
 
-#[test]
-fn a_whole_block_comes_in_one_feed(rt: HostRuntime) -> Result<(), Fail> {
-    let alloc = rt.alloc();
-    let mut dcs = Vec::new(alloc);
-    send_frame(alloc, &mut dcs, DCS, 0)?;
+/// The octets of a block of 256 frames, the first of them that of the row, and of its PPS.
+fn whole_block(alloc: Global) -> Result<Vec<u8>, Fail> {
     let mut block = Vec::new(alloc);
     send_frame(alloc, &mut block, FCD_ROW, 252)?;
     for number in 1..=255 {
         send_frame(alloc, &mut block, &[0xFF, 0x03, 0x06, number], 256)?;
     }
     send_frame(alloc, &mut block, PPS, 0)?;
-    let mut feeds = Vec::new(alloc);
-    feeds.push(Feed::Octets(&dcs))?;
-    feeds.push(Feed::Training(&[0; 2700]))?;
-    feeds.push(Feed::Octets(&block))?;
-    let caps = Caps {
-        receiver: true,
-        modems: Modems::V17,
-        fine: true,
-        widest: PageWidth::W2432,
-        t6: true,
-        ecm: true,
-    };
-    let answered = answer_stream(alloc, caps, &feeds)?;
-    assert_eq!(rt; answered.turns.len(), 260);
+    Ok(block)
+}
+
+const CAPS: Caps = Caps {
+    receiver: true,
+    modems: Modems::V17,
+    fine: true,
+    widest: PageWidth::W2432,
+    t6: true,
+    ecm: true,
+};
+
+#[test]
+fn a_whole_block_comes_in_one_feed(rt: HostRuntime) -> Result<(), Fail> {
+    let alloc = rt.alloc();
+    let mut dcs = Vec::new(alloc);
+    send_frame(alloc, &mut dcs, DCS, 0)?;
+    let block = whole_block(alloc)?;
+    let feeds = [
+        Feed::Octets(&dcs),
+        Feed::Training(&[0; 2700]),
+        Feed::Octets(&block),
+    ];
+    let answered = answer_stream(alloc, CAPS, &feeds)?;
+    assert_eq!(rt; (answered.turns.len(), answered.pages.len()), (260, 1));
     assert_eq!(rt; answered.turns.last().copied(), Some(Turn::Mcf));
-    assert_eq!(rt; answered.pages.len(), 1);
     Ok(())
 }

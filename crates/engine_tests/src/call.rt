@@ -58,11 +58,15 @@ fn fault_of(
 
 #[test]
 fn readers_and_writers_that_fail_are_fault_8(rt: HostRuntime) {
-    let alloc = rt.alloc();
-    assert_eq!(rt; fault_of(alloc, true, false, 100), Some(FAILED));
-    assert_eq!(rt; fault_of(alloc, false, true, 100), Some(FAILED));
-    assert_eq!(rt; fault_of(alloc, false, false, 51), Some(FAILED));
-    assert_eq!(rt; fault_of(alloc, false, false, 52), None);
+    for (script_fails, images_fail, room, fault) in [
+        (true, false, 100, Some(FAILED)),
+        (false, true, 100, Some(FAILED)),
+        (false, false, 51, Some(FAILED)),
+        (false, false, 52, None),
+    ] {
+        let found = fault_of(rt.alloc(), script_fails, images_fail, room);
+        assert_eq!(rt; found, fault, "{script_fails} {images_fail} {room}");
+    }
 }
 
 // Run with an allocation refused, it ends in pages, no more than one, or in the fault of memory.

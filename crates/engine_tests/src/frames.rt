@@ -2,7 +2,8 @@
 
 use crate::streams::{Narrow, OneByOne};
 use captures::frames_engine;
-use faults::{FAILED, NO_MEMORY};
+use faults::{FAILED, NO_MEMORY, ToolFault};
+use std::alloc::Global;
 use std::io;
 use std::io::Read;
 use std::test::Fail;
@@ -37,23 +38,26 @@ impl Read for Interrupted<'_> {
     }
 }
 
+/// The list of the frames that are read.
+fn listed<R: Read>(alloc: Global, octets: &mut R) -> Result<Vec<u8>, ToolFault> {
+    let mut text = Vec::with_capacity(alloc, 1000)?;
+    frames_engine(alloc, octets, &mut text, None)?;
+    Ok(text)
+}
+
 #[test]
 fn a_confirmation_is_listed(rt: HostRuntime) -> Result<(), Fail> {
     let alloc = rt.alloc();
-    let mut text = Vec::with_capacity(alloc, 1000)?;
     let mut octets = OneByOne {
         left: &FRAME,
         fails: false,
     };
-    frames_engine(alloc, &mut octets, &mut text, None)?;
-    assert_eq!(rt; text.as_slice(), LISTING);
-    let mut text = Vec::with_capacity(alloc, 1000)?;
+    assert_eq!(rt; listed(alloc, &mut octets)?.as_slice(), LISTING);
     let mut octets = Interrupted {
         left: &FRAME,
         ready: true,
     };
-    frames_engine(alloc, &mut octets, &mut text, None)?;
-    assert_eq!(rt; text.as_slice(), LISTING);
+    assert_eq!(rt; listed(alloc, &mut octets)?.as_slice(), LISTING);
     Ok(())
 }
 

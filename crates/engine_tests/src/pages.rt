@@ -4,9 +4,10 @@ use crate::streams::{Narrow, OneByOne};
 use faults::{FAILED, ToolFault};
 use page_code::Coding;
 use page_files::{
-    PageForm, Repair, code_engine, decode_engine, repair_engine, salvage_engine, show_engine,
+    PageForm, code_engine, decode_engine, repair_engine, salvage_engine, show_engine,
 };
 use run_tables::Order;
+use std::alloc::Global;
 use std::test::Fail;
 
 const IMAGE: [u8; 8] = [0x50, 0x34, 0x0A, 0x38, 0x20, 0x31, 0x0A, 0x30];
@@ -58,11 +59,10 @@ fn a_failing_writer_is_fault_8(rt: HostRuntime) {
     }
 }
 
-#[test]
-fn octets_come_and_go_one_by_one(rt: HostRuntime) -> Result<(), Fail> {
-    let alloc = rt.alloc();
+/// The code of an image.
+fn coded(alloc: Global, image: &[u8]) -> Result<Vec<u8>, ToolFault> {
     let mut image = OneByOne {
-        left: &IMAGE,
+        left: image,
         fails: false,
     };
     let mut code = Narrow {
@@ -76,9 +76,13 @@ fn octets_come_and_go_one_by_one(rt: HostRuntime) -> Result<(), Fail> {
         Coding::OneDim,
         Order::MsbFirst,
     )?;
-    assert_eq!(rt; code.taken.as_slice(), CODE.as_slice());
-    let mut coded = OneByOne {
-        left: &code.taken,
+    Ok(code.taken)
+}
+
+/// The text of a coded page.
+fn shown(alloc: Global, code: &[u8]) -> Result<Vec<u8>, ToolFault> {
+    let mut code = OneByOne {
+        left: code,
         fails: false,
     };
     let mut text = Narrow {
@@ -87,13 +91,20 @@ fn octets_come_and_go_one_by_one(rt: HostRuntime) -> Result<(), Fail> {
     };
     show_engine(
         alloc,
-        &mut coded,
+        &mut code,
         &mut text,
         Coding::OneDim,
         Order::MsbFirst,
         8,
     )?;
-    assert_eq!(rt; text.taken.as_slice(), TEXT);
+    Ok(text.taken)
+}
+
+#[test]
+fn octets_come_and_go_one_by_one(rt: HostRuntime) -> Result<(), Fail> {
+    let alloc = rt.alloc();
+    assert_eq!(rt; coded(alloc, &IMAGE)?.as_slice(), CODE.as_slice());
+    assert_eq!(rt; shown(alloc, &CODE)?.as_slice(), TEXT);
     Ok(())
 }
 
@@ -142,8 +153,8 @@ fn whole_rows_are_salvaged(rt: HostRuntime) -> Result<(), Fail> {
         },
     )?;
     assert_eq!(rt; image.as_slice(), b"P4\n8 2\n00".as_slice());
-    assert_eq!(rt; salvage.rows, 2);
-    assert_eq!(rt; salvage.end, Err(ToolFault::AtBit { no: 16, place: 13 }));
+    let end = Err(ToolFault::AtBit { no: 16, place: 13 });
+    assert_eq!(rt; (salvage.rows, salvage.end), (2, end));
     Ok(())
 }
 
@@ -161,17 +172,9 @@ fn rows_are_repaired(rt: HostRuntime) -> Result<(), Fail> {
     let mut lines = Vec::new(alloc);
     let repair = repair_engine(alloc, &mut reader, &mut image, &mut lines, FORM)?;
     assert_eq!(rt; image.as_slice(), b"P4\n8 2\n00".as_slice());
-    assert_eq!(rt;
-        lines.as_slice(),
-        b"row 2 repaired at bit 38\nrepaired rows: 1\n".as_slice()
-    );
-    assert_eq!(rt;
-        repair,
-        Repair {
-            rows: 2,
-            repaired: 1
-        }
-    );
+    let said = b"row 2 repaired at bit 38\nrepaired rows: 1\n";
+    assert_eq!(rt; lines.as_slice(), said.as_slice());
+    assert_eq!(rt; (repair.rows, repair.repaired), (2, 1));
     Ok(())
 }
 

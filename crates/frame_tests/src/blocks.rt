@@ -4,6 +4,7 @@ ghost use Rattle.std.specs.Prelude.{◌<◌};
 
 use partial_page::{BlockFault, BlockStore, Blocks, MAX_PAGE_OCTETS};
 use std::alloc::{AllocError, Global};
+use std::process::Abort;
 use std::test::Fail;
 
 /// A number of octets of one value.
@@ -51,15 +52,20 @@ fn are_frames(octets: &[u8], size: usize) -> bool
     true
 }
 
+/// A block of 256 frames of a size, each of octets of its number.
+fn full_block(alloc: Global, small: bool, size: usize) -> Result<BlockStore, BlockFault> {
+    let mut store = BlockStore::new(alloc, small);
+    for n in 0..=255u8 {
+        store.put(n, &octets(alloc, size, n)?)?;
+    }
+    Ok(store)
+}
+
 #[test]
 fn a_whole_block_of_full_frames_is_joined(rt: HostRuntime) -> Result<(), Fail> {
     let alloc = rt.alloc();
-    for small in [false, true] {
-        let size = if small { 64 } else { 256 };
-        let mut store = BlockStore::new(alloc, small);
-        for n in 0..=255u8 {
-            store.put(n, &octets(alloc, size, n)?)?;
-        }
+    for (small, size) in [(false, 256), (true, 64)] {
+        let store = full_block(alloc, small, size)?;
         assert!(rt; store.whole(255));
         let mut joined = Vec::new(alloc);
         store.append_joined(255, &mut joined)?;
@@ -83,24 +89,37 @@ fn a_refused_cut_says_no_memory(rt: HostRuntime) -> Result<(), Fail> {
     Ok(())
 }
 
-/// Run with each allocation refused in turn.
-#[test]
-fn a_refused_growth_changes_nothing(rt: HostRuntime) -> Result<(), Fail> {
-    let alloc = rt.alloc();
-    let mut store = BlockStore::new(alloc, true);
-    if let Err(refused) = store.put(0, &[1, 2]) {
-        assert_eq!(rt; refused, BlockFault::NoMemory);
-        assert_eq!(rt; store.missing(255), [0xFF; 32]);
-        assert!(rt; !store.ready());
-        store.put(0, &[1, 2])?;
-    }
-    assert_eq!(rt; store.put(0, &[3]).err(), None);
+/// Puts a frame's data, again after a refusal, which changes nothing.
+fn put_again(rt: &impl Abort, store: &mut BlockStore) -> Result<(), BlockFault> {
+    let Err(refused) = store.put(0, &[1, 2]) else {
+        return Ok(());
+    };
+    assert_eq!(rt; refused, BlockFault::NoMemory);
+    assert_eq!(rt; (store.missing(255), store.ready()), ([0xFF; 32], false));
+    store.put(0, &[1, 2])
+}
+
+/// The data of the first frame, again after a refusal, which changes nothing.
+fn joined_again(alloc: Global, rt: &impl Abort, store: &BlockStore) -> Result<Vec<u8>, AllocError> {
+    assert!(rt; store.whole(0));
     let mut joined = Vec::new(alloc);
     if store.append_joined(0, &mut joined).is_err() {
         assert!(rt; joined.is_empty());
         store.append_joined(0, &mut joined)?;
     }
-    assert_eq!(rt; joined.as_slice(), [3].as_slice());
+    Ok(joined)
+}
+
+/// Run with each allocation refused in turn.
+#[test]
+fn a_refused_growth_changes_nothing(rt: HostRuntime) -> Result<(), Fail> {
+    let mut store = BlockStore::new(rt.alloc(), true);
+    put_again(&rt, &mut store)?;
+    assert_eq!(rt; store.put(0, &[3]).err(), None);
+    assert_eq!(rt;
+        joined_again(rt.alloc(), &rt, &store)?.as_slice(),
+        [3].as_slice()
+    );
     store.clear();
     assert_eq!(rt; store.put(255, &[4]).err(), None);
     assert_eq!(rt; store.frame(255), Some([4].as_slice()));

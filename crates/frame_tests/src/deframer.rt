@@ -5,6 +5,7 @@ ghost use Rattle.std.specs.Prelude.{◌≤◌, length};
 use hdlc::{Counts, Deframer, write_frame};
 use run_tables::{BitWriter, Order};
 use std::alloc::{AllocError, Global};
+use std::process::Abort;
 use std::test::Fail;
 
 /// The content of a message confirmation (MCF) of the answering station, and its frame.
@@ -49,23 +50,22 @@ fn next_is(deframer: &mut Deframer, content: &[u8]) -> bool {
     }
 }
 
-/// The counts of a number of octets 00 and a few more bits between two flags.
-fn counted_zeros(alloc: Global, octets: u32, more: u32) -> Result<Counts, AllocError> {
-    let mut writer = BitWriter::new(alloc, Order::LsbFirst);
+/// Writes a flag.
+fn write_flag(writer: &mut BitWriter) -> Result<(), AllocError> {
     for digit in b"01111110" {
         writer.push(*digit == b'1')?;
     }
-    for _octet in 0..octets {
-        for _bit in 0..8 {
-            writer.push(false)?;
-        }
-    }
-    for _bit in 0..more {
+    Ok(())
+}
+
+/// The counts of a number of 0 bits between two flags.
+fn counted_zeros(alloc: Global, bits: u32) -> Result<Counts, AllocError> {
+    let mut writer = BitWriter::new(alloc, Order::LsbFirst);
+    write_flag(&mut writer)?;
+    for _bit in 0..bits {
         writer.push(false)?;
     }
-    for digit in b"01111110" {
-        writer.push(*digit == b'1')?;
-    }
+    write_flag(&mut writer)?;
     Ok(one_by_one(alloc, &writer.into_octets())?.counts())
 }
 
@@ -80,8 +80,12 @@ fn sizes(rt: HostRuntime) -> Result<(), Fail> {
         (302, Counts { damaged: 1, ..NONE }),
         (303, Counts { long: 1, ..NONE }),
     ] {
-        assert_eq!(rt; counted_zeros(alloc, octets, 0)?, counts, "{octets} octets");
-        assert_eq!(rt; counted_zeros(alloc, octets, 1)?, ragged, "{octets} octets");
+        let one_more = counted_zeros(alloc, 8 * octets + 1)?;
+        assert_eq!(rt;
+            (counted_zeros(alloc, 8 * octets)?, one_more),
+            (counts, ragged),
+            "{octets} octets"
+        );
     }
     Ok(())
 }
@@ -95,25 +99,36 @@ fn longest_content(rt: HostRuntime) -> Result<(), Fail> {
     Ok(())
 }
 
-/// A call that refuses changes nothing: the same call right after it gives the right answer.
-#[test]
-fn again_after_a_refusal(rt: HostRuntime) -> Result<(), Fail> {
-    let mut writer = BitWriter::new(rt.alloc(), Order::LsbFirst);
+/// The octets of two frames of a confirmation, each written again after a refusal.
+fn two_frames(alloc: Global) -> Result<Vec<u8>, AllocError> {
+    let mut writer = BitWriter::new(alloc, Order::LsbFirst);
     for _frame in 0..2 {
         if write_frame(&CONFIRMATION, &mut writer).is_err() {
             write_frame(&CONFIRMATION, &mut writer)?;
         }
     }
-    let octets = writer.into_octets();
-    let mut deframer = Deframer::new(rt.alloc());
-    if deframer.feed(&octets).is_err() {
-        assert_eq!(rt; deframer.counts(), NONE);
-        assert!(rt; deframer.next().is_none());
-        deframer.feed(&octets)?;
+    Ok(writer.into_octets())
+}
+
+/// Feeds the octets, again after a refusal, which changes nothing.
+fn feed_again(rt: &impl Abort, deframer: &mut Deframer, octets: &[u8]) -> Result<(), AllocError> {
+    if deframer.feed(octets).is_ok() {
+        return Ok(());
     }
+    assert_eq!(rt; deframer.counts(), NONE);
+    assert!(rt; deframer.next().is_none());
+    deframer.feed(octets)
+}
+
+/// A call that refuses changes nothing: the same call right after it gives the right answer.
+#[test]
+fn again_after_a_refusal(rt: HostRuntime) -> Result<(), Fail> {
+    let mut deframer = Deframer::new(rt.alloc());
+    feed_again(&rt, &mut deframer, &two_frames(rt.alloc())?)?;
     assert_eq!(rt; deframer.counts(), Counts { good: 2, ..NONE });
-    assert!(rt; next_is(&mut deframer, &CONFIRMATION));
-    assert!(rt; next_is(&mut deframer, &CONFIRMATION));
+    for frame in 0..2 {
+        assert!(rt; next_is(&mut deframer, &CONFIRMATION), "frame {frame}");
+    }
     assert!(rt; deframer.next().is_none());
     Ok(())
 }

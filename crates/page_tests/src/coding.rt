@@ -6,7 +6,8 @@ use page_code::{CodesPages, Coding, RowCoder};
 use raster::packed::Order;
 use raster::{Page, RasterFault, Row};
 use run_tables::{CodeFault, CodeFaultKind};
-use std::alloc::Global;
+use std::alloc::{AllocError, Global};
+use std::process::Abort;
 use std::test::Fail;
 
 const WIDTH: u32 = 2432;
@@ -32,47 +33,95 @@ fn runs_of(alloc: Global, page: &Page) -> Result<Vec<u32>, RasterFault> {
     Ok(runs)
 }
 
+/// The codes, in each order of bits.
+const CODES: [(Coding, Order); 4] = [
+    (Coding::OneDim, Order::LsbFirst),
+    (Coding::OneDim, Order::MsbFirst),
+    (Coding::T6, Order::LsbFirst),
+    (Coding::T6, Order::MsbFirst),
+];
+
+/// The octets of the page's code, or none where it has no rows.
+fn coded(alloc: Global, page: &Page, coding: Coding, order: Order) -> Result<Vec<u8>, AllocError> {
+    let mut octets = Vec::new(alloc);
+    if !page.rows().is_empty() {
+        coding.encode(alloc, page, order, &mut octets)?;
+    }
+    Ok(octets)
+}
+
+/// The own runs of the page's rows that the octets are the code of, whose lines are fine, and whose last bit is in the last octet.
+fn decoded_runs(
+    alloc: Global,
+    rt: &impl Abort,
+    coding: Coding,
+    order: Order,
+    octets: &[u8],
+) -> Result<Vec<u32>, Fail> {
+    let (read, used) = coding.decode(alloc, octets, order, WIDTH, true)?;
+    let seen = (read.rows().len(), read.fine(), used.div_ceil(8));
+    assert_eq!(rt; seen, (300, true, octets.len() as u128));
+    Ok(runs_of(alloc, &read)?)
+}
+
 #[test]
 fn a_wide_page_comes_back(rt: HostRuntime) -> Result<(), Fail> {
     let alloc = rt.alloc();
     let page = wide_page(alloc, 300)?;
     let runs = runs_of(alloc, &page)?;
-    assert!(rt; !page.rows().is_empty());
-    for coding in [Coding::OneDim, Coding::T6] {
-        for order in [Order::LsbFirst, Order::MsbFirst] {
-            let mut octets = Vec::new(alloc);
-            coding.encode(alloc, &page, order, &mut octets)?;
-            let (read, used) = coding.decode(alloc, &octets, order, WIDTH, true)?;
-            assert_eq!(rt; used.div_ceil(8), octets.len() as u128);
-            assert_eq!(rt; read.fine(), true);
-            assert_eq!(rt; read.rows().len(), 300);
-            assert_eq!(rt; runs_of(alloc, &read)?.as_slice(), runs.as_slice());
-        }
+    for (coding, order) in CODES {
+        let octets = coded(alloc, &page, coding, order)?;
+        assert_eq!(rt; decoded_runs(alloc, &rt, coding, order, &octets)?, runs);
     }
     Ok(())
 }
 
-// Row by row, with the octets moved out after each row.
+/// The octets of the page's code, row by row, with the octets moved out after each row.
+fn coded_by_rows(
+    alloc: Global,
+    rt: &impl Abort,
+    page: &Page,
+    coding: Coding,
+    order: Order,
+) -> Result<Vec<u8>, Fail> {
+    let mut coder = RowCoder::new(alloc, coding, order, WIDTH)?;
+    let mut octets = Vec::new(alloc);
+    for row in page.rows() {
+        coder.push_row(&row)?;
+        coder.move_octets(&mut octets)?;
+    }
+    assert!(rt; coder.rows() == 300);
+    coder.finish(&mut octets)?;
+    Ok(octets)
+}
+
 #[test]
 fn a_wide_page_is_coded_row_by_row(rt: HostRuntime) -> Result<(), Fail> {
     let alloc = rt.alloc();
     let page = wide_page(alloc, 300)?;
     let runs = runs_of(alloc, &page)?;
-    for coding in [Coding::OneDim, Coding::T6] {
-        for order in [Order::LsbFirst, Order::MsbFirst] {
-            let mut coder = RowCoder::new(alloc, coding, order, WIDTH)?;
-            let mut octets = Vec::new(alloc);
-            for row in page.rows() {
-                coder.push_row(row)?;
-                coder.move_octets(&mut octets)?;
-            }
-            assert_eq!(rt; coder.rows(), 300);
-            coder.finish(&mut octets)?;
-            let (read, _used) = coding.decode(alloc, &octets, order, WIDTH, true)?;
-            assert_eq!(rt; runs_of(alloc, &read)?.as_slice(), runs.as_slice());
-        }
+    for (coding, order) in CODES {
+        let octets = coded_by_rows(alloc, &rt, &page, coding, order)?;
+        assert_eq!(rt; decoded_runs(alloc, &rt, coding, order, &octets)?, runs);
     }
     Ok(())
+}
+
+/// The octets FF 01 80 and the page's code, which is written again where memory is refused: the octets are as they were.
+fn code_again(
+    alloc: Global,
+    rt: &impl Abort,
+    page: &Page,
+    coding: Coding,
+    order: Order,
+) -> Result<Vec<u8>, AllocError> {
+    assert!(rt; !page.rows().is_empty());
+    let mut octets = vec![in alloc; 0xFF, 0x01, 0x80]?;
+    if coding.encode(alloc, page, order, &mut octets).is_err() {
+        assert_eq!(rt; octets.as_slice(), [0xFF, 0x01, 0x80].as_slice());
+        coding.encode(alloc, page, order, &mut octets)?;
+    }
+    Ok(octets)
 }
 
 // Where memory is refused, the octets are as they were, and the page can be written again.
@@ -80,20 +129,10 @@ fn a_wide_page_is_coded_row_by_row(rt: HostRuntime) -> Result<(), Fail> {
 fn a_code_comes_after_other_octets(rt: HostRuntime) -> Result<(), Fail> {
     let alloc = rt.alloc();
     let page = wide_page(alloc, 60)?;
-    assert!(rt; !page.rows().is_empty());
-    for coding in [Coding::OneDim, Coding::T6] {
-        for order in [Order::LsbFirst, Order::MsbFirst] {
-            let mut code = Vec::new(alloc);
-            coding.encode(alloc, &page, order, &mut code)?;
-            let mut all = vec![in alloc; 0xFF, 0x01, 0x80]?;
-            all.extend_from_slice(&code)?;
-            let mut octets = vec![in alloc; 0xFF, 0x01, 0x80]?;
-            if coding.encode(alloc, &page, order, &mut octets).is_err() {
-                assert_eq!(rt; octets.as_slice(), [0xFF, 0x01, 0x80].as_slice());
-                coding.encode(alloc, &page, order, &mut octets)?;
-            }
-            assert_eq!(rt; octets, all);
-        }
+    for (coding, order) in CODES {
+        let mut all = vec![in alloc; 0xFF, 0x01, 0x80]?;
+        all.extend_from_slice(&coded(alloc, &page, coding, order)?)?;
+        assert_eq!(rt; code_again(alloc, &rt, &page, coding, order)?, all);
     }
     Ok(())
 }

@@ -15,6 +15,15 @@ fn runs_of(alloc: Global, page: &Page) -> Result<Vec<u32>, RasterFault> {
     Ok(runs)
 }
 
+/// The octets of the page's code, or none where it has no rows.
+fn written(alloc: Global, page: &Page) -> Result<Vec<u8>, AllocError> {
+    let mut written = Vec::new(alloc);
+    if !page.rows().is_empty() {
+        OneDim::encode(alloc, page, Order::MsbFirst, &mut written)?;
+    }
+    Ok(written)
+}
+
 // What netpbm's pbmtog3 writes of the rows 0F F0, FF 00 and 18 81, which ends with a seventh EOL.
 #[test]
 fn a_page_of_another_program(rt: HostRuntime) -> Result<(), Fail> {
@@ -24,17 +33,19 @@ fn a_page_of_another_program(rt: HostRuntime) -> Result<(), Fail> {
         0x08, 0x00, 0x80, 0x08, 0x00, 0x80, 0x08,
     ];
     let (page, used) = OneDim::decode(alloc, &octets, Order::MsbFirst, 16, false)?;
-    assert_eq!(rt; used, 161);
-    assert_eq!(rt; page.rows().len(), 3);
+    assert_eq!(rt; (page.rows().len(), used), (3, 161));
     assert_eq!(rt;
         runs_of(alloc, &page)?.as_slice(),
         [4, 8, 4, 0, 8, 8, 3, 2, 3, 1, 6, 1].as_slice()
     );
-    assert!(rt; !page.rows().is_empty());
-    let mut written = Vec::new(alloc);
-    OneDim::encode(alloc, &page, Order::MsbFirst, &mut written)?;
-    assert_eq!(rt; written.as_slice(), &octets[..21]);
+    assert_eq!(rt; written(alloc, &page)?.as_slice(), &octets[..21]);
     Ok(())
+}
+
+/// The number of rows of a page of a pixel a row, and the bits used, or the refusal.
+fn read(alloc: Global, octets: &[u8]) -> Result<(usize, u128), CodeFault> {
+    let (page, used) = OneDim::decode(alloc, octets, Order::MsbFirst, 1, false)?;
+    Ok((page.rows().len(), used))
 }
 
 #[test]
@@ -46,17 +57,10 @@ fn at_most_20000_rows_are_read(rt: HostRuntime) -> Result<(), Fail> {
     }
     let mut octets = bits.into_octets();
     assert_eq!(rt; octets.len(), 45003);
-    match OneDim::decode(alloc, &octets, Order::MsbFirst, 1, false) {
-        Ok(_) => assert!(rt; false, "20001 rows are read"),
-        Err(fault) => assert_eq!(rt;
-            fault,
-            CodeFault::new(360012, CodeFaultKind::TooManyCodedRows)
-        ),
-    }
+    let fault = CodeFault::new(360012, CodeFaultKind::TooManyCodedRows);
+    assert_eq!(rt; read(alloc, &octets), Err(fault));
     // 20,000 rows, and then eight 0 bits.
     octets.truncate(45001);
-    let (page, used) = OneDim::decode(alloc, &octets, Order::MsbFirst, 1, false)?;
-    assert_eq!(rt; used, 360000);
-    assert_eq!(rt; page.rows().len(), 20000);
+    assert_eq!(rt; read(alloc, &octets), Ok((20000, 360000)));
     Ok(())
 }

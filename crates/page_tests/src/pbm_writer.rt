@@ -2,7 +2,7 @@
 
 use crate::text::Failing;
 use raster::{Document, Page, RasterFault, Row, write_pbm};
-use std::alloc::Global;
+use std::alloc::{AllocError, Global};
 use std::test::Fail;
 
 /// A page of one row.
@@ -26,21 +26,27 @@ fn two_pages(alloc: Global) -> Result<Document, RasterFault> {
 
 const TWO_IMAGES: &[u8] = b"P4\n8 1\n0P4\n9 3\n\xFF\x80\x00\x80\x40\x00";
 
+/// The fault, or 0, where the document is written to a writer that takes this many octets, and those that it took.
+fn written(alloc: Global, document: &Document, room: usize) -> Result<(u8, Vec<u8>), AllocError> {
+    let mut writer = Failing {
+        taken: Vec::with_capacity(alloc, 21)?,
+        room,
+    };
+    let number = match write_pbm(document.pages(), &mut writer) {
+        Ok(()) => 0,
+        Err(fault) => fault.number(),
+    };
+    Ok((number, writer.taken))
+}
+
 #[test]
 fn a_writer_may_fail_at_each_octet(rt: HostRuntime) -> Result<(), Fail> {
     let alloc = rt.alloc();
     let document = two_pages(alloc)?;
     for room in 0..22 {
-        let mut writer = Failing {
-            taken: Vec::with_capacity(alloc, 21)?,
-            room,
-        };
-        let number = match write_pbm(document.pages(), &mut writer) {
-            Ok(()) => 0,
-            Err(fault) => fault.number(),
-        };
+        let (number, taken) = written(alloc, &document, room)?;
         assert_eq!(rt; number, if room == 21 { 0 } else { 8 }, "room for {room}");
-        assert_eq!(rt; writer.taken.as_slice(), &TWO_IMAGES[..room]);
+        assert_eq!(rt; taken.as_slice(), &TWO_IMAGES[..room]);
     }
     Ok(())
 }

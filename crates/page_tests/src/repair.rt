@@ -5,6 +5,7 @@ use raster::packed::Order;
 use raster::{Page, RasterFault, Row};
 use run_tables::{BitWriter, CodeFault, CodeFaultKind};
 use std::alloc::{AllocError, Global};
+use std::process::Abort;
 use std::test::Fail;
 
 const WIDTH: u32 = 2432;
@@ -47,44 +48,54 @@ const PART: &str = "0111";
 // 8 white pixels and 2 black ones, too many by 2.
 const LONG: &str = "1001111";
 
+/// Asserts that a page of 8 pixels a row, whose bits are these, is repaired to rows of these runs, with repairs at these places.
+fn gives(
+    alloc: Global,
+    rt: &impl Abort,
+    texts: &[&str],
+    runs: &[u32],
+    places: &[u128],
+) -> Result<(), Fail> {
+    let octets = octets_of(alloc, texts)?;
+    let given = OneDim::repair(alloc, &octets, Order::MsbFirst, 8, true)?;
+    assert!(rt; given.page.fine());
+    assert_eq!(rt; runs_of(alloc, &given.page)?.as_slice(), runs, "{texts:?}");
+    assert_eq!(rt; places_of(alloc, &given)?.as_slice(), places, "{texts:?}");
+    Ok(())
+}
+
+/// The bits of lines, the runs of the rows that they give, and the places of the repairs.
+const LINES: [(&[&str], &[u32], &[u128]); 6] = [
+    // no fault
+    (&[EOL, STRIPE, EOL, BLANK, EOL, EOL], &[2, 2, 4, 8], &[]),
+    // a row that ends too soon, and one that has too many pixels
+    (
+        &[EOL, STRIPE, EOL, PART, EOL, BLANK, EOL, LONG, EOL, EOL],
+        &[2, 2, 4, 2, 2, 4, 8, 8],
+        &[2, 38, 4, 72],
+    ),
+    // the first row, with no EOL before it
+    (&[PART, EOL, STRIPE, EOL, EOL], &[8, 2, 2, 4], &[1, 4]),
+    // an EOL with a wrong bit
+    (
+        &[EOL, BLANK, "000001000001", STRIPE, EOL, EOL],
+        &[8, 2, 2, 4],
+        &[],
+    ),
+    // bits between a row and the EOL
+    (
+        &[STRIPE, EOL, BLANK, "11", EOL, EOL],
+        &[2, 2, 4, 2, 2, 4],
+        &[2, 27],
+    ),
+    // the bits end in a row
+    (&[STRIPE, EOL, PART], &[2, 2, 4, 2, 2, 4], &[2, 26]),
+];
+
 #[test]
 fn lines_give_rows(rt: HostRuntime) -> Result<(), Fail> {
-    let alloc = rt.alloc();
-    for (texts, runs, places) in [
-        // no fault
-        (
-            [EOL, STRIPE, EOL, BLANK, EOL, EOL].as_slice(),
-            [2, 2, 4, 8].as_slice(),
-            [].as_slice(),
-        ),
-        // a row that ends too soon, and one that has too many pixels
-        (
-            &[EOL, STRIPE, EOL, PART, EOL, BLANK, EOL, LONG, EOL, EOL],
-            &[2, 2, 4, 2, 2, 4, 8, 8],
-            &[2, 38, 4, 72],
-        ),
-        // the first row, with no EOL before it
-        (&[PART, EOL, STRIPE, EOL, EOL], &[8, 2, 2, 4], &[1, 4]),
-        // an EOL with a wrong bit
-        (
-            &[EOL, BLANK, "000001000001", STRIPE, EOL, EOL],
-            &[8, 2, 2, 4],
-            &[],
-        ),
-        // bits between a row and the EOL
-        (
-            &[STRIPE, EOL, BLANK, "11", EOL, EOL],
-            &[2, 2, 4, 2, 2, 4],
-            &[2, 27],
-        ),
-        // the bits end in a row
-        (&[STRIPE, EOL, PART], &[2, 2, 4, 2, 2, 4], &[2, 26]),
-    ] {
-        let octets = octets_of(alloc, texts)?;
-        let given = OneDim::repair(alloc, &octets, Order::MsbFirst, 8, true)?;
-        assert_eq!(rt; given.page.fine(), true);
-        assert_eq!(rt; runs_of(alloc, &given.page)?.as_slice(), runs);
-        assert_eq!(rt; places_of(alloc, &given)?.as_slice(), places);
+    for (texts, runs, places) in LINES {
+        gives(rt.alloc(), &rt, texts, runs, places)?;
     }
     Ok(())
 }
@@ -99,18 +110,8 @@ fn torn_eols_have_twelve_bits(rt: HostRuntime) -> Result<(), Fail> {
         "000000000011",
         "0000010000001",
     ] {
-        let octets = octets_of(alloc, &[EOL, BLANK, torn, STRIPE, EOL, STRIPE, EOL, EOL])?;
-        let given = OneDim::repair(alloc, &octets, Order::MsbFirst, 8, true)?;
-        assert_eq!(rt;
-            runs_of(alloc, &given.page)?.as_slice(),
-            [8, 2, 2, 4, 2, 2, 4].as_slice(),
-            "{torn}"
-        );
-        assert_eq!(rt;
-            places_of(alloc, &given)?.as_slice(),
-            [].as_slice(),
-            "{torn}"
-        );
+        let texts = [EOL, BLANK, torn, STRIPE, EOL, STRIPE, EOL, EOL];
+        gives(alloc, &rt, &texts, &[8, 2, 2, 4, 2, 2, 4], &[])?;
     }
     for torn in [
         "000010001",
@@ -119,18 +120,8 @@ fn torn_eols_have_twelve_bits(rt: HostRuntime) -> Result<(), Fail> {
         "10000000001",
         "00000000011",
     ] {
-        let octets = octets_of(alloc, &[EOL, BLANK, torn, STRIPE, EOL, STRIPE, EOL, EOL])?;
-        let given = OneDim::repair(alloc, &octets, Order::MsbFirst, 8, true)?;
-        assert_eq!(rt;
-            runs_of(alloc, &given.page)?.as_slice(),
-            [8, 2, 2, 4].as_slice(),
-            "{torn}"
-        );
-        assert_eq!(rt;
-            places_of(alloc, &given)?.as_slice(),
-            [1, 17].as_slice(),
-            "{torn}"
-        );
+        let texts = [EOL, BLANK, torn, STRIPE, EOL, STRIPE, EOL, EOL];
+        gives(alloc, &rt, &texts, &[8, 2, 2, 4], &[1, 17])?;
     }
     Ok(())
 }
@@ -149,7 +140,7 @@ fn wide_page(alloc: Global, rows: u32) -> Result<Page, RasterFault> {
 /// Whether two pages have as many rows, of which two at most differ.
 fn is_like(one: &Page, other: &Page) -> bool {
     let mut differing = 0u32;
-    for (row, like) in one.rows().iter().zip(other.rows()) {
+    for (row, like) in one.rows().zip(other.rows()) {
         if row.octets() != like.octets() {
             differing = differing.saturating_add(1);
         }

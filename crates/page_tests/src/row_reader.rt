@@ -19,6 +19,14 @@ fn read_rows(reader: &mut RowReader) -> Result<usize, Fail> {
     Ok(reader.rows())
 }
 
+/// The bits used of a page that is read to its end, or 0.
+fn used(reader: &mut RowReader) -> Result<u128, Fail> {
+    match reader.next_row()? {
+        NextRow::End(used) => Ok(used),
+        _ => Ok(0),
+    }
+}
+
 /// The number of rows of a page of 1,728 pixels a row whose octets come in two pieces, and the bits used, or 0 where they are
 /// refused.
 fn in_two(alloc: Global, coding: Coding, octets: &[u8], cut: usize) -> Result<(usize, u128), Fail>
@@ -32,11 +40,7 @@ fn in_two(alloc: Global, coding: Coding, octets: &[u8], cut: usize) -> Result<(u
         return Ok((0, 0));
     }
     let rows = read_rows(&mut reader)?;
-    match reader.next_row()? {
-        NextRow::Row(_) => Ok((0, 0)),
-        NextRow::End(used) => Ok((rows, used)),
-        NextRow::Refused(_) => Ok((rows, 0)),
-    }
+    Ok((rows, used(&mut reader)?))
 }
 
 // A white row of 1,728 pixels.
@@ -56,6 +60,15 @@ fn a_page_is_read_row_by_row(rt: HostRuntime) -> Result<(), Fail> {
     Ok(())
 }
 
+/// How many of the octets are taken at first, at once, and after the rows that are read between; then those that are held.
+fn taken(reader: &mut RowReader, octets: &[u8]) -> Result<[usize; 5], Fail> {
+    let first = reader.push_octets(octets)?;
+    let second = reader.push_octets(octets)?;
+    let rows = read_rows(reader)?;
+    let third = reader.push_octets(octets)?;
+    Ok([first, second, rows, third, reader.held()])
+}
+
 // White rows of a bit each, in T.6: 65,536 octets hold 524,288 of them, of which a page has 20,000.
 #[test]
 fn no_more_octets_are_held_than_there_is_room_for(rt: HostRuntime) -> Result<(), Fail> {
@@ -63,10 +76,9 @@ fn no_more_octets_are_held_than_there_is_room_for(rt: HostRuntime) -> Result<(),
     let mut octets = Vec::new(alloc);
     octets.resize(70_000, 0xFFu8)?;
     let mut reader = RowReader::new(alloc, Coding::T6, Order::LsbFirst, 2432)?;
-    assert_eq!(rt; reader.push_octets(&octets)?, 65_536);
-    assert_eq!(rt; reader.push_octets(&octets)?, 0);
-    assert_eq!(rt; read_rows(&mut reader)?, 20_000);
-    assert_eq!(rt; reader.push_octets(&octets)?, 2_500);
-    assert_eq!(rt; reader.held(), 65_536);
+    assert_eq!(rt;
+        taken(&mut reader, &octets)?,
+        [65_536, 0, 20_000, 2_500, 65_536]
+    );
     Ok(())
 }

@@ -2,6 +2,7 @@
 
 use raster::Row;
 use std::alloc::{AllocError, Global};
+use std::process::Abort;
 use std::test::Fail;
 
 /// The row that has the changing positions of a row.
@@ -11,22 +12,28 @@ fn painted_again(alloc: Global, row: &Row) -> Result<Row, AllocError> {
     Row::from_changes(alloc, &places, row.width())
 }
 
+/// Asserts that the row of these runs comes back from its changing positions.
+fn changes_come_back_of(alloc: Global, rt: &impl Abort, runs: &[u32]) -> Result<(), Fail> {
+    let row = Row::from_runs(alloc, runs)?;
+    let again = painted_again(alloc, &row)?;
+    assert_eq!(rt; again.octets(), row.octets(), "{runs:?}");
+    Ok(())
+}
+
+const ROWS: [&[u32]; 6] = [
+    &[2432],
+    &[0, 2432],
+    &[0, 8],
+    &[13],
+    &[2431, 1],
+    &[0, 1, 62, 65, 1, 200, 63, 64, 1],
+];
+
 #[test]
 fn changes_come_back(rt: HostRuntime) -> Result<(), Fail> {
     let alloc = rt.alloc();
-    let ones = vec![in alloc; 1; 2432]?;
-    for runs in [
-        [2432].as_slice(),
-        [0, 2432].as_slice(),
-        [0, 8].as_slice(),
-        [13].as_slice(),
-        [2431, 1].as_slice(),
-        [0, 1, 62, 65, 1, 200, 63, 64, 1].as_slice(),
-        ones.as_slice(),
-    ] {
-        let row = Row::from_runs(alloc, runs)?;
-        let again = painted_again(alloc, &row)?;
-        assert_eq!(rt; again.octets(), row.octets());
+    for runs in ROWS {
+        changes_come_back_of(alloc, &rt, runs)?;
     }
-    Ok(())
+    changes_come_back_of(alloc, &rt, &[1; 2432])
 }

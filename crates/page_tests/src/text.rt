@@ -1,7 +1,7 @@
 //! Writers of text that fail.
 
 use raster::{Page, RasterFault, Row, write_text};
-use std::alloc::Global;
+use std::alloc::{AllocError, Global};
 use std::io;
 use std::io::Write;
 use std::test::Fail;
@@ -42,18 +42,24 @@ fn page_of_three(alloc: Global) -> Result<Page, RasterFault> {
 
 const THREE_ROWS: &str = "..##....\n########\n........\n";
 
+/// Whether the page is written to a writer that takes this many octets, and those that it took.
+fn written(alloc: Global, page: &Page, room: usize) -> Result<(bool, Vec<u8>), AllocError> {
+    let mut writer = Failing {
+        taken: Vec::with_capacity(alloc, 27)?,
+        room,
+    };
+    let is_ok = write_text(page, &mut writer).is_ok();
+    Ok((is_ok, writer.taken))
+}
+
 #[test]
 fn a_failing_writer_is_a_fault(rt: HostRuntime) -> Result<(), Fail> {
     let alloc = rt.alloc();
     let page = page_of_three(alloc)?;
     for room in 0..28 {
-        let mut writer = Failing {
-            taken: Vec::with_capacity(alloc, 27)?,
-            room,
-        };
-        let written = write_text(&page, &mut writer);
-        assert_eq!(rt; written.is_ok(), room == 27, "room for {room}");
-        assert_eq!(rt; writer.taken.as_slice(), &THREE_ROWS.as_bytes()[..room]);
+        let (is_ok, taken) = written(alloc, &page, room)?;
+        assert_eq!(rt; is_ok, room == 27, "room for {room}");
+        assert_eq!(rt; taken.as_slice(), &THREE_ROWS.as_bytes()[..room]);
     }
     Ok(())
 }

@@ -1,9 +1,8 @@
 //! What a caller does about what it hears: its turns, and the octets of each DCS and training check.
 
-use crate::call::{coding_of, modems_of};
+use crate::call::{document_of, head_of, show_octets};
 use crate::first_piece;
-use raster::read_pbm;
-use signals::{Side, Signal, Wish, read, write};
+use signals::{Side, Signal, read, write};
 use stations::{Caller, CallerIn, Item, Turn};
 use std::alloc::AllocError;
 use std::io;
@@ -34,8 +33,7 @@ fn show_turn(rt: &HostRuntime, caller: &Caller, turn: &Turn) -> io::Result<()> {
         return Ok(());
     };
     let content = write(&signal, Side::Caller, last);
-    let digits = hex::encode(rt.alloc(), content.as_slice())?;
-    println!(rt; "{}", digits)?;
+    show_octets(rt, content.as_slice())?;
     let Some(Item::Training(count)) = items.next() else {
         return Ok(());
     };
@@ -45,34 +43,33 @@ fn show_turn(rt: &HostRuntime, caller: &Caller, turn: &Turn) -> io::Result<()> {
 /// Passes a caller what octets say: a head as that of a call, with the number of octets of what is passed in place of the number of
 /// events; then for each input a kind, the number of its octets in two, and these; then the images. Prints each turn, and the end.
 pub fn show_caller(rt: &HostRuntime, octets: &[u8]) -> io::Result<()> {
-    if octets.len() < 6 {
+    let Some((head, count, rest)) = head_of(octets) else {
         return println!(rt; "no call");
-    }
-    let wish = Wish {
-        modems: modems_of(octets[0]),
-        coding: coding_of(octets[1]),
-        small: octets[2] == 1,
     };
-    let fine = octets[3] == 1;
-    let count = usize::from(u16::from_be_bytes([octets[4], octets[5]]));
-    let (_head, rest) = octets.split_at(6);
+    let count = usize::from(count);
     if rest.len() < count {
         return println!(rt; "nothing is heard");
     }
-    let (mut heard, mut images) = rest.split_at(count);
-    let Ok(document) = read_pbm(rt.alloc(), &mut images, fine) else {
+    let (heard, images) = rest.split_at(count);
+    let Some(document) = document_of(rt.alloc(), head, images) else {
         return println!(rt; "no images");
     };
-    let Ok(mut caller) = Caller::new(rt.alloc(), document, wish) else {
-        return println!(rt; "no such call");
-    };
-    for _ in 0..count {
-        let Some((kind, content, after)) = first_piece(heard) else {
+    match Caller::new(rt.alloc(), document, head.wish) {
+        Ok(mut caller) => show_turns(rt, &mut caller, heard),
+        Err(_) => println!(rt; "no such call"),
+    }
+}
+
+/// Passes a caller what octets say, piece by piece. Prints each turn, and the end.
+fn show_turns(rt: &HostRuntime, caller: &mut Caller, heard: &[u8]) -> io::Result<()> {
+    let mut left = heard;
+    for _ in 0..heard.len() {
+        let Some((kind, content, after)) = first_piece(left) else {
             break;
         };
-        let turn = answer(&mut caller, kind, content)?;
-        show_turn(rt, &caller, &turn)?;
-        heard = after;
+        let turn = answer(caller, kind, content)?;
+        show_turn(rt, caller, &turn)?;
+        left = after;
     }
     println!(rt; "end {:?}", caller.end())
 }

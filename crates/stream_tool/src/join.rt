@@ -1,11 +1,10 @@
 //! Two terminals that hear each other's octets alone, over a line on which the events of a call happen.
 
-use crate::call::{coding_of, event_of, modems_of};
+use crate::call::{document_of, event_of, head_of};
 use crate::framing::{Item, add_burst};
 use crate::{CAPS, show_page};
 use line_sim::Event;
-use raster::read_pbm;
-use signals::{Caps, Wish};
+use signals::{Caps, Modems};
 use stations::{Answerer, Caller, Turn, Wait};
 use std::alloc::{AllocError, Global};
 use std::io;
@@ -63,6 +62,29 @@ fn answer<S: Station>(
 }
 
 impl Joined {
+    /// A caller and an answerer with these modems, with nothing under way; octets come in pieces of a size.
+    fn new(alloc: Global, caller: Caller, modems: Modems, piece: usize) -> Joined {
+        let (answerer, first) = Answerer::new(alloc, Caps { modems, ..CAPS });
+        Joined {
+            alloc,
+            caller: Terminal::new(alloc, caller, Turn::Silent),
+            answerer: Terminal::new(alloc, answerer, first),
+            to_caller: Vec::new(alloc),
+            to_answerer: Vec::new(alloc),
+            piece,
+        }
+    }
+
+    /// The answerer's first turn, and then the events of these numbers.
+    fn run(&mut self, events: &[u8]) -> Result<(), AllocError> {
+        self.answerer_answers()?;
+        for number in events {
+            let (event, _) = event_of(*number);
+            self.happens(event)?;
+        }
+        Ok(())
+    }
+
     /// The caller's turn is on its way.
     fn caller_answers(&mut self) -> Result<(), AllocError> {
         answer(
@@ -148,47 +170,34 @@ impl Joined {
 /// Runs the call that octets say, as those of `show_call` with the size of the pieces in two octets after the first four, and the number of
 /// events in four. Prints both ends, how many pages the caller counts as confirmed, and the pages.
 pub fn show_joined(rt: &HostRuntime, octets: &[u8]) -> io::Result<()> {
-    if octets.len() < 10 {
+    let Some((head, piece, rest)) = head_of(octets) else {
         return println!(rt; "no call");
-    }
-    let wish = Wish {
-        modems: modems_of(octets[0]),
-        coding: coding_of(octets[1]),
-        small: octets[2] == 1,
     };
-    let fine = octets[3] == 1;
-    let piece = usize::from(u16::from_be_bytes([octets[4], octets[5]]));
-    let count = u32::from_be_bytes([octets[6], octets[7], octets[8], octets[9]]) as usize;
-    let (_head, rest) = octets.split_at(10);
+    let Some((count, rest)) = count_of(rest) else {
+        return println!(rt; "no call");
+    };
     if rest.len() < count {
         return println!(rt; "no events");
     }
-    let (events, mut images) = rest.split_at(count);
-    let Ok(document) = read_pbm(rt.alloc(), &mut images, fine) else {
+    let (events, images) = rest.split_at(count);
+    let Some(document) = document_of(rt.alloc(), head, images) else {
         return println!(rt; "no images");
     };
-    let Ok(caller) = Caller::new(rt.alloc(), document, wish) else {
+    let Ok(caller) = Caller::new(rt.alloc(), document, head.wish) else {
         return println!(rt; "no such call");
     };
-    let caps = Caps {
-        modems: wish.modems,
-        ..CAPS
-    };
-    let (answerer, first) = Answerer::new(rt.alloc(), caps);
-    let mut joined = Joined {
-        alloc: rt.alloc(),
-        caller: Terminal::new(rt.alloc(), caller, Turn::Silent),
-        answerer: Terminal::new(rt.alloc(), answerer, first),
-        to_caller: Vec::new(rt.alloc()),
-        to_answerer: Vec::new(rt.alloc()),
-        piece,
-    };
-    joined.answerer_answers()?;
-    for number in events {
-        let (event, _) = event_of(*number);
-        joined.happens(event)?;
-    }
+    let mut joined = Joined::new(rt.alloc(), caller, head.wish.modems, usize::from(piece));
+    joined.run(events)?;
     show_ends(rt, &joined)
+}
+
+/// The number in the first four octets, the high one first, and the octets after them.
+fn count_of(octets: &[u8]) -> Option<(usize, &[u8])> {
+    if octets.len() < 4 {
+        return None;
+    }
+    let count = u32::from_be_bytes([octets[0], octets[1], octets[2], octets[3]]);
+    Some((count as usize, &octets[4..]))
 }
 
 /// Prints both ends, and the pages.

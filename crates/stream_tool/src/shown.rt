@@ -4,6 +4,7 @@ ghost use Rattle.signals.specs.Signals.{plain};
 ghost use Rattle.signals.specs.Writing.{IsWritable};
 ghost use Rattle.std.specs.Prelude.{◌↔◌, IsTrue};
 
+use crate::call::show_octets;
 use crate::show_page;
 use raster::Page;
 use signals::{Side, Signal, write};
@@ -42,8 +43,7 @@ fn show_item(rt: &HostRuntime, side: Side, item: Item<'_>) -> io::Result<()> {
         return println!(rt; "no content");
     }
     let content = write(&signal, side, last);
-    let digits = hex::encode(rt.alloc(), content.as_slice())?;
-    println!(rt; "{}", digits)
+    show_octets(rt, content.as_slice())
 }
 
 /// Prints bursts: the carrier of each, whether it is the turn's last one, and its items.
@@ -65,28 +65,36 @@ fn show_wait(rt: &HostRuntime, wait: Option<Wait>) -> io::Result<()> {
     }
 }
 
+/// Prints both waits of a station.
+fn show_waits(rt: &HostRuntime, wait: Option<Wait>, longer: Option<Wait>) -> io::Result<()> {
+    show_wait(rt, wait)?;
+    show_wait(rt, longer)
+}
+
 /// Prints a caller after a turn.
 pub fn show_caller(rt: &HostRuntime, station: &Caller, turn: &Turn) -> io::Result<()> {
     println!(rt; "turn {turn:?}")?;
     show_bursts(rt, Side::Caller, station.bursts(turn))?;
-    show_wait(rt, station.waits())?;
-    show_wait(rt, station.longer_wait())?;
-    println!(rt; "listens {:?}", station.listens())?;
-    println!(rt; "params {:?}", station.params())?;
-    println!(rt; "peer {:?}", station.peer())?;
-    println!(rt; "{:?}", station.progress())
+    show_waits(rt, station.waits(), station.longer_wait())?;
+    println!(rt;
+        "listens {:?}\nparams {:?}",
+        station.listens(),
+        station.params()
+    )?;
+    println!(rt; "peer {:?}\n{:?}", station.peer(), station.progress())
 }
 
 /// Prints an answerer after a turn.
 pub fn show_answerer(rt: &HostRuntime, station: &Answerer, turn: &Turn) -> io::Result<()> {
     println!(rt; "turn {turn:?}")?;
     show_bursts(rt, Side::Answerer, station.bursts(turn))?;
-    show_wait(rt, station.waits())?;
-    show_wait(rt, station.longer_wait())?;
-    println!(rt; "listens {:?}", station.listens())?;
-    println!(rt; "params {:?}", station.params())?;
-    println!(rt; "peer {:?}", station.peer())?;
-    println!(rt; "{:?}", station.progress())?;
+    show_waits(rt, station.waits(), station.longer_wait())?;
+    println!(rt;
+        "listens {:?}\nparams {:?}",
+        station.listens(),
+        station.params()
+    )?;
+    println!(rt; "peer {:?}\n{:?}", station.peer(), station.progress())?;
     show_bad_page(rt, station)
 }
 

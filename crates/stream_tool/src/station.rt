@@ -1,11 +1,11 @@
 //! What a program can ask of a station after each input: its turn in bursts, the waits that run, what it listens for, its parameters,
 //! how far it is, its pages and its end.
 
-use crate::call::{coding_of, modems_of};
+use crate::call::{document_of, head_of};
 use crate::flood::LIMITS;
 use crate::shown::{show_answerer, show_caller, show_pages};
 use crate::{CAPS, first_piece};
-use raster::{Document, read_pbm};
+use raster::Document;
 use signals::{PageWidth, Signal, Wish, read, why_not};
 use stations::{
     Answerer, AnswererIn, Caller, CallerIn, LimitedAnswerer, Limits, StoppableAnswerer,
@@ -138,30 +138,54 @@ impl Tried {
         }
     }
 
+    /// Hears the first piece, and is printed after it.
+    fn hear_piece(&mut self, rt: &HostRuntime, kind: u8, octets: &[u8]) -> io::Result<()> {
+        let turn = match kind {
+            b'S' => self.stop(),
+            _ => self.step(kind, octets)?,
+        };
+        match kind {
+            b'L' => self.lost(),
+            b'K' => self.take(rt)?,
+            _ => {}
+        }
+        self.show(rt, &turn)
+    }
+
+    /// Hears what octets say, piece by piece.
+    fn hear(&mut self, rt: &HostRuntime, heard: &[u8]) -> io::Result<()> {
+        let mut left = heard;
+        for _ in 0..heard.len() {
+            let Some((kind, octets, after)) = first_piece(left) else {
+                break;
+            };
+            self.hear_piece(rt, kind, octets)?;
+            left = after;
+        }
+        Ok(())
+    }
+
+    /// Prints the station's end.
+    fn show_end(&self, rt: &HostRuntime) -> io::Result<()> {
+        match self {
+            Tried::Caller(station) => println!(rt; "end {:?}", station.end()),
+            Tried::StoppableCaller(station) => println!(rt; "end {:?}", station.end()),
+            Tried::Answerer(station) => println!(rt; "end {:?}", station.end()),
+            Tried::StoppableAnswerer(station) => println!(rt; "end {:?}", station.end()),
+            Tried::Limited(station) => println!(rt; "end {:?}", station.end()),
+        }
+    }
+
     /// Prints what the station says of itself after a turn, and its end.
     fn show(&self, rt: &HostRuntime, turn: &Turn) -> io::Result<()> {
         match self {
-            Tried::Caller(station) => {
-                show_caller(rt, station, turn)?;
-                println!(rt; "end {:?}", station.end())
-            }
-            Tried::StoppableCaller(station) => {
-                show_caller(rt, station.station(), turn)?;
-                println!(rt; "end {:?}", station.end())
-            }
-            Tried::Answerer(station) => {
-                show_answerer(rt, station, turn)?;
-                println!(rt; "end {:?}", station.end())
-            }
-            Tried::StoppableAnswerer(station) => {
-                show_answerer(rt, station.station(), turn)?;
-                println!(rt; "end {:?}", station.end())
-            }
-            Tried::Limited(station) => {
-                show_answerer(rt, station.station(), turn)?;
-                println!(rt; "end {:?}", station.end())
-            }
+            Tried::Caller(station) => show_caller(rt, station, turn)?,
+            Tried::StoppableCaller(station) => show_caller(rt, station.station(), turn)?,
+            Tried::Answerer(station) => show_answerer(rt, station, turn)?,
+            Tried::StoppableAnswerer(station) => show_answerer(rt, station.station(), turn)?,
+            Tried::Limited(station) => show_answerer(rt, station.station(), turn)?,
         }
+        self.show_end(rt)
     }
 
     /// Gives the station up: prints how many pages its document has, and how many of them are confirmed; or the pages.
@@ -177,27 +201,11 @@ impl Tried {
     }
 }
 
-/// The station hears what octets say, piece by piece, and is printed after each piece.
-fn show_station(rt: &HostRuntime, station: Tried, heard: &[u8]) -> io::Result<()> {
+/// The station hears what octets say, piece by piece, and is printed after its first turn and after each piece.
+fn show_station(rt: &HostRuntime, station: Tried, first: &Turn, heard: &[u8]) -> io::Result<()> {
     let mut station = station;
-    let mut left = heard;
-    for _ in 0..heard.len() {
-        let Some((kind, octets, after)) = first_piece(left) else {
-            break;
-        };
-        let turn = match kind {
-            b'S' => station.stop(),
-            _ => station.step(kind, octets)?,
-        };
-        if kind == b'L' {
-            station.lost();
-        }
-        if kind == b'K' {
-            station.take(rt)?;
-        }
-        station.show(rt, &turn)?;
-        left = after;
-    }
+    station.show(rt, first)?;
+    station.hear(rt, heard)?;
     station.give_up(rt)
 }
 
@@ -219,36 +227,38 @@ fn show_reason(rt: &HostRuntime, document: &Document, wish: &Wish, dis: &[u8]) -
 /// the number of its octets in two and these; and the images of a caller. With `w` the octets are a DIS, and the reason is printed for
 /// which the caller can't send to its station.
 pub fn show_tried(rt: &HostRuntime, octets: &[u8]) -> io::Result<()> {
-    if octets.len() < 7 {
+    let Some((letter, said)) = octets.split_first() else {
         return println!(rt; "no station");
-    }
-    let letter = octets[0];
-    let wish = Wish {
-        modems: modems_of(octets[1]),
-        coding: coding_of(octets[2]),
-        small: octets[3] == 1,
     };
-    let fine = octets[4] == 1;
-    let count = usize::from(u16::from_be_bytes([octets[5], octets[6]]));
-    let (_head, rest) = octets.split_at(7);
+    let Some((head, count, rest)) = head_of(said) else {
+        return println!(rt; "no station");
+    };
+    let count = usize::from(count);
     if rest.len() < count {
         return println!(rt; "nothing is heard");
     }
-    let (heard, mut images) = rest.split_at(count);
+    let (heard, images) = rest.split_at(count);
     if images.is_empty() {
-        let (station, turn) = answerer_of(rt.alloc(), letter);
-        station.show(rt, &turn)?;
-        return show_station(rt, station, heard);
+        let (station, turn) = answerer_of(rt.alloc(), *letter);
+        return show_station(rt, station, &turn, heard);
     }
-    let Ok(document) = read_pbm(rt.alloc(), &mut images, fine) else {
-        return println!(rt; "no images");
-    };
-    if letter == b'w' {
-        return show_reason(rt, &document, &wish, heard);
+    match document_of(rt.alloc(), head, images) {
+        Some(document) if *letter == b'w' => show_reason(rt, &document, &head.wish, heard),
+        Some(document) => show_calling(rt, *letter, document, head.wish, heard),
+        None => println!(rt; "no images"),
     }
-    let Some(station) = caller_of(rt.alloc(), letter, document, wish) else {
-        return println!(rt; "no such call");
-    };
-    station.show(rt, &Turn::Silent)?;
-    show_station(rt, station, heard)
+}
+
+/// A caller of this letter hears what octets say, and is printed after each piece.
+fn show_calling(
+    rt: &HostRuntime,
+    letter: u8,
+    document: Document,
+    wish: Wish,
+    heard: &[u8],
+) -> io::Result<()> {
+    match caller_of(rt.alloc(), letter, document, wish) {
+        Some(station) => show_station(rt, station, &Turn::Silent, heard),
+        None => println!(rt; "no such call"),
+    }
 }
