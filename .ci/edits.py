@@ -16,27 +16,36 @@ from pathlib import Path
 
 TOP = Path(__file__).resolve().parent.parent
 PARTS = ["src", "specs", "proofs"]
+RATTLE = shutil.which("rattle", path=os.environ.get("PATH", "") + ":/opt/rattle/bin")
 
 
-def faults_of(edit, crate):
-    """What is wrong with an edit."""
-    file, old, texts = None, None, {}
+def pairs_of(edit):
+    """The file, the old text and the new one of each pair of an edit; a new text without an old one has None for it."""
+    file, old, found = None, None, []
     for line in edit.read_text().split("\n"):
         word, _, text = line.partition(": ")
         if word == "file":
             file = text.strip()
-            path = crate / file
-            if not path.is_file():
-                return [f"no file {file}"]
-            texts.setdefault(file, path.read_text())
         elif word == "old":
             old = text
         elif line.startswith("new:"):
-            if file is None or old is None:
-                return ["a new text without a file or an old one"]
-            if texts[file].count(old) != 1:
-                return [f"stands {texts[file].count(old)} times in {file}: {old}"]
-            texts[file] = texts[file].replace(old, line.removeprefix("new:").removeprefix(" "))
+            found.append((file, old, line.removeprefix("new:").removeprefix(" ")))
+            old = None
+    return found
+
+
+def faults_of(edit, crate):
+    """What is wrong with an edit."""
+    texts = {}
+    for file, old, new in pairs_of(edit):
+        if file is None or old is None:
+            return ["a new text without a file or an old one"]
+        if not (crate / file).is_file():
+            return [f"no file {file}"]
+        text = texts.setdefault(file, (crate / file).read_text())
+        if text.count(old) != 1:
+            return [f"stands {text.count(old)} times in {file}: {old}"]
+        texts[file] = text.replace(old, new)
     return [] if texts else ["it changes nothing"]
 
 
@@ -71,7 +80,7 @@ def main():
     return 1 if wrong else 0
 
 
-RATTLE = shutil.which("rattle", path=os.environ.get("PATH", "") + ":/opt/rattle/bin")
-if RATTLE is None:
-    sys.exit("edits: the kit's rattle is missing: put its bin on your PATH")
-sys.exit(main())
+if __name__ == "__main__":
+    if RATTLE is None:
+        sys.exit("edits: the kit's rattle is missing: put its bin on your PATH")
+    sys.exit(main())

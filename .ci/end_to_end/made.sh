@@ -38,7 +38,7 @@ sys.stdout.buffer.write(b'P4 1728 40 ' + b''.join(rows))" > "$work/drawn.pbm"
     made_by gs "$work/faxg32d" "$gs -sDEVICE=faxg32d '$work/drawn.ps'" && is_said mh "(MR), $msb, width 1728: not read" "1 10" 1 "$work/faxg32d"
     made_by gs "$work/faxg4" "$gs -sDEVICE=faxg4 '$work/drawn.ps'" && is_said mmr "width 1728, 82 rows, without EOFB" "1 17" 0 "$work/faxg4"
     made_by convert-im6.q16 "$work/fax" "convert-im6.q16 '$work/drawn.pbm' fax:-" && is_said mh "T.4, $msb, width 1728, 40 rows" "0 " 0 "$work/fax"
-    if made_by pamtotiff "$work/drawn.tif" "pamtotiff -g4 '$work/drawn.pbm'" && made_by tiffcp "$work/none" "tiffcp -c g3 '$work/drawn.tif' '$work/other.tif'"; then
+    if made_by pamtotiff "$work/drawn.tif" "pamtotiff -g4 '$work/drawn.pbm'" && made_by tiffcp "$work/tiffcp" "tiffcp -c g3 '$work/drawn.tif' '$work/other.tif'"; then
         identifies "TIFF, by its first octets\n" "$work/other.tif"
     fi
 }

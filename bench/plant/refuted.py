@@ -153,29 +153,34 @@ def refused(top, row, right):
     return proved, "\n      ".join(line[:400] for line in said[:4])
 
 
+def side_by_side(rows, judged):
+    """Each row with what is judged of it in a folder of its own, in the rows' order; JOBS of them at once."""
+    places = queue.Queue()
+    with tempfile.TemporaryDirectory(prefix="planted-") as top, concurrent.futures.ThreadPoolExecutor(JOBS) as pool:
+        for number in range(JOBS):
+            places.put(f"{top}/{number}")
+
+        def judged_there(row):
+            mine = places.get()
+            try:
+                return row, judged(mine, row)
+            finally:
+                places.put(mine)
+
+        yield from pool.map(judged_there, rows)
+
+
 def main():
     words = sys.argv[1:]
     right = "--right" in words
     word = next((given for given in words if given != "--right"), "")
     rows = [row for name in sorted(os.listdir(TABLES)) for row in table(f"{TABLES}/{name}")]
     rows = [row for row in rows if word in row["name"] or word == row["crate"]]
-    places, count = queue.Queue(), 0
-    with tempfile.TemporaryDirectory(prefix="refuted-") as top:
-        for number in range(JOBS):
-            places.put(f"{top}/{number}")
-
-        def judged(row):
-            mine = places.get()
-            try:
-                return row, refused(mine, row, right)
-            finally:
-                places.put(mine)
-
-        with concurrent.futures.ThreadPoolExecutor(JOBS) as pool:
-            for row, (proved, said) in pool.map(judged, rows):
-                count += proved
-                verdict = f"refused by {row['law']}" if proved else f"not refused\n      {said}"
-                print(f"{row['crate']}: {row['name']}: {verdict}", flush=True)
+    count = 0
+    for row, (proved, said) in side_by_side(rows, lambda mine, row: refused(mine, row, right)):
+        count += proved
+        verdict = f"refused by {row['law']}" if proved else f"not refused\n      {said}"
+        print(f"{row['crate']}: {row['name']}: {verdict}", flush=True)
     print(f"{count} of {len(rows)} refused")
     return 0 if rows and count == (0 if right else len(rows)) else 1
 

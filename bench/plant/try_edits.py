@@ -9,36 +9,20 @@ crate is checked where no function is changed, or where that one is still proved
 what was refused, whether that is a goal that became false (must_fail_reasons.py says how that is seen), and a count. JOBS in the
 environment is how many checks run side by side, 4 where it isn't set. Ends with status 1 if an edit is still proved, or is refused for
 another reason alone."""
-import concurrent.futures
-import os
-import queue
 import re
 import subprocess
 import sys
-import tempfile
 from pathlib import Path
 
-from must_fail_reasons import shows_a_goal
-from refuted import JOBS, QUEUE, place
-
 TOP = Path(__file__).resolve().parent.parent.parent
+sys.path.append(str(TOP / ".ci"))
+from edits import faults_of, pairs_of
+from must_fail_reasons import shows_a_goal
+from refuted import QUEUE, place, side_by_side
+
 EDITS = TOP / "bench" / "plant" / "edits"
 # How a function begins in a formatted source.
 FUNCTION = re.compile(r'(?:    )?(?:pub(?:\(\w+\))? )?(?:const |extern "C" |unsafe )*fn (\w+)')
-
-
-def pairs_of(edit):
-    """The file, the old text and the new one of each pair of an edit."""
-    file, old, found = None, None, []
-    for line in edit.read_text().split("\n"):
-        word, _, text = line.partition(": ")
-        if word == "file":
-            file = text.strip()
-        elif word == "old":
-            old = text
-        elif line.startswith("new:"):
-            found.append((file, old, line.removeprefix("new:").removeprefix(" ")))
-    return found
 
 
 def function_at(text, at, module):
@@ -85,6 +69,9 @@ def said(folder, *words):
 
 def tried(top, crate, edit):
     """Whether an edit is refused as it should be, and what is said of it."""
+    wrong = faults_of(edit, TOP / "crates" / crate)
+    if wrong:
+        return False, f"can't be made: {wrong[0]}"
     folder, pairs = Path(place(top, crate)), pairs_of(edit)
     name = changed_function(crate, pairs)
     for file, old, new in pairs:
@@ -108,22 +95,10 @@ def main(words):
         print(f"bench/plant/edits has no edits of {lacking[0]}", file=sys.stderr)
         return 2
     edits = [(crate, edit) for crate, _slash, word in wanted for edit in sorted((EDITS / crate).glob("*.edit")) if word in edit.stem]
-    places, count = queue.Queue(), 0
-    with tempfile.TemporaryDirectory(prefix="edits-") as top:
-        for number in range(JOBS):
-            places.put(f"{top}/{number}")
-
-        def judged(told):
-            mine = places.get()
-            try:
-                return told, tried(mine, *told)
-            finally:
-                places.put(mine)
-
-        with concurrent.futures.ThreadPoolExecutor(JOBS) as pool:
-            for (crate, edit), (is_refused, text) in pool.map(judged, edits):
-                count += is_refused
-                print(f"{crate}/{edit.stem}: {text}", flush=True)
+    count = 0
+    for (crate, edit), (is_refused, text) in side_by_side(edits, lambda mine, told: tried(mine, *told)):
+        count += is_refused
+        print(f"{crate}/{edit.stem}: {text}", flush=True)
     print(f"{count} of {len(edits)} refused by a goal that became false")
     return 0 if edits and count == len(edits) else 1
 
