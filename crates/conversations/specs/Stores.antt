@@ -3,7 +3,7 @@ use Rattle.std.specs.Prelude.{ℕ, ◌≤◌, ◌≡◌, ◌++◌, ◌∷◌, []
 use Rattle.conversations.specs.Answering.{StoreStep}
 use Rattle.raster.specs.Pages.{PagePixels}
 
--- what is known of the pages in a store: that there are so many at least, or which they are
+-- what is known of the pages in a store: how many there are at least, or which they are
 pub data Stock : Type 0 where
   at_least : ℕ → Stock
   exactly : List PagePixels → Stock

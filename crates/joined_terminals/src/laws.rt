@@ -80,7 +80,7 @@ pub fn answers_are_steps()
     terminals_are_safe();
 }
 
-/// The contract of `answer`, of a caller and of an answerer whose pages go to a store, whatever it tells of the pages that it has, gives the
+/// The contract of `answer`, of a caller and of an answerer whose pages go to a store of any kind, gives the
 /// answers of which `answers_are_steps` speaks, if the line comes of what is on its way.
 pub fn contracts_are_answers<P: PageStore, K: Keeper<StoppableCaller>>()
     ensures answerer { StoringAnswers P P.stores P.refuses }
@@ -123,7 +123,7 @@ pub fn held_answers_are_steps()
     stations::laws::always_answered();
 }
 
-/// The contract of `answer`, of an answerer whose pages are handed over to a holder, whatever it tells of those that count as stored, gives
+/// The contract of `answer`, of an answerer whose pages are handed over to a holder of any kind, gives
 /// the answers of which `held_answers_are_steps` speaks, if the line comes of what is on its way.
 pub fn held_contracts_are_answers<P: PageHolder>()
     ensures ok { HoldingAnswers P P.hands P.refuses P.stores P.held }

@@ -25,7 +25,7 @@ top_bit n j low high =
     let none : j - j ≡ 0 = omega arith in
     ap (λ x. bit_at x j) split ∙ (bit_at_cat_high 1 j r j few (omega arith) ∙ ap (bit_at 1) none)
 
--- how many 0 bits there are before the first 1 of a number of so many bits
+-- how many 0 bits there are before the first 1 of a number of this many bits
 pub record FirstOne (w n c : ℕ) : Type 0 where
   pub high : c ≤ w
   pub zeros : (k : ℕ) → k < c → bit_at n (w - 1 - k) ≡ 0

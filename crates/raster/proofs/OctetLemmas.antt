@@ -74,7 +74,7 @@ are_octets-append (x ∷ xs) ys a b = (a.0, are_octets-append xs ys a.1 b)
 
 -- ---- bits packed into octets
 
--- each list of so many bits passes a test
+-- each list of this many bits passes a test
 abbrev every : ℕ → (List Bool → Bool) → Bool
 every zero test = test []
 every (suc n) test = every n (λ xs. test (true ∷ xs)) && every n (λ xs. test (false ∷ xs))

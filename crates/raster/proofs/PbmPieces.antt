@@ -16,7 +16,7 @@ use Rattle.raster.proofs.PbmReading.{with_rows, rows_next, rows_fail, rows_done,
 
 -- ---- room that is filled
 
--- so many octets were read into room of this size
+-- this number of octets was read into room of this size
 pub record Filled (old now : Option (List ℕ)) (size : ℕ) (octets : List ℕ) (count : ℕ) : Type 0 where
   pub within : count ≤ length octets
   pub long : length octets ≡ size

@@ -225,7 +225,7 @@ append_none bit width octets alike =
     appends_at (colors (replicate width bit)) octets octets [] (Some bit) width (alike_many bit width) (sym (append-nil octets)) (omega arith)
     alike refl
 
--- ---- octets that are painted behind those of a list
+-- ---- octets that are painted at the end of a list
 
 -- the octets of a list that was filled up are its first ones still
 pub resized_front : (old whole : List ℕ) (start most more : ℕ) → whole ≡ take most old ++ replicate more 0 → start ≡ length old → start ≤ most
@@ -236,10 +236,10 @@ resized_front old whole start most more is begins h =
     take_at old (replicate more 0) start (sym begins))
 
 -- what a list holds that was lent from a place on and then cut
-pub painted_behind : (old whole painted post rest : List ℕ) (start len n : ℕ) → start ≡ length old → take start whole ≡ old
+pub painted_at_end : (old whole painted post rest : List ℕ) (start len n : ℕ) → start ≡ length old → take start whole ≡ old
     → n ≤ length painted → start + n ≤ len
     → take (start + n) (take len ((take start whole ++ (painted ++ post)) ++ rest)) ≡ old ++ take n painted
-painted_behind old whole painted post rest start len n begins front within room =
+painted_at_end old whole painted post rest start len n begins front within room =
     let a : List ℕ = take start whole in
     take-take (start + n) len ((a ++ (painted ++ post)) ++ rest) room ∙
     (ap (take (start + n)) (append_assoc a (painted ++ post) rest ∙ ap (λ (xs : List ℕ). a ++ xs) (append_assoc painted post rest)) ∙
@@ -248,7 +248,7 @@ painted_behind old whole painted post rest start len n begins front within room 
     (take-append-add old (painted ++ (post ++ rest)) n ∙
     ap (λ (xs : List ℕ). old ++ xs) (take-append-le n painted (post ++ rest) within)))))
 
--- ---- octets that are copied behind those of a list, the last of them cut
+-- ---- octets that are copied to the end of a list, the last of them cut
 
 -- bits whose last octet was full
 pub cut_none : (count : ℕ) (old octets new : List ℕ) → new ≡ old ++ octets → length octets ≡ (count + 7) / 8 → count % 8 ≡ 0
@@ -268,15 +268,15 @@ pub cut_last : (count start last : ℕ) (old octets whole : List ℕ) → whole 
     → ((k : ℕ) → count % 8 ≤ k → k < 8 → bit_at last (place_in MsbFirst k) ≡ 0)
     → CutsLast count old octets (set whole (start + count / 8) last)
 cut_last count start last old octets whole is begins long some same clear =
-    let behind : start + count / 8 - start ≡ count / 8 = omega arith in
+    let copied : start + count / 8 - start ≡ count / 8 = omega arith in
     let read : get_or whole (start + count / 8) 0 ≡ get_or octets (count / 8) 0 =
     ap (λ (xs : List ℕ). get_or xs (start + count / 8) 0) is ∙
-    (get_or-append_right old octets start (start + count / 8) 0 begins (omega arith) ∙ ap (λ (n : ℕ). get_or octets n 0) behind) in
+    (get_or-append_right old octets start (start + count / 8) 0 begins (omega arith) ∙ ap (λ (n : ℕ). get_or octets n 0) copied) in
     record {
       cut = set octets (count / 8) last;
       appended = ap (λ (xs : List ℕ). set xs (start + count / 8) last) is ∙
           (set-append_right old octets start (start + count / 8) last begins (omega arith) ∙
-          ap (λ (n : ℕ). old ++ set octets n last) behind);
+          ap (λ (n : ℕ). old ++ set octets n last) copied);
       long = length-set octets (count / 8) last;
       packed = packed_cut MsbFirst octets count last long some clear;
       same = kept_cut MsbFirst octets count last long some

@@ -13,18 +13,18 @@ pub record AppendsKept (bits : List Bool) (count : ℕ) (old new : List ℕ) (al
   pub kept : AreKept alike MsbFirst octets count
   pub are : bits ≡ kept_bits alike MsbFirst octets count
 
--- new is old, with `count` bits of octets behind it: these are the same, and those after them are 0
-pub record CutsLast (count : ℕ) (old octets new : List ℕ) : Type 0 where
-  pub cut : List ℕ
-  pub appended : new ≡ old ++ cut
-  pub long : length cut ≡ length octets
-  pub packed : IsPacked MsbFirst cut count
-  pub same : (k : ℕ) → k < count → bit_in MsbFirst cut k ≡ bit_in MsbFirst octets k
-
--- the same of the bits of a row
+-- the same of the pixels of a row
 pub record AppendsRow (row : List Color) (old new : List ℕ) (alike : Option Bool) : Type 0 where
   pub octets : List ℕ
   pub appended : new ≡ old ++ octets
   pub few : length octets ≤ 304
   pub kept : AreKept alike MsbFirst octets (length row)
   pub are : row ≡ colors (kept_bits alike MsbFirst octets (length row))
+
+-- new is old with the first `count` bits of octets at its end, and zero bits up to a whole octet
+pub record CutsLast (count : ℕ) (old octets new : List ℕ) : Type 0 where
+  pub cut : List ℕ
+  pub appended : new ≡ old ++ cut
+  pub long : length cut ≡ length octets
+  pub packed : IsPacked MsbFirst cut count
+  pub same : (k : ℕ) → k < count → bit_in MsbFirst cut k ≡ bit_in MsbFirst octets k

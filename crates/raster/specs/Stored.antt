@@ -19,13 +19,13 @@ stored_row width octets at = colors (kept_bits at.alike MsbFirst (row_octets oct
 unfoldable pub stored_rows : ℕ → List ℕ → List RowAt → List (List Color)
 stored_rows width octets places = map (stored_row width octets) places
 
--- a page's octets may hold a row so
+-- where a row may lie in a page's octets
 pub record IsStored (width : ℕ) (octets : List ℕ) (at : RowAt) : Type 0 where
   pub rising : at.start ≤ at.end
   pub within : at.end ≤ length octets
   pub kept : AreKept at.alike MsbFirst (row_octets octets at) width
 
--- a page's octets may hold its rows so
+-- where a page's rows may lie in its octets
 pub record AreStored (width : ℕ) (octets : List ℕ) (places : List RowAt) : Type 0 where
   pub wide : IsWidth width
   pub few : length places ≤ max_rows

@@ -340,18 +340,6 @@ impl<'a> LentBits<'a> {
         }
     }
 
-    /// The same bits, lent once more.
-    #[inline(always)]
-    pub(crate) fn again(&self) -> LentBits<'a>
-        ensures { result ≡ self.now }
-    {
-        LentBits {
-            octets: self.octets,
-            alike: self.alike,
-            count: self.count,
-        }
-    }
-
     /// Appends the octets that hold the bits, and answers the one that all of them are, where they are kept so, without octets.
     /// Errs where memory is refused, which changes nothing.
     #[inline(always)]

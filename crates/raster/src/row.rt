@@ -293,16 +293,6 @@ impl<'a> RowRef<'a> {
         RowRef { pixels }
     }
 
-    /// The same row, lent once more.
-    #[inline(always)]
-    pub fn again(&self) -> RowRef<'a>
-        ensures { result ≡ self.now }
-    {
-        RowRef {
-            pixels: self.pixels.again(),
-        }
-    }
-
     /// Appends the row's octets to a page's, and answers the bit that all its pixels are, where they are kept so, without octets.
     /// Errs where memory is refused, which changes nothing.
     #[inline(always)]

@@ -21,5 +21,5 @@ pub returns-clause-ok : goal.returns-clause-ok
 returns-clause-ok c =
     on_ok_weaker c.push_place.result
     (λ pushed. pushed c.args.width (row_pixels c.args.width c.args.row.now) c.args.octets.now.items
-    (as_many _ c.args.row.now c.args.width refl) c.requires.stored c.requires.room c.count_of-start.ensures c.in_ok-copy_behind.ensures.ok)
+    (as_many _ c.args.row.now c.args.width refl) c.requires.stored c.requires.room c.count_of-start.ensures c.in_ok-copy_to_end.ensures.ok)
     c.push_place.ensures.pushed

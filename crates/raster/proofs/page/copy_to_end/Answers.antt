@@ -1,6 +1,6 @@
 use Rattle.std.proofs.Common.{sym, take}
 use Rattle.raster.proofs.StoredLemmas.{append_copied}
-use Rattle.raster.proofs.page.copy_behind.Goals as goal
+use Rattle.raster.proofs.page.copy_to_end.Goals as goal
 
 pub returns-clause-ok : goal.returns-clause-ok
 returns-clause-ok c =
