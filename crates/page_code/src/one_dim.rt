@@ -118,26 +118,22 @@ fn next_row(octets: &[u8], order: Order, to: &Progress) -> Start
     }
 }
 
-/// Reads the row at a place onto the page, in the memory of a list and of a painter of the page's width.
+/// Reads the row that comes next onto the page, in the memory of a list and of a painter of the page's width.
 fn read_row(
     alloc: Global,
-    octets: &[u8],
-    order: Order,
-    place: u128,
+    mut reader: BitReader<'_>,
     list: &mut Vec<u32>,
     painter: &mut Painter,
     to: &mut Progress,
 ) -> Result<(), CodeFault>
-    requires within { place ≤ 8 * length octets.now }
     requires room { length to.old.page.rows < max_rows }
     requires width { IsWidth to.old.page.width }
     requires wide { painter.old.width ≡ to.old.page.width }
     requires octets { painter.old.width + 64 ≤ 8 * length painter.old.octets.items }
-    ensures row { ReadsRowOfPage (bits_of order octets.now) place to.old to.new result }
+    ensures row { ReadsRowOfPage reader.entry.bits reader.entry.place to.old to.new result }
     ensures wide { painter.new.width ≡ painter.old.width }
     ensures octets { painter.new.width + 64 ≤ 8 * length painter.new.octets.items }
 {
-    let mut reader = BitReader::at(octets, order, place);
     reader.read_row_onto(alloc, &mut to.page, list, painter)?;
     to.place = reader.place();
     Ok(())
@@ -161,7 +157,8 @@ fn read_in_order(
     loop {
         match next_row(octets, order, to) {
             Start::Row(place) => {
-                read_row(alloc, octets, order, place, &mut list, &mut painter, to)?;
+                let reader = BitReader::at(octets, order, place);
+                read_row(alloc, reader, &mut list, &mut painter, to)?;
                 white_rows(white, place, octets, order, to)?;
             }
             Start::End(used) => return Ok(used),

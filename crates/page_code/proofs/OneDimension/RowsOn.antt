@@ -429,12 +429,15 @@ module _ (bits : List Bool) (old to : Progress) (width : to.page.width ≡ old.p
       let off = refused_off to.page.width bits to.page.rows to.place fault wide few read found in
       inr (further, off.0, off.1)
 
-  pub row_read : (at : ℕ) (next : Progress) → FindsRow bits to.page.width to.page.rows to.place (Row at)
-      → ReadsRowOfPage bits at to next (Ok tt)
+  pub row_read : (at : ℕ) (next : Progress) (reader : Reading) → FindsRow bits to.page.width to.page.rows to.place (Row at)
+      → reader ≡ record { bits = bits; place = at } → ReadsRowOfPage reader.bits reader.place to next (Ok tt)
       → (next.page.width ≡ old.page.width) × (next.page.fine ≡ old.page.fine) × (length next.page.rows ≡ length to.page.rows + 1)
       × IsReadTo OneDim next.page.width bits next.page.rows next.place
   unfolding IsReadTo
-  row_read at next found reads = subst (λ (p : Progress). (p.page.width ≡ old.page.width) × (p.page.fine ≡ old.page.fine)
+  row_read at next reader found is got =
+      let reads : ReadsRowOfPage bits at to next (Ok tt) =
+      subst (λ (r : Reading). ReadsRowOfPage r.bits r.place to next (Ok tt)) is got in
+      subst (λ (p : Progress). (p.page.width ≡ old.page.width) × (p.page.fine ≡ old.page.fine)
       × (length p.page.rows ≡ length to.page.rows + 1)
       × LeadsTo item_word (Step p.page.width) first (after_rows p.page.rows) bits p.place) (sym reads.3) (
         width,
@@ -443,19 +446,24 @@ module _ (bits : List Bool) (old to : Progress) (width : to.page.width ≡ old.p
         row_on to.page.width bits to.page.rows reads.0 to.place at reads.1 wide read found reads.2,
       )
 
-  pub row_refused : (at : ℕ) (next : Progress) (fault : CodeFault) → FindsRow bits to.page.width to.page.rows to.place (Row at)
-      → ReadsRowOfPage bits at to next (Err fault) → ReadsOn OneDim bits old next (Err fault)
+  pub row_refused : (at : ℕ) (next : Progress) (reader : Reading) (fault : CodeFault)
+      → FindsRow bits to.page.width to.page.rows to.place (Row at) → reader ≡ record { bits = bits; place = at }
+      → ReadsRowOfPage reader.bits reader.place to next (Err fault) → ReadsOn OneDim bits old next (Err fault)
   unfolding IsReadTo
-  row_refused at next fault found (inl memory) = inl memory
-  row_refused at next fault found (inr reads) = subst (λ (p : Progress). ReadsOn OneDim bits old p (Err fault)) (sym reads.0) (inr (same_off
-      reads.1 reads.2 reads.3))
+  row_refused at next reader fault found is got =
+      refused (subst (λ (r : Reading). ReadsRowOfPage r.bits r.place to next (Err fault)) is got)
     where
-      same_off : (front : ℕ) → fault.place ≡ at + front → IsLongestRow to.page.width (drop at bits) front fault.kind
-          → IsFurther OneDim bits old to × (read_rows OneDim to.page.width bits ≡ Err (fault.place, fault.kind))
-          × AreRowsSoFar OneDim to.page.width bits (length to.page.rows)
-      same_off front is longest =
-          let off = row_off to.page.width bits to.page.rows to.place at front fault.kind wide few read found longest in
-          (further, off.0 ∙ ap (λ (n : ℕ). Err (n, fault.kind)) (sym is), off.1)
+      refused : ReadsRowOfPage bits at to next (Err fault) → ReadsOn OneDim bits old next (Err fault)
+      refused (inl memory) = inl memory
+      refused (inr reads) = subst (λ (p : Progress). ReadsOn OneDim bits old p (Err fault)) (sym reads.0) (inr (same_off
+          reads.1 reads.2 reads.3))
+        where
+          same_off : (front : ℕ) → fault.place ≡ at + front → IsLongestRow to.page.width (drop at bits) front fault.kind
+              → IsFurther OneDim bits old to × (read_rows OneDim to.page.width bits ≡ Err (fault.place, fault.kind))
+              × AreRowsSoFar OneDim to.page.width bits (length to.page.rows)
+          same_off front is longest =
+              let off = row_off to.page.width bits to.page.rows to.place at front fault.kind wide few read found longest in
+              (further, off.0 ∙ ap (λ (n : ℕ). Err (n, fault.kind)) (sym is), off.1)
 
 pub found_room : (bits : List Bool) (width : ℕ) (rows : List (List Color)) (place at : ℕ) → FindsRow bits width rows place (Row at)
     → length rows < 20000

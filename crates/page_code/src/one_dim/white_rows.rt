@@ -16,12 +16,14 @@ use raster::{Coding, Color, MAX_ROWS};
 use run_tables::{BitReader, run_word};
 use std::alloc::AllocError;
 
-/// The bits of an EOL without fill and of a white row after it, as one number; and how many of them are the row's.
+/// The number of bits of an EOL without fill.
+const EOL_BITS: u32 = 12;
+
+/// The bits of an EOL without fill and of a white row after it, as one number, and how many they are.
 #[derive(Clone, Copy, Debug, PartialEq, Eq)]
 pub(crate) struct WhiteRow {
     number: u64,
     bits: u32,
-    row: u32,
 }
 
 impl WhiteRow {
@@ -33,8 +35,7 @@ impl WhiteRow {
         let (run, length) = run_word(Color::White, width);
         WhiteRow {
             number: (1 << length) + u64::from(run),
-            bits: 12 + length,
-            row: length,
+            bits: EOL_BITS + length,
         }
     }
 
@@ -65,7 +66,8 @@ pub(crate) fn white_rows(
     ensures further { OnOk result (IsFurther Coding.OneDim (bits_of order octets.now) to.old to.new) }
     ensures more { OnOk result (length to.old.page.rows ≤ length to.new.page.rows) }
 {
-    if to.place.wrapping_sub(last) != u128::from(white.row) {
+    let row = white.bits - EOL_BITS;
+    if to.place.wrapping_sub(last) != u128::from(row) {
         return Ok(());
     }
     let mut reader = BitReader::at(octets, order, to.place);

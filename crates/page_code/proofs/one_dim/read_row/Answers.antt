@@ -1,9 +1,7 @@
-use Rattle.std.proofs.Common.{◌≡◌, ◌+◌, ap, drop, refl, subst, ◌∙◌}
+use Rattle.std.proofs.Common.{◌≡◌, ◌+◌, ap, refl, ◌∙◌}
 use Rattle.std.proofs.lemmas.Result.{err_from_is_err_and}
-use Rattle.raster.specs.Packed.{bits_of}
 use Rattle.raster.specs.Pages.{PagePixels}
-use Rattle.run_tables.specs.Reading.{Reading, rest_of}
-use Rattle.run_tables.specs.RowLaws.{ReadsAsRow}
+use Rattle.run_tables.specs.Reading.{Reading}
 use Rattle.page_code.proofs.GivesPage.{memory_or}
 use Rattle.page_code.proofs.OneDimension.RowsOn.{row_refusal}
 use Rattle.page_code.proofs.one_dim.read_row.Goals as goal
@@ -13,16 +11,13 @@ returns-in_err-read_row_onto-clause-row c =
     let p = err_from_is_err_and c.from_residual.result c.from_residual.ensures.1 in
     let same = ap (λ (page : PagePixels). record c.args.to.now { page = page }) c.in_err-read_row_onto.ensures.page in
     rw (p.1, p.2) (memory_or c.in_err-read_row_onto.field-0.0.kind _ (λ other.
-    let refused = row_refusal (bits_of c.args.order c.args.octets.now) c.args.place c.args.to.now.page.width c.at-reader.result
-    c.in_err-read_row_onto.field-0.0 c.at-reader.ensures (c.in_err-read_row_onto.ensures.refuses other) in
+    let refused = row_refusal c.args.reader.bits c.args.reader.place c.args.to.now.page.width c.args.reader
+    c.in_err-read_row_onto.field-0.0 refl (c.in_err-read_row_onto.ensures.refuses other) in
     (same, refused.0, refused.1, refused.2)))
 
 pub returns-clause-row : goal.returns-clause-row
 returns-clause-row c =
     let read = c.in_ok-read_row_onto.ensures.reads in
-    let used = read.1.used in
-    let reads : ReadsAsRow c.args.to.now.page.width (drop c.args.place (bits_of c.args.order c.args.octets.now)) read.0 used =
-    subst (λ (r : Reading). ReadsAsRow c.args.to.now.page.width (rest_of r) read.0 used) c.at-reader.ensures read.1.reads in
-    let end : c.place-to.result ≡ c.args.place + used =
-    c.place-to.ensures.place ∙ (ap (λ (r : Reading). r.place) read.1.after ∙ ap (λ (r : Reading). r.place + used) c.at-reader.ensures) in
-    (read.0, used, reads, rw (end, read.2) refl)
+    let end : c.place-to.result ≡ c.args.reader.place + read.1.used =
+    c.place-to.ensures.place ∙ ap (λ (r : Reading). r.place) read.1.after in
+    (read.0, read.1.used, read.1.reads, rw (end, read.2) refl)

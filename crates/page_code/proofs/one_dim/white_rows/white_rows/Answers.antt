@@ -10,6 +10,9 @@ pub at-reader-requires : goal.at-reader-requires
 at-reader-requires c =
     read_within c.args.to.now.page.width c.args.order c.args.octets.now c.args.to.now.page.rows c.args.to.now.place c.requires.read
 
+pub overflow_sub-row : goal.overflow_sub-row
+overflow_sub-row c = omega (arith, white_bits c.args.to.now.page.width c.args.white c.requires.white)
+
 pub is_next-requires-clause-some : goal.is_next-requires-clause-some
 is_next-requires-clause-some c = omega (arith, white_bits c.args.to.now.page.width c.args.white c.requires.white)
 
