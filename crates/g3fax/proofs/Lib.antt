@@ -1,5 +1,4 @@
 pub mod BurstLemmas
-pub mod CopyLemmas
 pub mod LooseValues
 pub mod RasterLemmas
 pub mod SignalLemmas

@@ -5,7 +5,6 @@ ghost use Rattle.g3fax.specs.Handles.{Fills, HasDocument, OfDocument};
 ghost use Rattle.std.specs.Prelude.{◌≡◌, ◌≢◌, IfErr, IfOk, None, length};
 
 use crate::handle::{G3Handle, Kept, opened};
-use crate::pages::push_octets;
 use crate::status::{EMPTY_HANDLE, NO_ROWS, OK, OTHER_HANDLE};
 use raster::{Document, Page};
 use std::alloc::Global;
@@ -29,9 +28,8 @@ fn copied(alloc: Global, page: &Page) -> Result<Page, u32>
         Err(fault) => return Err(fault.number() as u32),
     };
     for row in rows {
-        let status = push_octets(alloc, &mut copy, row.octets());
-        if status != OK {
-            return Err(status);
+        if let Err(fault) = copy.push_lent(&row) {
+            return Err(fault.number() as u32);
         }
     }
     Ok(copy)

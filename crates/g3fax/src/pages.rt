@@ -6,8 +6,8 @@ ghost use Rattle.std.specs.Prelude.{◌≡◌, ◌≢◌, slice_get};
 
 use crate::handle::{G3Handle, Kept, opened};
 use crate::octets::copy_out;
-use crate::status::{BAD_LENGTH, FULL_HANDLE, NOTHING, OK, TOO_MANY_ROWS};
-use raster::{MAX_ROWS, Page, Row};
+use crate::status::{BAD_LENGTH, FULL_HANDLE, NOTHING, OK};
+use raster::Page;
 use std::alloc::Global;
 
 /// The size of a page: its width in pixels, its rows, and whether its lines are fine.
@@ -39,23 +39,13 @@ pub extern "C" fn g3_core_page_new(alloc: Global, out: &mut G3Handle, width: u32
 
 /// Appends the row of the first bits of octets.
 #[tactic(auto, using(raster::proofs::RowLemmas::lengths, raster::proofs::PackedLemmas::views))]
-pub(crate) fn push_octets(alloc: Global, page: &mut Page, octets: &[u8]) -> u32
+fn push_octets(page: &mut Page, octets: &[u8]) -> u32
     ensures { PushesOctets octets.now page.old page.new result }
 {
-    let width = page.width();
-    let rows = page.rows();
-    let full = rows.len() >= MAX_ROWS;
-    if (octets.len() as u128) * 8 < width as u128 {
+    if (octets.len() as u128) * 8 < page.width() as u128 {
         return BAD_LENGTH;
     }
-    if full {
-        return TOO_MANY_ROWS;
-    }
-    let row = match Row::from_octets(alloc, octets, width) {
-        Ok(row) => row,
-        Err(fault) => return fault.number() as u32,
-    };
-    match page.push_row(row) {
+    match page.push_octets(octets) {
         Ok(()) => OK,
         Err(fault) => fault.number() as u32,
     }
@@ -67,7 +57,7 @@ pub(crate) fn push_octets(alloc: Global, page: &mut Page, octets: &[u8]) -> u32
 pub extern "C" fn g3_core_page_push_row(alloc: Global, page: &mut G3Handle, octets: &[u8]) -> u32
     ensures { OnPage (λ old new. PushesOctets octets.now old new result) page.old.value page.new.value result }
 {
-    opened!(alloc, page, Page, page => push_octets(alloc, page, octets))
+    opened!(alloc, page, Page, page => push_octets(page, octets))
 }
 
 /// Tells the size of a page.

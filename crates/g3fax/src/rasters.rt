@@ -11,7 +11,7 @@ ghost use Rattle.std.specs.Prelude.{◌≡◌, ◌≢◌, ◌≤◌, ◌+◌, �
 use crate::codes::in_64_bits;
 use crate::handle::{G3Handle, Kept, opened};
 use crate::status::{BAD_LENGTH, BAD_WIDTH, FULL_HANDLE, NO_MEMORY, NO_ROOM, OK, TOO_MANY_ROWS};
-use raster::{MAX_ROWS, MAX_WIDTH, Page, Row};
+use raster::{MAX_ROWS, MAX_WIDTH, Page};
 use std::alloc::Global;
 
 /// How rows lie in octets: the octets from one row to the next, the width in pixels, the number of rows, and whether the lines are fine.
@@ -59,11 +59,7 @@ fn rows_of(alloc: Global, octets: &[u8], raster: &G3Raster) -> Result<Page, u32>
     };
     for number in 0..raster.rows {
         let at = raster.stride as u128 * number as u128;
-        let row = match Row::from_octets(alloc, &octets[at as usize..], raster.width) {
-            Ok(row) => row,
-            Err(_) => return Err(NO_MEMORY),
-        };
-        match page.push_row(row) {
+        match page.push_octets(&octets[at as usize..]) {
             Ok(()) => {}
             Err(_) => return Err(NO_MEMORY),
         }
