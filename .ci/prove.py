@@ -45,12 +45,17 @@ def size_of(name):
     return sum(file.stat().st_size for part in ("src", "specs", "proofs") for file in (TOP / "crates" / name / part).rglob("*.*"))
 
 
+def is_static(line):
+    """Whether a line of crates.txt is that of a library for C."""
+    return line.split(":")[0].endswith(" staticlib")
+
+
 def texts_above(crates):
-    """How much text each crate has with the longest chain of crates that stand on it."""
+    """How much text each crate has with the longest chain of crates that stand on it; twice that of a library for C, which is proved twice."""
     found = {}
     for name in reversed(crates):
         above = [found[other] for other, (_line, deps) in crates.items() if name in deps]
-        found[name] = size_of(name) + max(above, default=0)
+        found[name] = size_of(name) * (2 if is_static(crates[name][0]) else 1) + max(above, default=0)
     return found
 
 
@@ -90,6 +95,7 @@ class Run:
     def __init__(self, crates):
         self.crates, self.proved, self.failed, self.to_try = crates, set(), [], []
         self.of_proof = {name for name in crates if not OF_TESTS.fullmatch(name)}
+        self.sources = subprocess.run(["packaging/trust.py", "--sources"], cwd=TOP, check=True, capture_output=True, text=True).stdout.strip()
         self.changed = threading.Condition()
 
     def ended(self, name, is_well):
@@ -110,12 +116,24 @@ class Run:
             minutes, cpu = (time.monotonic() - begun) / 60, (used.ru_utime + used.ru_stime) / 60
             said.seek(0)
             what = said.read()
+            if not run.returncode and not has_edits and is_static(self.crates[name][0]):
+                run.returncode = self.build_library(room)
         if run.returncode:
             print(what, end="")
         does = "edits and tests" if has_edits else "proof"
         ends = "failed" if run.returncode else "passed"
         print(f"prove: {name}: {does} {ends}, {minutes:.1f} minutes, {cpu:.1f} of a processor", flush=True)
         return not run.returncode
+
+    def build_library(self, room):
+        """Builds the library for C over the crates that were proved in a room: after `rt ci` little else would run beside it."""
+        begun = time.monotonic()
+        settings = {"CRATES": f"{room}/crates", "PROVED": self.sources, "RT_JOBS": "1"}
+        run = subprocess.run(["packaging/build_library.sh"], cwd=TOP, env=os.environ | settings, capture_output=True, text=True)
+        if run.returncode:
+            print(run.stdout + run.stderr, end="")
+        print(f"prove: the library for C: {(time.monotonic() - begun) / 60:.1f} minutes", flush=True)
+        return run.returncode
 
     def prove_all(self, names, share=with_one):
         """Proves these crates, in their order, which other lanes may take from too, and then tries edits and tests."""

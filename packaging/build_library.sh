@@ -6,17 +6,31 @@
 # After `rt ci` each crate below g3fax lies proved in its out/rlib, but without the stamp by which `rt lib` would know it, so `rt lib`
 # would prove all of them a second time. So the gate keeps the sum of the sources that packaging/trust.py --sources prints before `rt ci`,
 # and passes it as PROVED. If that is the sum of the sources now, the library is built over what `rt ci` has left, and g3fax alone is
-# proved again: half a minute. In any other case, or if that fails, `rt lib` builds it.
+# proved again: some five minutes. In any other case, or if that fails, `rt lib` builds it.
+#
+# The gate's .ci/prove.py calls it as soon as g3fax is proved, beside other proofs: CRATES is then the folder where the crates were proved,
+# and the library waits in build/proved, since `rt ci` empties each out/.
 #
 # out/libg3fax.sources says of which sources and by which kit the library was built. If these are the same, nothing is done. KIT is where
-# the kit lies, if not /opt/rattle.
+# the kit lies, if not /opt/rattle. RT_JOBS is how many processors its proof takes, 2 if it isn't set.
 set -e
 top=$(cd "$(dirname "$0")/.." && pwd)
 kit=${KIT:-/opt/rattle}
 cd "$top/crates/g3fax"
 sum=$("$top/packaging/trust.py" --sources)
 record="$sum $(head -n 1 "$kit/KIT-ID")"
-if [ -f out/libg3fax.a ] && [ -f out/libg3fax.sources ] && [ "$(cat out/libg3fax.sources)" = "$record" ]; then
+waits=$top/build/proved crates=${CRATES:-..}
+
+# is_built FOLDER: the library is there, and was built of these sources.
+is_built() {
+    [ -f "$1/libg3fax.a" ] && [ -f "$1/libg3fax.sources" ] && [ "$(cat "$1/libg3fax.sources")" = "$record" ]
+}
+
+mkdir -p out
+if ! is_built out && is_built "$waits"; then
+    cp "$waits/libg3fax.a" "$waits/libg3fax.sources" out/
+fi
+if is_built out; then
     echo "crates/g3fax/out/libg3fax.a is built of these sources already"
     exit 0
 fi
@@ -25,12 +39,13 @@ rm -f out/libg3fax.a out/libg3fax.sources
 # over_proved: the library, over the crates that `rt ci` has proved and built. It is checked as `rt ci` checks it, and then compiled.
 over_proved() {
     set -- --crate-name g3fax src/lib.rt --extern "std=$kit/rlibs/std.rlib" -L "dependency=$kit/rlibs"
+    # the names have no blanks
+    # shellcheck disable=SC2013
     for crate in $(sed -n 's/^g3fax  *staticlib://p' "$top/crates.txt"); do
-        [ -f "../$crate/out/rlib/$crate.rlib/format" ] || { echo "$crate has no out/rlib, so rt lib builds the library"; return 1; }
-        set -- "$@" --extern "$crate=../$crate/out/rlib/$crate.rlib" -L "dependency=../$crate/out/rlib"
+        [ -f "$crates/$crate/out/rlib/$crate.rlib/format" ] || { echo "$crate has no out/rlib, so rt lib builds the library"; return 1; }
+        set -- "$@" --extern "$crate=$crates/$crate/out/rlib/$crate.rlib" -L "dependency=$crates/$crate/out/rlib"
     done
-    mkdir -p out
-    "$kit/bin/rattle" build "$@" --antt-project "$kit/rattle/logic/antt-project.json" --logic-built "$kit/logic_built" --jobs 2 \
+    "$kit/bin/rattle" build "$@" --antt-project "$kit/rattle/logic/antt-project.json" --logic-built "$kit/logic_built" --jobs "${RT_JOBS:-2}" \
         --links g3fax= --crate-type staticlib --toolchain "$kit/toolchain" --backend llvm -o out/libg3fax.a
 }
 
@@ -39,4 +54,9 @@ if [ "${PROVED:-none}" != "$sum" ] || ! over_proved; then
 fi
 [ -f out/libg3fax.a ] || { echo "build_library.sh: crates/g3fax/out/libg3fax.a wasn't built" >&2; exit 1; }
 # sources that were changed meanwhile have no record
-[ "$("$top/packaging/trust.py" --sources)" != "$sum" ] || echo "$record" > out/libg3fax.sources
+[ "$("$top/packaging/trust.py" --sources)" = "$sum" ] || exit 0
+echo "$record" > out/libg3fax.sources
+if [ -n "$CRATES" ]; then
+    mkdir -p "$waits"
+    cp out/libg3fax.a out/libg3fax.sources "$waits/"
+fi
