@@ -45,17 +45,12 @@ def size_of(name):
     return sum(file.stat().st_size for part in ("src", "specs", "proofs") for file in (TOP / "crates" / name / part).rglob("*.*"))
 
 
-def is_static(line):
-    """Whether a line of crates.txt is that of a library for C."""
-    return line.split(":")[0].endswith(" staticlib")
-
-
 def texts_above(crates):
-    """How much text each crate has with the longest chain of crates that stand on it; twice that of a library for C, which is proved twice."""
+    """How much text each crate has with the longest chain of crates that stand on it."""
     found = {}
     for name in reversed(crates):
         above = [found[other] for other, (_line, deps) in crates.items() if name in deps]
-        found[name] = size_of(name) * (2 if is_static(crates[name][0]) else 1) + max(above, default=0)
+        found[name] = size_of(name) + max(above, default=0)
     return found
 
 
@@ -116,7 +111,7 @@ class Run:
             minutes, cpu = (time.monotonic() - begun) / 60, (used.ru_utime + used.ru_stime) / 60
             said.seek(0)
             what = said.read()
-            if not run.returncode and not has_edits and is_static(self.crates[name][0]):
+            if not run.returncode and not has_edits and self.is_static(name):
                 run.returncode = self.build_library(room)
         if run.returncode:
             print(what, end="")
@@ -124,6 +119,10 @@ class Run:
         ends = "failed" if run.returncode else "passed"
         print(f"prove: {name}: {does} {ends}, {minutes:.1f} minutes, {cpu:.1f} of a processor", flush=True)
         return not run.returncode
+
+    def is_static(self, name):
+        """Whether a crate is a library for C."""
+        return self.crates[name][0].split(":")[0].endswith(" staticlib")
 
     def build_library(self, room):
         """Builds the library for C over the crates that were proved in a room: after `rt ci` little else would run beside it."""
