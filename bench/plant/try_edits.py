@@ -48,11 +48,12 @@ def changed_function(crate, pairs):
     for file, old, _new in pairs:
         path = TOP / "crates" / crate / file
         if file.startswith("src/"):
-            module = path.parent.name if path.name == "mod.rt" else path.stem
+            folders = path.relative_to(TOP / "crates" / crate / "src").with_suffix("").parts
+            module = "::".join([crate, *(folder for folder in folders if folder not in ("lib", "main", "mod"))])
             text = path.read_text()
             begin = text.find(old)
             # an old text may begin at the end of the line before the function
-            return function_at(text, begin + len(old), crate if module == "lib" else module)
+            return function_at(text, begin + len(old), module)
     return None
 
 
