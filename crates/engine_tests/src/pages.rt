@@ -4,7 +4,7 @@ use crate::streams::{Narrow, OneByOne};
 use faults::{FAILED, ToolFault};
 use page_code::Coding;
 use page_files::{
-    PageForm, code_engine, decode_engine, repair_engine, salvage_engine, show_engine,
+    PageForm, Repair, code_engine, decode_engine, repair_engine, salvage_engine, show_engine,
 };
 use run_tables::Order;
 use std::alloc::Global;
@@ -174,7 +174,11 @@ fn rows_are_repaired(rt: HostRuntime) -> Result<(), Fail> {
     assert_eq!(rt; image.as_slice(), b"P4\n8 2\n00".as_slice());
     let said = b"row 2 repaired at bit 38\nrepaired rows: 1\n";
     assert_eq!(rt; lines.as_slice(), said.as_slice());
-    assert_eq!(rt; (repair.rows, repair.repaired), (2, 1));
+    let wanted = Repair {
+        rows: 2,
+        repaired: 1,
+    };
+    assert_eq!(rt; repair, wanted);
     Ok(())
 }
 
