@@ -4,13 +4,11 @@ use Rattle.std.proofs.Common.{length, cond, min, refl, ap, sym, ◌∙◌, arith
 use Rattle.std.proofs.lemmas.List.{append-nil, length-append}
 use Rattle.std.proofs.lemmas.List.FromFn.{get_or-map-range_with_len}
 use Rattle.std.proofs.lemmas.Bool.{lt-ltb, le-ltb, cases_lt, eq-eqb, ne_eqb}
-use Rattle.hdlc.specs.declared.octet_buffer.Pending.{Pending}
 use Rattle.hdlc.specs.declared.gap.Gap.{Gap}
 use Rattle.raster.specs.Octets.{number}
 use Rattle.hdlc.specs.Gaps.{unstuffed, has_six}
 use Rattle.hdlc.specs.Assembles.{Assembles}
 use Rattle.hdlc.specs.Collects.{Collects}
-use Rattle.hdlc.specs.Pending.{window_of}
 use Rattle.hdlc.specs.EightBits.{run_after, unstuffed_from, six_from, ones_at_end, unstuffed_entry, unstuffed_entries}
 use Rattle.raster.proofs.OctetBits.{octet_bits}
 use Rattle.hdlc.proofs.UnstuffedLemmas.{ones, ones-more, has_six-more, unstuffed-more, number_fits}
@@ -138,12 +136,3 @@ collects_octet c new gap octet old small seen last aborted more =
           aborted ∙ (ap (λ x. x || six_from (min 5 c.ones) eight) old.aborted ∙ sym (six_run gap eight (min 5 c.ones) n));
       unstuffed = rw (unstuffed_run gap eight (min 5 c.ones) n) more;
     }
-
--- a gap with other counts and other bits after the whole octets
-abbrev pub with_ending : Gap → ℕ → ℕ → Bool → Pending → Gap
-with_ending c seen ones aborted pending = record c {
-  seen = seen;
-  ones = ones;
-  aborted = aborted;
-  unstuffed = record c.unstuffed { part = pending.part; window = window_of pending };
-}

@@ -1,5 +1,10 @@
 -- Eight bits that repeat flags leave a flag finder as it was.
 use Rattle.std.proofs.Common.{◌≡◌, ℕ, zero, suc, ◌+◌, ◌-◌, ◌/◌, ◌^◌, ◌<◌, ◌≤◌, Bool, true, false, ◌||◌, List, [], ◌∷◌, ◌++◌, length, take}
+use Rattle.std.proofs.Common.{◌*◌, replicate}
+use Rattle.raster.specs.Packed.{bits_of}
+use Rattle.raster.specs.declared.packed.Order.TheVariants.{LsbFirst}
+use Rattle.hdlc.proofs.BitPlaces.{octets-none}
+use Rattle.hdlc.proofs.QuietRuns.{joined}
 use Rattle.std.proofs.Common.{drop, cond, min, refl, ap, sym, ◌∙◌, arith, nat_eq, nat_lt, append_assoc, Option, Some, None, subst, get_or}
 use Rattle.std.proofs.lemmas.List.{append-nil, drop_all, length-take-le}
 use Rattle.std.proofs.lemmas.Bool.{ne_eqb, eqb-true, ltb-true, and_parts, and_right}
@@ -142,3 +147,28 @@ repeated_leads (suc (suc (suc (suc (suc zero))))) d h = refl
 repeated_leads (suc (suc (suc (suc (suc (suc zero)))))) d h = refl
 repeated_leads (suc (suc (suc (suc (suc (suc (suc zero))))))) d h = refl
 repeated_leads (suc (suc (suc (suc (suc (suc (suc (suc n)))))))) d h = absurd (omega arith)
+
+-- ---- octets that repeat the last one
+
+digit_same : (a r o s : ℕ) → a < 256 → o < 256 → a + 256 * r ≡ o + 256 * s → (a ≡ o) × (r ≡ s)
+digit_same a r o s small fits e = (omega arith, omega arith)
+
+pub four_same : (a b c d o n : ℕ) → a < 256 → b < 256 → c < 256 → d < 256 → o < 256 → n ≡ a + 256 * (b + 256 * (c + 256 * d))
+    → n ≡ o * 0x1010101 → a ∷ b ∷ c ∷ d ∷ [] ≡ replicate 4 o
+four_same a b c d o n la lb lc ld fits is same =
+    let all : a + 256 * (b + 256 * (c + 256 * d)) ≡ o + 256 * (o + 256 * (o + 256 * o)) = omega arith in
+    let one = digit_same a _ o _ la fits all in
+    let two = digit_same b _ o _ lb fits one.1 in
+    let three = digit_same c d o o lc fits two.1 in
+    rw (one.0, two.0, three.0, three.1) refl
+
+-- if one octet may be repeated, many may
+pub repeat_all : (finder : FlagFinder) (counts : Counts) (queue : List (List ℕ)) (handed : ℕ)
+    → ((bits : List Bool) → PartsAfter finder counts queue bits handed
+    → PartsAfter finder counts queue (bits ++ bits_of LsbFirst (finder.window ∷ [])) handed)
+    → (n : ℕ) (bits : List Bool) → PartsAfter finder counts queue bits handed
+    → PartsAfter finder counts queue (bits ++ bits_of LsbFirst (replicate n finder.window)) handed
+repeat_all finder counts queue handed once zero bits old = rw (octets-none bits) old
+repeat_all finder counts queue handed once (suc n) bits old =
+    rw (← joined bits finder.window (replicate n finder.window))
+    (repeat_all finder counts queue handed once n (bits ++ bits_of LsbFirst (finder.window ∷ [])) (once bits old))

@@ -241,6 +241,10 @@ pub moved_wide : (p c b v : ℕ) → p ≤ 55 → c ≤ 8 → b < 2 ^ p → v < 
 moved_wide p c b v few eight fits small =
     cut64 b (v * 2 ^ p) (2 ^ (p + c)) (joined_fits p c b v fits small) (pow_mono {j = 63} (omega arith))
 
+pub moved_word : (p b v : ℕ) → p < 32 → b < 2 ^ p → v < 4294967296 → (b + v * 2 ^ p % 2 ^ 64) % 2 ^ 64 ≡ b + v * 2 ^ p
+moved_word p b v few fits small =
+    cut64 b (v * 2 ^ p) (2 ^ (p + 32)) (joined_fits p 32 b v fits small) (pow_mono {j = 63} (omega arith))
+
 pub with_octet : (a : OctetBuffer) (g h : Gathering) (gap eight : List Bool) → Gathers a g gap → g.bits < 2 ^ g.part → g.last < 256
     → length (unstuffed_from (min 5 (g.row / 256)) eight) ≤ 8
     → h.bits ≡ g.bits + number (unstuffed_from (min 5 (g.row / 256)) eight) * 2 ^ g.part

@@ -25,3 +25,4 @@ pub mod OneFrame
 pub mod Examples
 pub mod OneRuns
 pub mod GatheringLemmas
+pub mod PlainOctets

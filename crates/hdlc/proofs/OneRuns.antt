@@ -11,7 +11,7 @@ use Rattle.hdlc.specs.Gaps.{unstuffed}
 use Rattle.hdlc.specs.OpenGap.{unclosed}
 use Rattle.hdlc.specs.Collects.{Collects}
 use Rattle.hdlc.specs.DeframerParts.{Cuts, PartsAfter}
-use Rattle.hdlc.proofs.BitPlaces.{bits_of-one, octets-none}
+use Rattle.hdlc.proofs.BitPlaces.{bits_of-one}
 use Rattle.hdlc.proofs.CollectingOctets.{collects_octet}
 use Rattle.hdlc.proofs.QuietOctets.{parts_quiet}
 use Rattle.hdlc.proofs.QuietRuns.{Comes, no_flag_comes, after_full, after_unbegun}
@@ -46,4 +46,4 @@ ones_aborted finder counts queue bits handed old is full six aborted seen =
     subst (λ w. PartsAfter finder counts queue (bits ++ bits_of LsbFirst (w ∷ [])) handed) (sym is)
     (parts_quiet finder finder counts queue bits (bits_of LsbFirst (255 ∷ [])) handed old (no_flag_comes finder bits (255 ∷ []) come)
     (after_full finder finder bits (255 ∷ []) 0 refl come refl is full full
-    (rw (is, bits_of-one 255, octets-none (unclosed bits ++ octet_bits 255)) more)))
+    (rw (is, bits_of-one 255) more)))

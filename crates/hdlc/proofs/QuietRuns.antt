@@ -93,7 +93,7 @@ end_split (o ∷ os) w small fit =
 
 -- ---- seven octets as one number
 
-number_octets : (o : ℕ) (os : List ℕ) → o < 256 → number (bits_of LsbFirst (o ∷ os)) ≡ o + 256 * number (bits_of LsbFirst os)
+pub number_octets : (o : ℕ) (os : List ℕ) → o < 256 → number (bits_of LsbFirst (o ∷ os)) ≡ o + 256 * number (bits_of LsbFirst os)
 number_octets o os fits =
     let swap : number (bits_of LsbFirst os) * 256 ≡ 256 * number (bits_of LsbFirst os) = omega arith in
     ap number (bits_of-cons o os) ∙ (number-append (octet_bits o) (bits_of LsbFirst os) 8 refl
@@ -333,13 +333,12 @@ module _ (finder new : FlagFinder) (bits : List Bool) (xs : List ℕ) (o : ℕ) 
 
 pub after_full : (finder new : FlagFinder) (bits : List Bool) (octets : List ℕ) (n : ℕ) → n + 1 ≡ length octets → Comes finder bits octets
     → new.begun ≡ finder.begun → new.window ≡ get_or octets n 0 → finder.held ≡ 8 → new.held ≡ 8
-    → Collects new.gap ((unclosed bits ++ bits_of LsbFirst (finder.window ∷ [])) ++ bits_of LsbFirst (take n octets))
-    → Cuts new (bits ++ bits_of LsbFirst octets)
+    → Collects new.gap (unclosed bits ++ bits_of LsbFirst (finder.window ∷ take n octets)) → Cuts new (bits ++ bits_of LsbFirst octets)
 after_full finder new bits octets n size come begun_ window_ full held_ more =
     let is : octets ≡ take n octets ++ get_or octets n 0 ∷ [] = split_last octets n size in
     subst (λ all. Cuts new (bits ++ bits_of LsbFirst all)) (sym is)
     (cuts_after_full finder new bits (take n octets) (get_or octets n 0) (subst (Comes finder bits) is come) begun_ window_ full held_
-    (subst (Collects new.gap) (joined (unclosed bits) finder.window (take n octets)) more))
+    more)
 
 pub after_empty : (finder new : FlagFinder) (bits : List Bool) (octets : List ℕ) (n : ℕ) → n + 1 ≡ length octets → Comes finder bits octets
     → new.begun ≡ finder.begun → new.window ≡ get_or octets n 0 → finder.begun ≡ true → finder.held ≡ 0 → new.held ≡ 8

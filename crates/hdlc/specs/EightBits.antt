@@ -33,6 +33,11 @@ abbrev pub six_from : ℕ → List Bool → Bool
 six_from ones [] = false
 six_from ones (b ∷ bits) = (not (nat_lt ones 5) && b) || six_from (run_after ones b) bits
 
+-- whether none of these bits is a stuffed one, nor the next, if they come after `ones` 1 bits in a row
+abbrev pub plain : ℕ → List Bool → Bool
+plain ones [] = nat_lt ones 5
+plain ones (b ∷ bits) = nat_lt ones 5 && plain (cond b (1 + ones) 0) bits
+
 -- how many 1 bits in a row there are at the end, if these bits come after `ones` of them
 abbrev pub ones_at_end : ℕ → List Bool → ℕ
 ones_at_end ones [] = ones

@@ -1,5 +1,5 @@
 -- The check sequence bit by bit, with a register of 16 bits in place of the long division.
-use Rattle.std.specs.Prelude.{ℕ, ◌/◌, ◌%◌, Bool, false, List, [], ◌∷◌, ◌++◌, drop, get_or, map, replicate, nat_eq, bit_xor, if◌then◌else◌}
+use Rattle.std.specs.Prelude.{ℕ, ◌+◌, ◌*◌, ◌/◌, ◌%◌, Bool, false, List, [], ◌∷◌, ◌++◌, drop, get_or, map, replicate, nat_eq, bit_xor, if◌then◌else◌}
 use Rattle.std.specs.List.{fold, range_with_len}
 use Rattle.raster.specs.Packed.{bits_of}
 use Rattle.raster.specs.declared.packed.Order.TheVariants.{LsbFirst}
@@ -21,10 +21,6 @@ crc_octet register octet = fold crc_bit register (bits_of LsbFirst (octet ∷ []
 abbrev pub remainder_of : ℕ → ℕ
 remainder_of register = fold crc_bit register (replicate 8 false)
 
--- for each register whose high octet is 0, the register after eight 0 bits more
+-- for each register whose high octet is 0, the register after eight 0 bits more; then after 16 of them, and so on up to 64
 abbrev pub remainders : List ℕ
-remainders = map remainder_of (range_with_len 0 256)
-
--- for each register whose high octet is 0, the register after sixteen 0 bits more
-abbrev pub twice_remainders : List ℕ
-twice_remainders = map (λ register. remainder_of (remainder_of register)) (range_with_len 0 256)
+remainders = map (λ place. fold crc_bit (place % 256) (replicate (8 * (place / 256) + 8) false)) (range_with_len 0 2048)

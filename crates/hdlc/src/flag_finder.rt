@@ -11,7 +11,7 @@ ghost use Rattle.hdlc.specs.EightBits.{ends_no_flag, end_no_flag, repeated};
 ghost use Rattle.hdlc.specs.declared.counts.Class.{Class as AnyClass};
 ghost use Rattle.hdlc.specs.declared.counts.Counts.{Counts as AnyCounts};
 ghost use Rattle.std.specs.Prelude.{ℕ, ◌≡◌, ◌+◌, ◌/◌, ◌%◌, ◌<◌, ◌≤◌, ◌++◌, ◌∷◌, ◌&&◌, []};
-ghost use Rattle.std.specs.Prelude.{List, Bool, true, false, cond, min, nat_lt, length, take, drop, IfOk, OnOk};
+ghost use Rattle.std.specs.Prelude.{List, Bool, true, false, cond, min, nat_lt, length, take, drop, replicate, IfOk, OnOk};
 
 use crate::counts::{Class, Counts};
 use crate::gap::{Gap, bit_at};
@@ -95,17 +95,35 @@ fn have_no_flag(last: u8, octets: &[u8], at: usize) -> bool
     fours & (pairs / 16) == 0
 }
 
-/// The number of octets from a place on, seven, one or none, in which no flag ends, after these last eight
-/// bits.
+/// The number of octets from a place on, in sevens, in which no flag ends, after these last eight bits.
+fn quiet_sevens(last: u8, octets: &[u8], at: usize) -> usize
+    requires { at ≤ length octets.now }
+    ensures within { at + result ≤ length octets.now }
+    ensures quiet { end_no_flag last (take result (drop at octets.now)) ≡ true }
+{
+    let rest = &octets[at..];
+    let mut count = 0;
+    let mut window = last;
+    while rest.len() - count >= 8 {
+        if !have_no_flag(window, rest, count) {
+            return count;
+        }
+        window = rest[count + 6];
+        count += 7;
+    }
+    count
+}
+
+/// The number of octets from a place on, some sevens, one or none, in which no flag ends, after these last
+/// eight bits.
 fn quiet_step(last: u8, octets: &[u8], at: usize) -> usize
     requires { at < length octets.now }
     ensures within { at + result ≤ length octets.now }
     ensures quiet { end_no_flag last (take result (drop at octets.now)) ≡ true }
 {
-    if octets.len() - at >= 8 {
-        if have_no_flag(last, octets, at) {
-            return 7;
-        }
+    let count = quiet_sevens(last, octets, at);
+    if count != 0 {
+        return count;
     }
     if ends_no_flag(last, octets[at]) {
         return 1;
@@ -127,6 +145,30 @@ fn quiet_front(window: u8, octets: &[u8]) -> usize
         }
         count += step;
         last = octets[count - 1];
+    }
+    count
+}
+
+/// Whether four octets from a place on are all this one.
+fn are_four(octet: u8, octets: &[u8], at: usize) -> bool
+    requires { at + 4 ≤ length octets.now }
+    ensures { result ≡ true → take 4 (drop at octets.now) ≡ replicate 4 octet }
+{
+    let next = u32::from_le_bytes([octets[at], octets[at + 1], octets[at + 2], octets[at + 3]]);
+    next == u32::from(octet) * 0x0101_0101
+}
+
+/// The number of octets from the front, in fours, that are all this one.
+fn same_fours(octet: u8, octets: &[u8]) -> usize
+    ensures within { result ≤ length octets.now }
+    ensures same { take result octets.now ≡ replicate result octet }
+{
+    let mut count = 0;
+    while octets.len() - count >= 4 {
+        if !are_four(octet, octets, count) {
+            return count;
+        }
+        count += 4;
     }
     count
 }
@@ -227,7 +269,7 @@ impl FlagFinder {
         if !self.repeats() {
             return 0;
         }
-        let mut count = 0;
+        let mut count = same_fours(self.window, octets);
         while count < octets.len() {
             if octets[count] != self.window {
                 return count;
@@ -249,12 +291,8 @@ impl FlagFinder {
             return;
         }
         if self.held == 8 {
-            self.gap.push_octet(self.window);
+            self.gap.push_run(self.window, &octets[..count - 1]);
             self.window = octets[count - 1];
-            if count == 1 {
-                return;
-            }
-            self.gap.push_octets(&octets[..count - 1]);
             return;
         }
         self.window = octets[count - 1];
@@ -262,7 +300,10 @@ impl FlagFinder {
             return;
         }
         self.held = 8;
-        self.gap.push_octets(&octets[..count - 1]);
+        if count == 1 {
+            return;
+        }
+        self.gap.push_run(octets[0], &octets[1..count - 1]);
     }
 
     /// Takes octets if no flag ends in them, and returns whether it did; else nothing changed.
@@ -282,6 +323,49 @@ impl FlagFinder {
         true
     }
 
+    /// Takes an octet if no flag ends in it, when none or all of the last eight bits came after the last flag,
+    /// and returns whether it did; else nothing changed.
+    fn take_quiet_octet(&mut self, octet: u8) -> bool
+        ensures taken { result ≡ true → (counts : AnyCounts) (queue : List (List ℕ)) (bits : List Bool) (handed : ℕ)
+            → PartsAfter self.old counts queue bits handed
+            → PartsAfter self.new counts queue (bits ++ bits_of LsbFirst (octet ∷ [])) handed }
+        ensures left { result ≡ false → self.new ≡ self.old }
+    {
+        if self.held % 8 != 0 {
+            return false;
+        }
+        if !ends_no_flag(self.window, octet) {
+            return false;
+        }
+        let first = self.window;
+        self.window = octet;
+        if self.held == 8 {
+            self.gap.push_octet(first);
+            return true;
+        }
+        if !self.begun {
+            return true;
+        }
+        self.held = 8;
+        true
+    }
+
+    /// Takes an octet if it changes no count and brings no content, and returns whether it did; else nothing
+    /// changed.
+    fn take_octet(&mut self, octet: u8) -> bool
+        ensures taken { result ≡ true → (counts : AnyCounts) (queue : List (List ℕ)) (bits : List Bool) (handed : ℕ)
+            → PartsAfter self.old counts queue bits handed
+            → PartsAfter self.new counts queue (bits ++ bits_of LsbFirst (octet ∷ [])) handed }
+        ensures left { result ≡ false → self.new ≡ self.old }
+    {
+        if octet == self.window {
+            if self.repeats() {
+                return true;
+            }
+        }
+        self.take_quiet_octet(octet)
+    }
+
     /// Takes a piece if it changes no count and brings no content, and returns whether it did; else nothing
     /// changed.
     pub fn take_piece(&mut self, piece: &[u8]) -> bool
@@ -290,6 +374,9 @@ impl FlagFinder {
             → PartsAfter self.new counts queue (bits ++ bits_of LsbFirst piece.now) handed }
         ensures left { result ≡ false → self.new ≡ self.old }
     {
+        if piece.len() == 1 {
+            return self.take_octet(piece[0]);
+        }
         if self.repeated_front(piece) == piece.len() {
             return true;
         }

@@ -10,7 +10,7 @@ ghost use Rattle.std.specs.Prelude.{◌≡◌, ◌<◌, ◌≤◌, ◌+◌, ◌%
 
 use crate::check_sequence::fcs;
 use crate::counts::Class;
-use crate::gathering::{Gathering, drained, gather_four};
+use crate::gathering::{Gathering, drained, gather_few, gather_four};
 use crate::octet_buffer::OctetBuffer;
 use crate::unstuffing::unstuffed;
 use byteorder::{ByteOrder, LittleEndian};
@@ -95,31 +95,6 @@ impl Gap {
         self.unstuffed.push(bit);
     }
 
-    /// Takes the bits of a few octets more, the least significant of each first.
-    fn push_each(&mut self, octets: &[u8])
-        ensures { (gap : List Bool) → Collects self.old gap → Collects self.new (gap ++ bits_of LsbFirst octets.now) }
-    {
-        let count = octets.len();
-        if count == 0 {
-            return;
-        }
-        let mut seen = self.seen;
-        let mut row = usize::from(self.ones.min(6)) * 256;
-        let mut aborted = self.aborted;
-        let mut pending = self.unstuffed.pending();
-        for octet in octets {
-            let left = unstuffed(row, *octet);
-            seen = 8;
-            row = left.row;
-            aborted |= left.sixth;
-            pending = self.unstuffed.push_after(pending, left.value, left.count);
-        }
-        self.seen = seen;
-        self.ones = (row / 256) as u8;
-        self.aborted = aborted;
-        self.unstuffed.end(pending);
-    }
-
     /// Takes the bits of an octet more, the least significant first.
     pub fn push_octet(&mut self, octet: u8)
         ensures { (gap : List Bool) → Collects self.old gap → Collects self.new (gap ++ bits_of LsbFirst (octet ∷ [])) }
@@ -150,36 +125,22 @@ impl Gap {
         }
     }
 
-    /// Takes the bits of four octets or more, in fours.
-    fn push_fours(&mut self, octets: &[u8])
-        requires fours { length octets.now % 4 ≡ 0 }
-        requires least { 0 < length octets.now }
-        ensures { (gap : List Bool) → Collects self.old gap → Collects self.new (gap ++ bits_of LsbFirst octets.now) }
+    /// Takes the bits of an octet and of the octets after it, the least significant of each first.
+    pub fn push_run(&mut self, first: u8, octets: &[u8])
+        ensures { (gap : List Bool) → Collects self.old gap → Collects self.new (gap ++ bits_of LsbFirst (first ∷ octets.now)) }
     {
-        let mut state = self.gathering();
+        let mut state = self.gathering().with(first);
         let mut at = 0;
-        while at < octets.len() {
+        while octets.len() - at >= 4 {
             state = gather_four(&mut self.unstuffed, state, octets, at);
             at += 4;
         }
-        let last = drained(&mut self.unstuffed, state);
+        let all = gather_few(state, &octets[at..]);
+        let last = drained(&mut self.unstuffed, all);
         self.seen = 8;
         self.ones = (last.row / 256) as u8;
         self.aborted = last.aborted;
         self.unstuffed.end(last.pending());
-    }
-
-    /// Takes the bits of more octets, the least significant of each first.
-    pub fn push_octets(&mut self, octets: &[u8])
-        ensures { (gap : List Bool) → Collects self.old gap → Collects self.new (gap ++ bits_of LsbFirst octets.now) }
-    {
-        let count = octets.len() / 4 * 4;
-        if count < 16 {
-            self.push_each(octets);
-            return;
-        }
-        self.push_fours(&octets[..count]);
-        self.push_each(&octets[count..]);
     }
 
     /// The class of the gap, if it ends here.

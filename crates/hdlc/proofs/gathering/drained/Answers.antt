@@ -3,7 +3,7 @@ use Rattle.hdlc.proofs.GatheringLemmas.{moved_out, out_fits}
 use Rattle.hdlc.proofs.gathering.drained.Goals as goal
 
 pub loop-rest-init : goal.loop-rest-init
-loop-rest-init c = record { sound = c.requires; gathers = λ gap old. old }
+loop-rest-init c = record { sound = c.settled-rest.ensures.sound; gathers = λ gap old. c.settled-rest.ensures.gathers gap old }
 
 pub loop-rest-preserved : goal.loop-rest-preserved
 loop-rest-preserved c =

@@ -5,6 +5,9 @@ use Rattle.hdlc.specs.Gathers.{Gathers}
 use Rattle.hdlc.proofs.GatheringLemmas.{four_joined, take_four}
 use Rattle.hdlc.proofs.gathering.gather_four.Goals as goal
 
+pub returns-then-is_plain-clause-gathers : goal.returns-then-is_plain-clause-gathers
+returns-then-is_plain-clause-gathers c gap old = c.settled.ensures.gathers _ (c.with_plain.ensures.gathers c.args.buffer.now gap old)
+
 pub returns-clause-gathers : goal.returns-clause-gathers
 returns-clause-gathers c gap old =
     let o : ℕ → ℕ = λ k. get_or c.args.octets.now k 0 in
@@ -15,7 +18,7 @@ returns-clause-gathers c gap old =
     ((gap ++ bits_of LsbFirst (o at ∷ [])) ++ bits_of LsbFirst (o (at + 1) ∷ [])) two in
     let four = c.with-four.ensures.gathers c.args.buffer.now
     (((gap ++ bits_of LsbFirst (o at ∷ [])) ++ bits_of LsbFirst (o (at + 1) ∷ [])) ++ bits_of LsbFirst (o (at + 2) ∷ [])) three in
-    subst (Gathers c.settled.new.buffer c.settled.result)
+    subst (Gathers c.settled-2.new.buffer c.settled-2.result)
     (four_joined gap (o at) (o (at + 1)) (o (at + 2)) (o (at + 3))
     ∙ ap (λ xs. gap ++ bits_of LsbFirst xs) (sym (take_four c.args.octets.now at c.requires.within)))
-    (c.settled.ensures.gathers _ four)
+    (c.settled-2.ensures.gathers _ four)

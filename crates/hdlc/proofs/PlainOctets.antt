@@ -1,0 +1,267 @@
+-- Octets with no stuffed bits, four at a time.
+use Rattle.std.proofs.Common.{◌≡◌, ℕ, zero, suc, ◌+◌, ◌-◌, ◌*◌, ◌/◌, ◌%◌, ◌^◌, ◌<◌, ◌≤◌, Bool, true, false, not, ◌&&◌, ◌||◌, List, [], ◌∷◌}
+use Rattle.std.proofs.Common.{◌++◌, length, cond, min, refl, ap, sym, ◌∙◌, arith, nat_lt, bit_and, subst}
+use Rattle.std.proofs.lemmas.Nat.{and_shr, shr-shr, pow-add}
+use Rattle.std.proofs.lemmas.Nat.Bits.{bit_at_and}
+use Rattle.std.proofs.lemmas.Bool.{and_parts, lt-ltb, ltb-true}
+use Rattle.std.specs.Int.{bit_at}
+use Rattle.raster.specs.Octets.{number}
+use Rattle.raster.specs.Packed.{bits_of}
+use Rattle.raster.specs.declared.packed.Order.TheVariants.{LsbFirst}
+use Rattle.raster.proofs.OctetBits.{octet_bits, bits_of-cons}
+use Rattle.raster.proofs.OctetLemmas.{number-octet_bits}
+use Rattle.hdlc.specs.declared.gathering.Gathering.{Gathering}
+use Rattle.hdlc.specs.declared.octet_buffer.OctetBuffer.{OctetBuffer}
+use Rattle.hdlc.specs.EightBits.{run_after, unstuffed_from, six_from, ones_at_end, plain}
+use Rattle.hdlc.specs.Gathers.{Gathers}
+use Rattle.hdlc.proofs.BitPlaces.{bits_of-one}
+use Rattle.hdlc.proofs.GatheringLemmas.{with_octet, four_joined}
+use Rattle.hdlc.proofs.PendingLemmas.{joined_fits}
+use Rattle.hdlc.proofs.QuietRuns.{number_octets}
+
+-- ---- what plain bits are
+
+less_if : (n : ℕ) → nat_lt n 5 ≡ true → n < 5
+less_if n h = ltb-true n 5 h
+
+plain_less : (n : ℕ) (bits : List Bool) → plain n bits ≡ true → n < 5
+plain_less n [] h = less_if n h
+plain_less n (b ∷ bits) h = less_if n (and_parts (nat_lt n 5) (plain (cond b (1 + n) 0) bits) h).0
+
+plain_rest : (n : ℕ) (b : Bool) (bits : List Bool) → plain n (b ∷ bits) ≡ true → plain (cond b (1 + n) 0) bits ≡ true
+plain_rest n b bits h = (and_parts (nat_lt n 5) (plain (cond b (1 + n) 0) bits) h).1
+
+run_is : (n : ℕ) (b : Bool) → n < 5 → run_after n b ≡ cond b (1 + n) 0
+run_is n true h = omega arith
+run_is n false h = refl
+
+plain_end : (bits : List Bool) (n : ℕ) → plain n bits ≡ true → ones_at_end n bits < 5
+plain_end [] n h = less_if n h
+plain_end (b ∷ bits) n h = plain_end bits (cond b (1 + n) 0) (plain_rest n b bits h)
+
+pub plain_same : (bits : List Bool) (n : ℕ) → plain n bits ≡ true → unstuffed_from n bits ≡ bits
+plain_same [] n h = refl
+plain_same (b ∷ bits) n h =
+    let few : n < 5 = plain_less n (b ∷ bits) h in
+    ap (λ t. cond t (b ∷ []) [] ++ unstuffed_from (run_after n b) bits) (lt-ltb n 5 few)
+    ∙ ap (λ xs. b ∷ xs) (ap (λ r. unstuffed_from r bits) (run_is n b few)
+    ∙ plain_same bits (cond b (1 + n) 0) (plain_rest n b bits h))
+
+plain_calm : (bits : List Bool) (n : ℕ) → plain n bits ≡ true → six_from n bits ≡ false
+plain_calm [] n h = refl
+plain_calm (b ∷ bits) n h =
+    let few : n < 5 = plain_less n (b ∷ bits) h in
+    ap (λ t. (not t && b) || six_from (run_after n b) bits) (lt-ltb n 5 few)
+    ∙ (ap (λ r. six_from r bits) (run_is n b few) ∙ plain_calm bits (cond b (1 + n) 0) (plain_rest n b bits h))
+
+plain_front : (xs ys : List Bool) (n : ℕ) → plain n (xs ++ ys) ≡ true → plain n xs ≡ true
+plain_front [] ys n h = lt-ltb n 5 (plain_less n ys h)
+plain_front (x ∷ xs) ys n h =
+    rw (lt-ltb n 5 (plain_less n (x ∷ (xs ++ ys)) h)) (plain_front xs ys (cond x (1 + n) 0) (plain_rest n x (xs ++ ys) h))
+
+plain_back : (xs ys : List Bool) (n : ℕ) → plain n (xs ++ ys) ≡ true → plain (ones_at_end n xs) ys ≡ true
+plain_back [] ys n h = h
+plain_back (x ∷ xs) ys n h = plain_back xs ys (cond x (1 + n) 0) (plain_rest n x (xs ++ ys) h)
+
+-- ---- bits with a 0 end with as many 1 bits in a row, whatever came before them
+
+end_most : (bits : List Bool) (n : ℕ) → ones_at_end n bits ≤ n + length bits
+end_most [] n = omega arith
+end_most (true ∷ bits) n = omega (arith, end_most bits (1 + n))
+end_most (false ∷ bits) n = omega (arith, end_most bits 0)
+
+end_more : (bits : List Bool) (m n : ℕ) → m ≤ n → ones_at_end m bits ≤ ones_at_end n bits
+end_more [] m n h = h
+end_more (true ∷ bits) m n h = end_more bits (1 + m) (1 + n) (omega arith)
+end_more (false ∷ bits) m n h = omega arith
+
+end_alone : (bits : List Bool) (n : ℕ) → ones_at_end n bits < n + length bits → ones_at_end n bits ≡ ones_at_end 0 bits
+end_alone [] n h = absurd (omega arith)
+end_alone (true ∷ bits) n h =
+    let one : ones_at_end (1 + n) bits ≡ ones_at_end 0 bits = end_alone bits (1 + n) (omega arith) in
+    let up : ones_at_end 1 bits ≤ ones_at_end (1 + n) bits = end_more bits 1 (1 + n) (omega arith) in
+    one ∙ sym (end_alone bits 1 (omega (arith, end_most bits 0)))
+end_alone (false ∷ bits) n h = refl
+
+pub plain_alone : (bits : List Bool) (n : ℕ) → 5 ≤ length bits → plain n bits ≡ true → ones_at_end n bits ≡ ones_at_end 0 bits
+plain_alone bits n h fine = end_alone bits n (omega (arith, plain_end bits n fine))
+
+-- ---- the test, by a number
+
+abbrev pub fives : ℕ → ℕ
+fives x = bit_and (bit_and (bit_and x (x / 2)) (bit_and x (x / 2) / 4)) (x / 16)
+
+fives_half : (x : ℕ) → fives (x / 2) ≡ fives x / 2
+fives_half x =
+    let pairs : ℕ = bit_and x (x / 2) in
+    let half : bit_and (x / 2) (x / 2 / 2) ≡ pairs / 2 = sym (and_shr x (x / 2) 1) in
+    let four : pairs / 2 / 4 ≡ pairs / 4 / 2 = omega arith in
+    let sixteen : x / 2 / 16 ≡ x / 16 / 2 = omega arith in
+    rw (half, four, sixteen) (ap (λ n. bit_and n (x / 16 / 2)) (sym (and_shr pairs (pairs / 4) 1))
+    ∙ sym (and_shr (bit_and pairs (pairs / 4)) (x / 16) 1))
+
+fives_down : (k x : ℕ) → fives x ≡ 0 → fives (x / 2 ^ k) ≡ 0
+fives_down zero x h =
+    let same : x / 1 ≡ x = omega arith in
+    ap fives same ∙ h
+fives_down (suc k) x h =
+    let power : 1 + k ≡ suc k = omega arith in
+    sym (ap fives (shr-shr x 1 k ∙ ap (λ n. x / 2 ^ n) power)) ∙ fives_down k (x / 2) (fives_half x ∙ ap (λ n. n / 2) h)
+
+five_low : (x : ℕ) → x % 32 ≡ 31 → fives x % 2 ≡ 1
+five_low x h =
+    let pairs : ℕ = bit_and x (x / 2) in
+    let p0 : bit_at pairs 0 ≡ 1 = bit_at_and x (x / 2) 0 ∙ (rw (bit x 0 (omega arith), bit (x / 2) 0 (omega arith)) refl) in
+    let p2 : bit_at (pairs / 4) 0 ≡ 1 = ap (λ n. bit_at n 0) (and_shr x (x / 2) 2)
+    ∙ (bit_at_and (x / 4) (x / 2 / 4) 0 ∙ (rw (bit (x / 4) 0 (omega arith), bit (x / 2 / 4) 0 (omega arith)) refl)) in
+    let four : bit_at (bit_and pairs (pairs / 4)) 0 ≡ 1 = bit_at_and pairs (pairs / 4) 0 ∙ (rw (p0, p2) refl) in
+    let five : bit_at (fives x) 0 ≡ 1 =
+    bit_at_and (bit_and pairs (pairs / 4)) (x / 16) 0 ∙ (rw (four, bit (x / 16) 0 (omega arith)) refl) in
+    omega arith
+  where
+    bit : (y k : ℕ) → y / 2 ^ k % 2 ≡ 1 → bit_at y k ≡ 1
+    bit y k e = e
+
+low_few : (m n : ℕ) → n ≤ 6 → fives ((m + 1) * 2 ^ n - 1) ≡ 0 → n < 5
+low_few m zero h e = omega arith
+low_few m (suc zero) h e = omega arith
+low_few m (suc (suc zero)) h e = omega arith
+low_few m (suc (suc (suc zero))) h e = omega arith
+low_few m (suc (suc (suc (suc zero)))) h e = omega arith
+low_few m (suc (suc (suc (suc (suc zero))))) h e =
+    let five = five_low ((m + 1) * 32 - 1) (omega arith) in
+    absurd (omega arith)
+low_few m (suc (suc (suc (suc (suc (suc zero)))))) h e =
+    let five = five_low ((m + 1) * 64 - 1) (omega arith) in
+    absurd (omega arith)
+low_few m (suc (suc (suc (suc (suc (suc (suc n))))))) h e = absurd (omega arith)
+
+up : (m n : ℕ) → n < 5 → (1 + 2 * m + 1) * 2 ^ n - 1 ≡ (m + 1) * 2 ^ (1 + n) - 1
+up m zero h = omega arith
+up m (suc zero) h = omega arith
+up m (suc (suc zero)) h = omega arith
+up m (suc (suc (suc zero))) h = omega arith
+up m (suc (suc (suc (suc zero)))) h = omega arith
+up m (suc (suc (suc (suc (suc n))))) h = absurd (omega arith)
+
+down : (m n : ℕ) → n < 5 → ((0 + 2 * m + 1) * 2 ^ n - 1) / 2 ^ (1 + n) ≡ (m + 1) * 2 ^ 0 - 1
+down m zero h = omega arith
+down m (suc zero) h = omega arith
+down m (suc (suc zero)) h = omega arith
+down m (suc (suc (suc zero))) h = omega arith
+down m (suc (suc (suc (suc zero)))) h = omega arith
+down m (suc (suc (suc (suc (suc n))))) h = absurd (omega arith)
+
+pub plain_if : (bits : List Bool) (n : ℕ) → n ≤ 6 → fives ((number bits + 1) * 2 ^ n - 1) ≡ 0 → plain n bits ≡ true
+plain_if [] n h e = lt-ltb n 5 (low_few 0 n h e)
+plain_if (true ∷ bits) n h e =
+    let few : n < 5 = low_few (1 + 2 * number bits) n h e in
+    rw (lt-ltb n 5 few) (plain_if bits (1 + n) (omega arith) (sym (ap fives (up (number bits) n few)) ∙ e))
+plain_if (false ∷ bits) n h e =
+    let few : n < 5 = low_few (0 + 2 * number bits) n h e in
+    rw (lt-ltb n 5 few) (plain_if bits 0 (omega arith)
+    (sym (ap fives (down (number bits) n few)) ∙ fives_down (1 + n) ((0 + 2 * number bits + 1) * 2 ^ n - 1) e))
+
+pub number_four : (a b c d : ℕ) → a < 256 → b < 256 → c < 256 → d < 256
+    → number (bits_of LsbFirst (a ∷ b ∷ c ∷ d ∷ [])) ≡ a + 256 * (b + 256 * (c + 256 * d))
+number_four a b c d la lb lc ld =
+    number_octets a (b ∷ c ∷ d ∷ []) la ∙ ap (λ m. a + 256 * m)
+    (number_octets b (c ∷ d ∷ []) lb ∙ ap (λ m. b + 256 * m)
+    (number_octets c (d ∷ []) lc ∙ ap (λ m. c + 256 * m) (ap number (bits_of-one d) ∙ number-octet_bits d ld)))
+
+-- the 1 bits before, and 32 bits: nothing is lost
+pub all_fits : (n word : ℕ) → n ≤ 6 → word < 4294967296
+    → ((word + 1) * 2 ^ n % 2 ^ 64 ≡ (word + 1) * 2 ^ n) × (1 ≤ (word + 1) * 2 ^ n % 2 ^ 64)
+all_fits zero word h small = (omega arith, omega arith)
+all_fits (suc zero) word h small = (omega arith, omega arith)
+all_fits (suc (suc zero)) word h small = (omega arith, omega arith)
+all_fits (suc (suc (suc zero))) word h small = (omega arith, omega arith)
+all_fits (suc (suc (suc (suc zero)))) word h small = (omega arith, omega arith)
+all_fits (suc (suc (suc (suc (suc zero))))) word h small = (omega arith, omega arith)
+all_fits (suc (suc (suc (suc (suc (suc zero)))))) word h small = (omega arith, omega arith)
+all_fits (suc (suc (suc (suc (suc (suc (suc n))))))) word h small = absurd (omega arith)
+
+-- ---- plain octets come to an open gap
+
+or_false : (x : Bool) → (x || false) ≡ x
+or_false true = refl
+or_false false = refl
+
+plain_octet : (a : OctetBuffer) (g h : Gathering) (gap : List Bool) (o : ℕ) → Gathers a g gap → g.bits < 2 ^ g.part → g.last < 256
+    → o < 256 → plain (g.row / 256) (octet_bits o) ≡ true → h.bits ≡ g.bits + o * 2 ^ g.part → h.part ≡ g.part + 8 → h.last ≡ g.last
+    → h.row ≡ ones_at_end (g.row / 256) (octet_bits o) * 256 → h.aborted ≡ g.aborted → Gathers a h (gap ++ bits_of LsbFirst (o ∷ []))
+plain_octet a g h gap o old fits small fine calm bits part last row aborted =
+    let n : ℕ = g.row / 256 in
+    let eight : List Bool = octet_bits o in
+    let less : n < 5 = plain_less n eight calm in
+    let few : min 5 n ≡ n = omega arith in
+    let same : unstuffed_from (min 5 n) eight ≡ eight = ap (λ m. unstuffed_from m eight) few ∙ plain_same eight n calm in
+    let none : six_from (min 5 n) eight ≡ false = ap (λ m. six_from m eight) few ∙ plain_calm eight n calm in
+    let end : ones_at_end n eight < 5 = plain_end eight n calm in
+    let top : min 6 (ones_at_end n eight) ≡ ones_at_end n eight = omega arith in
+    rw (bits_of-one o) (with_octet a g h gap eight old fits small (rw same (omega arith))
+    (bits ∙ ap (λ m. g.bits + m * 2 ^ g.part) (sym (ap number same ∙ number-octet_bits o fine)))
+    (part ∙ ap (λ xs. g.part + length xs) (sym same)) last (row ∙ ap (λ m. m * 256) (sym top))
+    (aborted ∙ sym (ap (λ t. g.aborted || t) none ∙ or_false g.aborted)))
+
+four_sum : (b q o1 o2 o3 o4 : ℕ) → b + (o1 + 256 * (o2 + 256 * (o3 + 256 * o4))) * q
+    ≡ b + o1 * q + o2 * (q * 256) + o3 * (q * 256 * 256) + o4 * (q * 256 * 256 * 256)
+four_sum b q o1 o2 o3 o4 = omega arith
+
+pub plain_four : (a : OctetBuffer) (g h : Gathering) (gap : List Bool) (o1 o2 o3 o4 word : ℕ) → Gathers a g gap → g.bits < 2 ^ g.part
+    → g.last < 256 → o1 < 256 → o2 < 256 → o3 < 256 → o4 < 256 → word ≡ o1 + 256 * (o2 + 256 * (o3 + 256 * o4))
+    → plain (g.row / 256) (bits_of LsbFirst (o1 ∷ o2 ∷ o3 ∷ o4 ∷ [])) ≡ true → h.bits ≡ g.bits + word * 2 ^ g.part → h.part ≡ g.part + 32
+    → h.last ≡ g.last → h.row ≡ min 6 (ones_at_end 0 (octet_bits o4)) * 256 → h.aborted ≡ g.aborted
+    → Gathers a h (gap ++ bits_of LsbFirst (o1 ∷ o2 ∷ o3 ∷ o4 ∷ []))
+plain_four a g h gap o1 o2 o3 o4 word old fits small l1 l2 l3 l4 value calm bits part last row aborted =
+    let p : ℕ = g.part in
+    let n0 : ℕ = g.row / 256 in
+    let a1 : List Bool = octet_bits o1 in
+    let a2 : List Bool = octet_bits o2 in
+    let a3 : List Bool = octet_bits o3 in
+    let a4 : List Bool = octet_bits o4 in
+    let split : bits_of LsbFirst (o1 ∷ o2 ∷ o3 ∷ o4 ∷ []) ≡ a1 ++ (a2 ++ (a3 ++ a4)) =
+    bits_of-cons o1 (o2 ∷ o3 ∷ o4 ∷ []) ∙ ap (λ r. a1 ++ r) (bits_of-cons o2 (o3 ∷ o4 ∷ []) ∙ ap (λ r. a2 ++ r)
+    (bits_of-cons o3 (o4 ∷ []) ∙ ap (λ r. a3 ++ r) (bits_of-one o4))) in
+    let c1 : plain n0 (a1 ++ (a2 ++ (a3 ++ a4))) ≡ true = ap (plain n0) (sym split) ∙ calm in
+    let n1 : ℕ = ones_at_end n0 a1 in
+    let c2 : plain n1 (a2 ++ (a3 ++ a4)) ≡ true = plain_back a1 (a2 ++ (a3 ++ a4)) n0 c1 in
+    let n2 : ℕ = ones_at_end n1 a2 in
+    let c3 : plain n2 (a3 ++ a4) ≡ true = plain_back a2 (a3 ++ a4) n1 c2 in
+    let n3 : ℕ = ones_at_end n2 a3 in
+    let c4 : plain n3 a4 ≡ true = plain_back a3 a4 n2 c3 in
+    let g1 : Gathering = record { bits = g.bits + o1 * 2 ^ p; part = p + 8; last = g.last; row = n1 * 256; aborted = g.aborted } in
+    let f1 : g1.bits < 2 ^ g1.part = joined_fits p 8 g.bits o1 fits l1 in
+    let r1 : n1 * 256 / 256 ≡ n1 = omega arith in
+    let s1 = plain_octet a g g1 gap o1 old fits small l1 (plain_front a1 (a2 ++ (a3 ++ a4)) n0 c1) refl refl refl refl refl in
+    let g2 : Gathering = record { bits = g1.bits + o2 * 2 ^ (p + 8); part = p + 8 + 8; last = g.last; row = n2 * 256; aborted = g.aborted } in
+    let f2 : g2.bits < 2 ^ g2.part = joined_fits (p + 8) 8 g1.bits o2 f1 l2 in
+    let r2 : n2 * 256 / 256 ≡ n2 = omega arith in
+    let s2 = plain_octet a g1 g2 (gap ++ bits_of LsbFirst (o1 ∷ [])) o2 s1 f1 small l2
+    (ap (λ n. plain n a2) r1 ∙ plain_front a2 (a3 ++ a4) n1 c2) refl refl refl (ap (λ n. ones_at_end n a2 * 256) (sym r1)) refl in
+    let g3 : Gathering = record {
+      bits = g2.bits + o3 * 2 ^ (p + 8 + 8);
+      part = p + 8 + 8 + 8;
+      last = g.last;
+      row = n3 * 256;
+      aborted = g.aborted;
+    } in
+    let f3 : g3.bits < 2 ^ g3.part = joined_fits (p + 8 + 8) 8 g2.bits o3 f2 l3 in
+    let r3 : n3 * 256 / 256 ≡ n3 = omega arith in
+    let s3 = plain_octet a g2 g3 ((gap ++ bits_of LsbFirst (o1 ∷ [])) ++ bits_of LsbFirst (o2 ∷ [])) o3 s2 f2 small l3
+    (ap (λ n. plain n a3) r2 ∙ plain_front a3 a4 n2 c3) refl refl refl (ap (λ n. ones_at_end n a3 * 256) (sym r2)) refl in
+    let q1 : 2 ^ (p + 8) ≡ 2 ^ p * 256 = pow-add 2 p 8 in
+    let q2 : 2 ^ (p + 8 + 8) ≡ 2 ^ p * 256 * 256 = pow-add 2 (p + 8) 8 ∙ ap (λ m. m * 256) q1 in
+    let q3 : 2 ^ (p + 8 + 8 + 8) ≡ 2 ^ p * 256 * 256 * 256 = pow-add 2 (p + 8 + 8) 8 ∙ ap (λ m. m * 256) q2 in
+    let sum : h.bits ≡ g3.bits + o4 * 2 ^ (p + 8 + 8 + 8) =
+    bits ∙ (ap (λ w. g.bits + w * 2 ^ p) value ∙ (four_sum g.bits (2 ^ p) o1 o2 o3 o4
+    ∙ sym (ap (λ m. g.bits + o1 * 2 ^ p + o2 * m + o3 * 2 ^ (p + 8 + 8) + o4 * 2 ^ (p + 8 + 8 + 8)) q1
+    ∙ (ap (λ m. g.bits + o1 * 2 ^ p + o2 * (2 ^ p * 256) + o3 * m + o4 * 2 ^ (p + 8 + 8 + 8)) q2
+    ∙ ap (λ m. g.bits + o1 * 2 ^ p + o2 * (2 ^ p * 256) + o3 * (2 ^ p * 256 * 256) + o4 * m) q3)))) in
+    let end : ones_at_end n3 a4 < 5 = plain_end a4 n3 c4 in
+    let alone : ones_at_end n3 a4 ≡ ones_at_end 0 a4 = plain_alone a4 n3 (omega arith) c4 in
+    let top : min 6 (ones_at_end 0 a4) ≡ ones_at_end n3 a4 = omega arith in
+    let s4 = plain_octet a g3 h (((gap ++ bits_of LsbFirst (o1 ∷ [])) ++ bits_of LsbFirst (o2 ∷ [])) ++ bits_of LsbFirst (o3 ∷ [])) o4 s3 f3
+    small l4 (ap (λ n. plain n a4) r3 ∙ c4) sum (part ∙ omega arith) last
+    (row ∙ (ap (λ m. m * 256) top ∙ ap (λ n. ones_at_end n a4 * 256) (sym r3))) aborted in
+    subst (Gathers a h) (four_joined gap o1 o2 o3 o4) s4
