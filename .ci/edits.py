@@ -1,9 +1,9 @@
 #!/usr/bin/env python3
-"""Holds each must-fail edit against its crate, each source against the formatter and each module's name, before the gate spends an hour:
+"""Holds each planted bug against its crate, each source against the formatter and each module's name, before the gate spends an hour:
 
     .ci/edits.py
 
-Each `old:` text of crates/*/must-fail/*.edit, and of bench/plant/edits/*/*.edit, which the gate doesn't try, stands exactly once in the
+Each `old:` text of .ci/must-fail/*/*.edit, and of bench/plant/edits/*/*.edit, which the gate doesn't try, stands exactly once in the
 file that the edit names, after the pairs before it; each .rt and .antt file is as the kit's formatter writes it; and no module has the
 name of a library that its crate uses. Prints what is wrong and ends with status 1, or prints one line of counts. It needs Python's
 standard library and the kit's `rattle`."""
@@ -66,7 +66,8 @@ def shadowed(line):
 
 def main():
     crates = sorted(path for path in (TOP / "crates").iterdir() if path.is_dir())
-    folders = [(folder, crate) for crate in crates for folder in (crate / "must-fail", TOP / "bench" / "plant" / "edits" / crate.name)]
+    places = [TOP / ".ci" / "must-fail", TOP / "bench" / "plant" / "edits"]
+    folders = [(place / crate.name, crate) for crate in crates for place in places]
     edits = [(edit, crate) for folder, crate in folders for edit in sorted(folder.glob("*.edit"))]
     wrong = [f"{crate.name}/{edit.name}: {fault}" for edit, crate in edits for fault in faults_of(edit, crate)]
     for crate in crates:

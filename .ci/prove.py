@@ -1,15 +1,15 @@
 #!/usr/bin/env python3
-"""Proves each crate, and tries its must-fail edits and tests, in the order that ends soonest:
+"""Proves each crate, and tries the bugs that are planted in it and its tests, in the order that ends soonest:
 
     .ci/prove.py
 
-`rt ci` over the whole repository gives each proof one processor while others are ready, and edits the rest, so the longest chain of
-crates takes as long as one processor needs for it. Here runs of `rt ci` go side by side: one has the longest chain, crate by crate, with
-half of the processors; as many runs as that is have the crates beside it; and as many again, at a low priority, have the edits and tests of
-what is proved, in which the others help once they are done. All but the chain's give a proof one processor: more end it sooner, and cost up
-to twice as much in all. Each run is over a copy with the crates that are wanted, and keeps what passes: the gate's own `rt ci`, over the
-whole checkout, takes it from there. Prints the minutes and processor minutes of each. Ends with status 1, and with what `rt ci` said, if
-something fails."""
+`rt ci` over the whole repository gives each proof one processor while others are ready, so the longest chain of crates takes as long as
+one processor needs for it. Here runs of `rt ci` go side by side: one has the longest chain, crate by crate, with half of the processors; as
+many runs as that is have the crates beside it; and as many again, at a low priority, have the planted bugs (must_fail.py) and tests of what
+is proved, in which the others help once they are done. All but the chain's give a proof one processor: more end it sooner, and cost up to
+twice as much in all. Each run is over a copy with the crates that are wanted, and keeps what passes: the gate's own `rt ci`, over the whole
+checkout, takes it from there. Prints the minutes and processor minutes of each. Ends with status 1, and with what was said, if something
+fails."""
 import os
 import re
 import shutil
@@ -21,7 +21,7 @@ import time
 from pathlib import Path
 
 TOP = Path(__file__).resolve().parent.parent
-# Nothing stands on these, and they are proved beside the edits.
+# Nothing stands on these, and they are proved beside the planted bugs.
 OF_TESTS = re.compile(r".*_tests|uses|stream_tool")
 PROCESSORS = sorted(os.sched_getaffinity(0))
 
@@ -63,12 +63,11 @@ def longest_chain(crates):
     return chain
 
 
-def copy_crates(crates, name, has_edits, to):
-    """The sources of a crate and of those below it, as a repository; without edits, but the crate's own where they are to be tried."""
+def copy_crates(crates, name, to):
+    """The sources of a crate and of those below it, as a repository."""
     wanted = below(crates, name)
     for other in wanted:
-        left = ["out"] if has_edits and other == name else ["out", "must-fail"]
-        shutil.copytree(TOP / "crates" / other, to / "crates" / other, ignore=shutil.ignore_patterns(*left))
+        shutil.copytree(TOP / "crates" / other, to / "crates" / other, ignore=shutil.ignore_patterns("out"))
     (to / "crates.txt").write_text("".join(line + "\n" for other, (line, _deps) in crates.items() if other in wanted))
     shutil.copy(TOP / "HANDLES", to / "HANDLES")
     (to / ".git").mkdir()
@@ -84,12 +83,29 @@ def with_one(command):
     return ["env", "RT_JOBS=1", *command]
 
 
+def run_in(room, command, does):
+    """Whether a command passes in a folder. Says how long it took, and what it said if it failed."""
+    begun = time.monotonic()
+    with tempfile.TemporaryFile("w+") as said:
+        run = subprocess.Popen(command, cwd=room, stdin=subprocess.DEVNULL, stdout=said, stderr=subprocess.STDOUT)
+        _pid, status, used = os.wait4(run.pid, 0)
+        run.returncode = os.waitstatus_to_exitcode(status)
+        minutes, cpu = (time.monotonic() - begun) / 60, (used.ru_utime + used.ru_stime) / 60
+        if run.returncode:
+            said.seek(0)
+            print(said.read(), end="")
+    ends = "failed" if run.returncode else "passed"
+    print(f"prove: {does} {ends}, {minutes:.1f} minutes, {cpu:.1f} of a processor", flush=True)
+    return not run.returncode
+
+
 class Run:
     """The crates, which of them are proved, and which failed."""
 
     def __init__(self, crates):
         self.crates, self.proved, self.failed, self.to_try = crates, set(), [], []
-        self.of_proof = {name for name in crates if not OF_TESTS.fullmatch(name)}
+        self.of_tests = [name for name in crates if OF_TESTS.fullmatch(name)]
+        self.of_proof = set(crates) - set(self.of_tests)
         self.sources = subprocess.run(["packaging/trust.py", "--sources"], cwd=TOP, check=True, capture_output=True, text=True).stdout.strip()
         self.changed = threading.Condition()
 
@@ -99,26 +115,21 @@ class Run:
             self.proved.add(name)
             self.changed.notify_all()
 
-    def prove(self, name, has_edits=False, niceness=0, share=with_one):
-        """Proves a crate and those below it that aren't kept, or tries its edits and tests, and says how long that took."""
-        begun = time.monotonic()
-        with tempfile.TemporaryDirectory(prefix="prove-") as room, tempfile.TemporaryFile("w+") as said:
-            copy_crates(self.crates, name, has_edits, Path(room))
-            command = share(["nice", "-n", str(niceness), "rt", "ci"])
-            run = subprocess.Popen(command, cwd=room, stdin=subprocess.DEVNULL, stdout=said, stderr=subprocess.STDOUT)
-            _pid, status, used = os.wait4(run.pid, 0)
-            run.returncode = os.waitstatus_to_exitcode(status)
-            minutes, cpu = (time.monotonic() - begun) / 60, (used.ru_utime + used.ru_stime) / 60
-            said.seek(0)
-            what = said.read()
-            if not run.returncode and not has_edits and self.is_static(name):
-                run.returncode = self.build_library(room)
-        if run.returncode:
-            print(what, end="")
-        does = "edits and tests" if has_edits else "proof"
-        ends = "failed" if run.returncode else "passed"
-        print(f"prove: {name}: {does} {ends}, {minutes:.1f} minutes, {cpu:.1f} of a processor", flush=True)
-        return not run.returncode
+    def prove(self, name, share=with_one):
+        """Proves a crate and those below it that aren't kept, and says how long that took."""
+        with tempfile.TemporaryDirectory(prefix="prove-") as room:
+            copy_crates(self.crates, name, Path(room))
+            is_well = run_in(room, share(["rt", "ci"]), f"{name}: proof")
+            return is_well and (not self.is_static(name) or not self.build_library(room))
+
+    def attempt(self, name):
+        """Tries the planted bugs and the tests of a crate at a low priority, and says how long that took."""
+        with tempfile.TemporaryDirectory(prefix="prove-") as room:
+            copy_crates(self.crates, name, Path(room))
+            is_tests = name in self.of_tests
+            is_well = run_in(room, ["nice", *with_one(["rt", "ci"])], f"{name}: {'tests' if is_tests else 'what is kept'}")
+            bugs = ["nice", str(TOP / ".ci" / "must_fail.py"), "crates", name]
+            return is_well and (is_tests or run_in(room, bugs, f"{name}: planted bugs"))
 
     def is_static(self, name):
         """Whether a crate is a library for C."""
@@ -151,22 +162,21 @@ class Run:
             return found
 
     def try_all(self):
-        """Tries the edits and the tests of crates once they are proved, with what the proofs leave of the processors."""
+        """Tries the planted bugs and the tests of crates once they are proved, with what the proofs leave of the processors."""
         while name := self.next_of(self.to_try, lambda name: below(self.crates, name)):
-            if not self.prove(name, True, 10):
+            if not self.attempt(name):
                 self.ended(name, False)
 
 
 def main():
     crates = read_crates()
     run = Run(crates)
-    of_tests = [name for name in crates if name not in run.of_proof]
     proved = {name: told for name, told in crates.items() if name in run.of_proof}
     chain, texts = longest_chain(proved), texts_above(proved)
     beside = sorted((name for name in proved if name not in chain), key=texts.get, reverse=True)
     print(f"prove: the longest chain is {' '.join(chain)}", flush=True)
-    with_edits = [name for name in crates if any((TOP / "crates" / name / "must-fail").glob("*.edit"))]
-    run.to_try = with_edits + of_tests
+    planted = [name for name in crates if (TOP / ".ci" / "must-fail" / name).is_dir()]
+    run.to_try = planted + run.of_tests
     others = max(1, len(PROCESSORS) // 2)
     lanes = [threading.Thread(target=run.prove_all, args=(chain, as_it_is))]
     lanes += [threading.Thread(target=run.prove_all, args=(beside,)) for _ in range(others)]

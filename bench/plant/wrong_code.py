@@ -35,7 +35,7 @@ def bodies():
 
 def copy_to(folder):
     """The repository's sources alone."""
-    kept = shutil.ignore_patterns("out", ".git", "must-fail")
+    kept = shutil.ignore_patterns("out", ".git")
     for name in (".ci", "bench", "crates", "docs", "packaging"):
         shutil.copytree(TOP / name, folder / name, ignore=kept)
     for name in ("crates.txt", "HANDLES"):

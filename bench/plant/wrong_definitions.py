@@ -209,7 +209,7 @@ def cut_down(crates):
     files |= {"src/laws.rt": laws, "src/lib.rt": LIBRARY}
     files["specs/Lib.antt"] = "".join(f"pub mod {name}\n" for name in SPECS)
     files["proofs/Lib.antt"] = "".join(f"pub mod {name}\n" for name in PROOFS)
-    for part in ["src", "specs", "proofs", "must-fail"]:
+    for part in ["src", "specs", "proofs"]:
         shutil.rmtree(f"{line}/{part}")
     for path, text in files.items():
         write(f"{line}/{path}", text)
