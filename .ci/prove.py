@@ -23,6 +23,8 @@ from pathlib import Path
 TOP = Path(__file__).resolve().parent.parent
 # Nothing stands on these, and they are proved beside the planted bugs.
 OF_TESTS = re.compile(r".*_tests|uses|stream_tool")
+# What is proved over one of these takes twice as long as other code.
+LARGE = re.compile(r"\b(serde_json|clap)\b")
 PROCESSORS = sorted(os.sched_getaffinity(0))
 
 
@@ -41,24 +43,26 @@ def below(crates, name):
     return found
 
 
-def size_of(name):
-    return sum(file.stat().st_size for part in ("src", "specs", "proofs") for file in (TOP / "crates" / name / part).rglob("*.*"))
+def weight_of(name, line):
+    """About how long a crate's proof takes: by the octets of its code, twice as long over the kit's larger libraries."""
+    code = sum(file.stat().st_size for file in (TOP / "crates" / name / "src").rglob("*.rt"))
+    return code * (2 if LARGE.search(line) else 1)
 
 
-def texts_above(crates):
-    """How much text each crate has with the longest chain of crates that stand on it."""
+def weights_above(crates):
+    """The weight of each crate with that of the heaviest chain of crates that stand on it."""
     found = {}
     for name in reversed(crates):
         above = [found[other] for other, (_line, deps) in crates.items() if name in deps]
-        found[name] = size_of(name) + max(above, default=0)
+        found[name] = weight_of(name, crates[name][0]) + max(above, default=0)
     return found
 
 
 def longest_chain(crates):
-    """The crates of the chain with the most text, lowest first."""
-    texts, chain, left = texts_above(crates), [], list(crates)
+    """The crates of the heaviest chain, lowest first."""
+    weights, chain, left = weights_above(crates), [], list(crates)
     while left:
-        chain.append(max(left, key=texts.get))
+        chain.append(max(left, key=weights.get))
         left = [name for name, (_line, deps) in crates.items() if chain[-1] in deps]
     return chain
 
@@ -145,20 +149,23 @@ class Run:
         print(f"prove: the library for C: {(time.monotonic() - begun) / 60:.1f} minutes", flush=True)
         return run.returncode
 
-    def prove_all(self, names, share=with_one):
-        """Proves these crates, in their order, which other lanes may take from too, and then tries edits and tests."""
-        while name := self.next_of(names, lambda name: below(self.crates, name) - {name}):
+    def prove_all(self, names, share=with_one, others=()):
+        """Proves these crates, in their order, which other lanes may take from too, and of the others those that these wait for; and then
+        tries planted bugs and tests."""
+        while name := self.next_of(names, lambda name: below(self.crates, name) - {name}, others):
             self.ended(name, self.prove(name, share=share))
         self.try_all()
 
-    def next_of(self, names, needs):
-        """The first of these crates for which all that it needs is proved, which is left no more; None if none is left, or one has failed."""
+    def next_of(self, names, needs, others=()):
+        """The first of these crates for which all that it needs is proved, or else of the others that the first one needs, which is left no
+        more; None if none is left, or one has failed."""
         is_ready = lambda name: needs(name) & self.of_proof <= self.proved
+        awaited = lambda: [name for name in others if name in needs(names[0])] if names else []
         with self.changed:
-            self.changed.wait_for(lambda: self.failed or not names or any(map(is_ready, names)))
-            found = None if self.failed else next(filter(is_ready, names), None)
+            self.changed.wait_for(lambda: self.failed or not names or any(map(is_ready, names + awaited())))
+            found = None if self.failed else next(filter(is_ready, names + awaited()), None)
             if found:
-                names.remove(found)
+                (names if found in names else others).remove(found)
             return found
 
     def try_all(self):
@@ -172,13 +179,13 @@ def main():
     crates = read_crates()
     run = Run(crates)
     proved = {name: told for name, told in crates.items() if name in run.of_proof}
-    chain, texts = longest_chain(proved), texts_above(proved)
-    beside = sorted((name for name in proved if name not in chain), key=texts.get, reverse=True)
+    chain, weights = longest_chain(proved), weights_above(proved)
+    beside = sorted((name for name in proved if name not in chain), key=weights.get, reverse=True)
     print(f"prove: the longest chain is {' '.join(chain)}", flush=True)
     planted = [name for name in crates if (TOP / ".ci" / "must-fail" / name).is_dir()]
     run.to_try = planted + run.of_tests
     others = max(1, len(PROCESSORS) // 2)
-    lanes = [threading.Thread(target=run.prove_all, args=(chain, as_it_is))]
+    lanes = [threading.Thread(target=run.prove_all, args=(chain, as_it_is, beside))]
     lanes += [threading.Thread(target=run.prove_all, args=(beside,)) for _ in range(others)]
     lanes += [threading.Thread(target=run.try_all) for _ in range(others)]
     for lane in lanes:
