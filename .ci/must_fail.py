@@ -7,8 +7,8 @@ CRATES is the folder where the crates lie that `rt ci` has proved and built; the
 file: for each text that it changes a line `file:`, one `old:` and one `new:`; and `by: FUNCTION` where another function than the one that
 it changes refuses it. A proof of a function rests on what those that it calls promise, and not on their bodies. So the bugs of many
 functions are put into one copy of the crate, and these functions are checked at once. A bug is refused if a goal of its function became
-false; one that isn't is tried again without those that were, and at last alone. Prints for each what was refused, and a count. Ends with
-status 1 if one isn't refused."""
+false; one that isn't is tried again without those that were, and at last alone, where what calls its function may refuse it too. Prints for
+each what was refused, and a count. Ends with status 1 if one isn't refused."""
 import os
 import re
 import shutil
@@ -18,6 +18,7 @@ import tempfile
 from pathlib import Path
 
 from edits import PARTS, RATTLE, TOP, faults_of, pairs_of
+from prove import below, read_crates
 
 KIT = Path(os.environ.get("KIT", "/opt/rattle"))
 # How a function begins in a formatted source.
@@ -82,30 +83,17 @@ def changed_function(folder, crate, pairs):
     return None
 
 
-def rows():
-    """The crates that each crate names in crates.txt, of the repository and of the kit."""
-    lines = [line.split(":") for line in (TOP / "crates.txt").read_text().splitlines() if ":" in line and not line.startswith("#")]
-    return {name.split()[0]: lower.split() for name, lower in lines}
-
-
-def words_of(crates, crate):
+def words_of(built, crate):
     """The words by which `rattle check` reads a crate over those that are built in this folder."""
-    named = rows()
-    below = [name for name in named if name in closure(named, crate)]
+    crates = read_crates()
+    rlib = lambda name: f"{built}/{name}/out/rlib/{name}.rlib" if name in crates else f"{KIT}/rlibs/{name}.rlib"
     root = "src/main.rt" if (TOP / "crates" / crate / "src" / "main.rt").is_file() else "src/lib.rt"
     words = ["--crate-name", crate, root, "-L", f"dependency={KIT}/rlibs"]
-    for name in ["std", *named[crate]]:
-        rlib = crates / name / "out" / "rlib" / f"{name}.rlib" if name in named else KIT / "rlibs" / f"{name}.rlib"
-        words += ["--extern", f"{name}={rlib}"]
-    for name in below:
-        words += ["-L", f"dependency={crates}/{name}/out/rlib"]
+    for name in ["std", *crates[crate][0].split(":")[1].split()]:
+        words += ["--extern", f"{name}={rlib(name)}"]
+    for name in sorted(below(crates, crate) - {crate}):
+        words += ["-L", f"dependency={built}/{name}/out/rlib"]
     return words + ["--antt-project", f"{KIT}/rattle/logic/antt-project.json", "--logic-built", f"{KIT}/logic_built", "--links", f"{crate}="]
-
-
-def closure(named, crate):
-    """The crates of the repository below a crate."""
-    found = {name for name in named[crate] if name in named}
-    return found.union(*(closure(named, name) for name in found))
 
 
 def linked(source, target):
