@@ -118,25 +118,72 @@ fn next_row(octets: &[u8], order: Order, to: &Progress) -> Start
     }
 }
 
-/// Reads the row that comes next onto the page, in the memory of a list and of a painter of the page's width.
+/// Where a row may begin: the octets, their order of bits, and the place in these.
+#[derive(Clone, Copy)]
+struct RowBegin<'a> {
+    octets: &'a [u8],
+    order: Order,
+    place: u128,
+}
+
+impl<'a> RowBegin<'a> {
+    /// A reader that begins there.
+    #[inline(always)]
+    fn reader(self) -> BitReader<'a>
+        requires { self.place ≤ 8 * length self.octets.now }
+        ensures { result ≡ record { bits = bits_of self.entry.order self.entry.octets.now; place = self.entry.place } }
+    {
+        BitReader::at(self.octets, self.order, self.place)
+    }
+}
+
+/// Reads the row that comes next onto the page, in the memory of a list and of a painter of the page's width. A row that can't be read
+/// quickly is read again, by a reader made anew: one that is kept meanwhile takes registers from the quick one.
 fn read_row(
     alloc: Global,
-    mut reader: BitReader<'_>,
+    at: RowBegin<'_>,
     list: &mut Vec<u32>,
     painter: &mut Painter,
     to: &mut Progress,
 ) -> Result<(), CodeFault>
+    requires within { at.place ≤ 8 * length at.octets.now }
     requires room { length to.old.page.rows < max_rows }
     requires width { IsWidth to.old.page.width }
     requires wide { painter.old.width ≡ to.old.page.width }
     requires octets { painter.old.width + 64 ≤ 8 * length painter.old.octets.items }
-    ensures row { ReadsRowOfPage reader.entry.bits reader.entry.place to.old to.new result }
+    ensures row { ReadsRowOfPage (bits_of at.entry.order at.entry.octets.now) at.entry.place to.old to.new result }
     ensures wide { painter.new.width ≡ painter.old.width }
     ensures octets { painter.new.width + 64 ≤ 8 * length painter.new.octets.items }
 {
-    reader.read_row_onto(alloc, &mut to.page, list, painter)?;
-    to.place = reader.place();
-    Ok(())
+    let quick = at.reader();
+    if let Some(after) = quick.quick_row_onto(&mut to.page, painter)? {
+        to.place = after.place();
+        return Ok(());
+    }
+    read_row_by_runs(alloc, at.reader(), list, to)
+}
+
+/// Reads the row that comes next onto the page by its runs, in the memory of a list.
+#[cold]
+#[inline(never)]
+fn read_row_by_runs(
+    alloc: Global,
+    mut reader: BitReader<'_>,
+    list: &mut Vec<u32>,
+    to: &mut Progress,
+) -> Result<(), CodeFault>
+    requires room { length to.old.page.rows < max_rows }
+    requires width { IsWidth to.old.page.width }
+    ensures { ReadsRowOfPage reader.entry.bits reader.entry.place to.old to.new result }
+{
+    let row = reader.read_row_1d_in(alloc, to.page.width(), list)?;
+    match to.page.push_row(row) {
+        Ok(()) => {
+            to.place = reader.place();
+            Ok(())
+        }
+        Err(_) => Err(CodeFault::from(AllocError)),
+    }
 }
 
 /// Reads on in the order of the octets, as `read_on`.
@@ -157,8 +204,12 @@ fn read_in_order(
     loop {
         match next_row(octets, order, to) {
             Start::Row(place) => {
-                let reader = BitReader::at(octets, order, place);
-                read_row(alloc, reader, &mut list, &mut painter, to)?;
+                let at = RowBegin {
+                    octets,
+                    order,
+                    place,
+                };
+                read_row(alloc, at, &mut list, &mut painter, to)?;
                 white_rows(white, place, octets, order, to)?;
             }
             Start::End(used) => return Ok(used),

@@ -43,11 +43,7 @@ fn blacken_words(octets: &mut [u8], from: u32, end: u32)
     ensures set { (k : ℕ) → from ≤ k → k < end → bit_in Order.MsbFirst octets.new k ≡ true }
     ensures after { (k : ℕ) → end ≤ k → bit_in Order.MsbFirst octets.new k ≡ bit_in Order.MsbFirst octets.old k }
 {
-    let mut at = from;
-    while at < end {
-        store(octets, at, u64::MAX);
-        at += 64;
-    }
+    octets[(from / 8) as usize..(end / 8) as usize].fill(0xFF);
 }
 
 /// Sets all bits from one up to another, each the first of a word; mostly the two are the same.

@@ -1,10 +1,10 @@
 -- The tables by which codes are read hold what is picked of the code table.
 use Rattle.std.proofs.Common.{ℕ, ◌≡◌, ◌+◌, ◌-◌, ◌/◌, ◌^◌, ◌<◌, ◌≤◌, Bool, true, false, List, [], ◌∷◌, ◌++◌, map, length, replicate, get_or}
-use Rattle.std.proofs.Common.{Some, None, refl, ap, sym, ◌∙◌, arith, cond, ltb}
+use Rattle.std.proofs.Common.{Some, None, refl, ap, sym, ◌∙◌, ◌≢◌, arith, cond, inl, inr, ltb, subst, suc, zero}
 use mathlib.Core.Bool.{beq}
 use Rattle.std.specs.Prelude.{Option}
 use Rattle.std.specs.List.{range_with_len, list_all}
-use Rattle.std.proofs.lemmas.Bool.{ltb-true, and_parts, and_from, false≢true}
+use Rattle.std.proofs.lemmas.Bool.{cases_lt, ltb-true, and_parts, and_from, false≢true}
 use Rattle.std.proofs.lemmas.List.FromFn.{get_or-map-range_with_len, get_or-range_with_len, length-range_with_len}
 use Rattle.std.proofs.lemmas.List.FromFn.{length-map-range_with_len}
 use Rattle.std.proofs.lemmas.List.{get_or_append_left, get_or-append-add, length-append}
@@ -85,6 +85,19 @@ short_found color key l h =
     color - 4)) (key - 4) 0 (short_test color) within in
     rw (← entry_is color (number_text (short_bits color) key)) (ltb-true 0 _ (rw is at test))
 
+-- and those begin with none
+short_none : (color : Color) (key : ℕ) → key < 4 → (entry_of (codes_of color) (number_text (short_bits color) key)).1 ≡ 0
+unfolding entry_of number_text
+short_none White zero h = refl
+short_none White (suc zero) h = refl
+short_none White (suc (suc zero)) h = refl
+short_none White (suc (suc (suc zero))) h = refl
+short_none Black zero h = refl
+short_none Black (suc zero) h = refl
+short_none Black (suc (suc zero)) h = refl
+short_none Black (suc (suc (suc zero))) h = refl
+short_none color (suc (suc (suc (suc key)))) h = absurd (omega arith)
+
 -- the short table's entry of the first bits is that of all of them
 pub short_entry : (color : Color) (held : List (ℕ × ℕ)) (rest next key : ℕ) (d : ℕ × ℕ) → held ≡ entries (codes_of color) 0 (short_bits
     color)
@@ -152,6 +165,32 @@ short_held color held rest next key place d e sum is l h there =
     let short : List (ℕ × ℕ) = entries (codes_of color) 0 (short_bits color) in
     let at : place ≡ length long + key = there ∙ ap (λ n. n + key) (sym (held_long color long refl)) in
     rw (e, at) (get_or-append-add long short key d ∙ short_entry color short rest next key d refl sum is l h)
+
+-- an entry of the short table is 0 and 0 where all bits but the last two are 0, and nowhere else
+pub short_zero : (color : Color) (held : List (ℕ × ℕ)) (key place : ℕ) (d : ℕ × ℕ) → held ≡ held_entries color
+    → key < 2 ^ short_bits color → place ≡ 2 ^ (13 - long_zeros color) + key
+    → ((get_or held place d).1 ≡ 0 → key < 4) × ((get_or held place d).1 ≢ 0 → 4 ≤ key)
+unfolding entries
+short_zero color held key place d e h there =
+    let long : List (ℕ × ℕ) = entries (codes_of color) (long_zeros color) (13 - long_zeros color) in
+    let short : List (ℕ × ℕ) = entries (codes_of color) 0 (short_bits color) in
+    let f : ℕ → ℕ × ℕ = λ key. entry_of (codes_of color) (number_text (short_bits color) key) in
+    let at : place ≡ length long + key = there ∙ ap (λ n. n + key) (sym (held_long color long refl)) in
+    let is : get_or held place d ≡ f key = ap (λ (es : List (ℕ × ℕ)). get_or es place d) e ∙ (ap (λ n. get_or (long ++ short) n d) at ∙
+    (get_or-append-add long short key d ∙ get_or-map-range_with_len f 0 (2 ^ short_bits color) key key d h (omega arith))) in
+    let length_is : (get_or held place d).1 ≡ (f key).1 = ap (λ (entry : ℕ × ℕ). entry.1) is in
+    elim (cases_lt key 4) [
+      | inl few ↦ (λ zero. few, λ some. absurd (some (length_is ∙ short_none color key few)))
+      | inr many ↦ (
+        λ zero. absurd (omega (
+          arith,
+          zero,
+          length_is,
+          subst (λ (entry : ℕ × ℕ). 0 < entry.1) (sym (entry_is color (number_text (short_bits color) key))) (short_found color key many h),
+        )),
+        λ some. many,
+      )
+    ]
 
 pub long_places : (color : Color) → long_zeros color + (13 - long_zeros color) ≡ 13
 long_places White = refl

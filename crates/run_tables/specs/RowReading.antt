@@ -1,5 +1,5 @@
 -- The results of reading a one-dimensional row, and the reader after it (ITU-T T.4, 4.1.1).
-use Rattle.std.specs.Prelude.{ℕ, ◌≡◌, ◌≢◌, ◌+◌, ◌<◌, ◌≤◌, ◌++◌, ◌∷◌, [], Bool, true, false, List, length, replicate, None, Some, Option, Result, Ok, Err, sum, ◌⊎◌}
+use Rattle.std.specs.Prelude.{ℕ, ◌≡◌, ◌≢◌, ◌+◌, ◌<◌, ◌≤◌, ◌++◌, ◌∷◌, [], List, length, replicate, None, Some, Option, Result, Ok, Err, sum, ◌⊎◌}
 use Rattle.raster.specs.declared.row.Color.{Color}
 use Rattle.raster.specs.declared.row.Color.TheVariants.{White}
 use Rattle.raster.specs.declared.painting.Painter.{Painter}
@@ -79,17 +79,11 @@ abbrev pub IsQuickRow : ℕ → Reading → Reading → Option (List Color) → 
 IsQuickRow width old new None = new ≡ old
 IsQuickRow width old new (Some row) = (runs : List ℕ) × RowRuns width old new runs (Ok tt) × (row ≡ colored White runs)
 
--- a row as wide as a page was read by its runs and appended to the page, or nothing changed
-abbrev pub IsQuickRowOnto : PagePixels → PagePixels → Reading → Reading → Bool → Type 0
-IsQuickRowOnto page next old new false = (new ≡ old) × (next ≡ page)
-IsQuickRowOnto page next old new true = (row : List Color) × IsQuickRow page.width old new (Some row)
-    × (next ≡ record page { rows = page.rows ++ row ∷ [] })
-
 -- a row as wide as a page was read and appended to the page
 abbrev pub ReadsRowOnto : PagePixels → PagePixels → Reading → Reading → Type 0
 ReadsRowOnto page next old new = (row : List Color) × ReadsRow page.width old new row × (next ≡ record page { rows = page.rows ++ row ∷ [] })
 
--- a whole row was read so, or the row is refused; NoMemory says nothing of the row; a refusal leaves the page as it was
-abbrev pub WholeRowOnto : PagePixels → PagePixels → Reading → Reading → Result (Unit {0}) CodeFault → Type 0
-WholeRowOnto page next old new (Ok done) = ReadsRowOnto page next old new
-WholeRowOnto page next old new (Err fault) = (next ≡ page) × (fault.kind ≢ NoMemory → RefusesRow page.width old fault)
+-- a row was read and appended so, and this reader is after it; or the page is as it was
+abbrev pub IsQuickRowOnto : PagePixels → PagePixels → Reading → Option Reading → Type 0
+IsQuickRowOnto page next old None = next ≡ page
+IsQuickRowOnto page next old (Some new) = ReadsRowOnto page next old new

@@ -122,27 +122,20 @@ fn long_entry(color: Color, next: u32) -> (u16, u8)
     held[next as usize]
 }
 
-/// The run and the length of the code word of a color that begins 13 bits, or 0 and 0.
+/// The run and the length of the code word of a color that begins 13 bits, or 0 and 0. The entries by the first
+/// bits are 0 and 0 only where the 13 bits begin with the 0 bits of the others.
 #[inline(always)]
 pub(crate) fn entry(color: Color, next: u32) -> (u16, u8)
     requires { next < 2 ^ 13 }
     ensures { result ≡ entry_for color (number_text 13 next) }
 {
     let held = entries(color);
-    match color {
-        Color::White => {
-            if next < 64 {
-                long_entry(color, next)
-            } else {
-                held[64 + (next >> 4) as usize]
-            }
-        }
-        Color::Black => {
-            if next < 512 {
-                long_entry(color, next)
-            } else {
-                held[512 + (next >> 7) as usize]
-            }
-        }
+    let short = match color {
+        Color::White => held[64 + (next >> 4) as usize],
+        Color::Black => held[512 + (next >> 7) as usize],
+    };
+    if short.1 == 0 {
+        return long_entry(color, next);
     }
+    short
 }

@@ -382,10 +382,13 @@ impl<'a> BitReader<'a> {
     {
         let mut window = Window::at(self.look_ahead())?;
         window.pass(flag);
-        let first = window.run(color, room)?;
-        let second = window.run(color.other(), room - first)?;
+        // a color that is known as the code is made takes one table, without a choice at each code
+        let runs = match color {
+            Color::White => window.two_runs(Color::White, Color::Black, room)?,
+            Color::Black => window.two_runs(Color::Black, Color::White, room)?,
+        };
         *self = window.into_reader();
-        Some((first, second))
+        Some(runs)
     }
 
     /// `read_run_within` code by code.

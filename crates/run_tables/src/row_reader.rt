@@ -5,7 +5,7 @@ ghost use Rattle.raster.specs.Pages.{max_rows};
 ghost use Rattle.raster.specs.Painting.{FitsPainter};
 ghost use Rattle.raster.specs.Pixels.{IsWidth};
 ghost use Rattle.run_tables.specs.RowReading.{IsInRow, IsQuickRow, ReadsRow, RefusesRow, RowRuns, WholeRow};
-ghost use Rattle.run_tables.specs.RowReading.{IsQuickRowOnto, PaintsRow, PaintsRuns, ReadsRowOnto, WholeRowOnto};
+ghost use Rattle.run_tables.specs.RowReading.{IsQuickRowOnto, PaintsRow, PaintsRuns};
 ghost use Rattle.run_tables.specs.Reading.{Reading};
 ghost use Rattle.run_tables.specs.Windows.{IsWindow, passed};
 ghost use Rattle.std.specs.Bool.{OnTrue};
@@ -90,15 +90,20 @@ impl<'a> BitReader<'a> {
         Ok(Some(Row::of_painter(painter)))
     }
 
-    /// As `quick_row`, for a page that has room for the row, which is appended to it; `painter` is of the page's
-    /// width, and what it has painted doesn't matter. Returns whether a row was read; else nothing changed.
+    /// The reader after the next row, which is as wide as a page with room for it and is appended to that page, if
+    /// all of it can be read quickly. It is painted while it is read, in the memory of a painter of the page's
+    /// width; what that has painted doesn't matter. Else none, and the page is as it was.
     #[inline(always)]
-    fn quick_row_onto(&mut self, page: &mut Page, painter: &mut Painter) -> Result<bool, AllocError>
+    pub fn quick_row_onto(
+        self,
+        page: &mut Page,
+        painter: &mut Painter,
+    ) -> Result<Option<BitReader<'a>>, AllocError>
         requires width { IsWidth page.old.width }
         requires room { length page.old.rows < max_rows }
         requires wide { painter.old.width ≡ page.old.width }
         requires octets { painter.old.width + 64 ≤ 8 * length painter.old.octets.items }
-        ensures row { IfOk result (IsQuickRowOnto page.old page.new self.old self.new) }
+        ensures row { IfOk result (IsQuickRowOnto page.old page.new self.entry) }
         ensures page { OnErr result (page.new ≡ page.old) }
         ensures wide { painter.new.width ≡ painter.old.width }
         ensures octets { painter.new.width + 64 ≤ 8 * length painter.new.octets.items }
@@ -106,34 +111,31 @@ impl<'a> BitReader<'a> {
         let _place = self.place(); // shows the proof that it is within the bits
         let width = page.width();
         let Some(mut window) = Window::at(self.look_ahead()) else {
-            return Ok(false);
+            return Ok(None);
         };
         let Some(first) = window.run(Color::White, width) else {
-            return Ok(false);
+            return Ok(None);
         };
         if first == width {
             page.push_changes(&[])?;
-            *self = window.into_reader();
-            return Ok(true);
+            return Ok(Some(window.into_reader()));
         }
         let Some(second) = window.run(Color::Black, width - first) else {
-            return Ok(false);
+            return Ok(None);
         };
         if second == width {
             page.push_changes(&[0])?;
-            *self = window.into_reader();
-            return Ok(true);
+            return Ok(Some(window.into_reader()));
         }
         painter.restart();
         painter.push_run(first);
         painter.push_run(second);
         let all = self.paint_rest(&mut window, painter, width - first - second);
         if !all {
-            return Ok(false);
+            return Ok(None);
         }
         page.push_painted(painter)?;
-        *self = window.into_reader();
-        Ok(true)
+        Ok(Some(window.into_reader()))
     }
 
     /// Reads the runs of a row from a white one on, up to its end, and paints them. `self` is the reader at the
@@ -235,33 +237,6 @@ impl<'a> BitReader<'a> {
         Ok(Row::from_valid_runs(alloc, list)?)
     }
 
-    /// As `whole_row`, for a page that has room for the row, which is appended to it.
-    #[inline(always)]
-    fn whole_row_onto(
-        &mut self,
-        alloc: Global,
-        page: &mut Page,
-        list: &mut Vec<u32>,
-        painter: &mut Painter,
-    ) -> Result<(), CodeFault>
-        requires width { IsWidth page.old.width }
-        requires room { length page.old.rows < max_rows }
-        requires wide { painter.old.width ≡ page.old.width }
-        requires octets { painter.old.width + 64 ≤ 8 * length painter.old.octets.items }
-        ensures row { WholeRowOnto page.old page.new self.old self.new result }
-        ensures wide { painter.new.width ≡ painter.old.width }
-        ensures octets { painter.new.width + 64 ≤ 8 * length painter.new.octets.items }
-    {
-        if self.quick_row_onto(page, painter)? {
-            return Ok(());
-        }
-        let row = self.row_by_runs(alloc, page.width(), list)?;
-        match page.push_row(row) {
-            Ok(()) => Ok(()),
-            Err(_) => Err(CodeFault::from(AllocError)),
-        }
-    }
-
     /// Reads the next row in one dimension, `width` pixels wide: its run codes, white first (ITU-T T.4,
     /// 4.1.1). Errs at the run code that is refused: with `RunTooLong` (12) if it takes the row past the
     /// width, with `Truncated` (11) if the bits end inside a valid code or before one, else with `BadCode`
@@ -296,39 +271,6 @@ impl<'a> BitReader<'a> {
             Ok(row) => {
                 *self = ahead;
                 Ok(row)
-            }
-            Err(fault) => Err(fault.begun_at(self.place())),
-        }
-    }
-
-    /// As `read_row_1d_in`, for a page that has room for the row, which is as wide as the page and is appended to
-    /// it. The row is painted in the memory of a painter of the page's width; what it has painted doesn't matter,
-    /// before or after. An error changes neither the reader nor the page.
-    #[inline(always)]
-    pub fn read_row_onto(
-        &mut self,
-        alloc: Global,
-        page: &mut Page,
-        list: &mut Vec<u32>,
-        painter: &mut Painter,
-    ) -> Result<(), CodeFault>
-        requires width { IsWidth page.old.width }
-        requires room { length page.old.rows < max_rows }
-        requires wide { painter.old.width ≡ page.old.width }
-        requires octets { painter.old.width + 64 ≤ 8 * length painter.old.octets.items }
-        ensures reads { OnOk result (ReadsRowOnto page.old page.new self.old self.new) }
-        ensures refuses { IfErr result (λ fault. fault.kind ≢ CodeFaultKind.NoMemory → RefusesRow page.old.width self.old fault) }
-        ensures memory { IfErr result (λ fault. fault.kind ≡ CodeFaultKind.NoMemory → fault.place ≡ self.old.place) }
-        ensures stays { OnErr result (self.new ≡ self.old) }
-        ensures page { OnErr result (page.new ≡ page.old) }
-        ensures wide { painter.new.width ≡ painter.old.width }
-        ensures octets { painter.new.width + 64 ≤ 8 * length painter.new.octets.items }
-    {
-        let mut ahead = self.look_ahead();
-        match ahead.whole_row_onto(alloc, page, list, painter) {
-            Ok(()) => {
-                *self = ahead;
-                Ok(())
             }
             Err(fault) => Err(fault.begun_at(self.place())),
         }

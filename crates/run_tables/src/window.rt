@@ -1,6 +1,7 @@
 //! Reading of run codes from a word that is held: several of them with one load (ITU-T T.4, 4.1.1).
 
-ghost use Rattle.run_tables.specs.CodeReading.{ReadsRunWithin};
+ghost use Rattle.raster.specs.Pixels.{other};
+ghost use Rattle.run_tables.specs.CodeReading.{ReadsRunWithin, ReadsTwoRuns};
 ghost use Rattle.run_tables.specs.Reading.{Reading, rest_of};
 ghost use Rattle.run_tables.specs.Windows.{IsWindow, passed};
 ghost use Rattle.run_tables.specs.declared.fault.CodeFaultKind.{CodeFaultKind};
@@ -119,5 +120,21 @@ impl<'a> Window<'a> {
         }
         self.pass(bits + more);
         Some(high + low)
+    }
+
+    /// The next run of a color and that of the other one after it, together of at most `room` pixels, as `run`.
+    /// Else none, and the window is somewhere in them.
+    #[inline(always)]
+    pub(crate) fn two_runs(&mut self, color: Color, next: Color, room: u32) -> Option<(u32, u32)>
+        requires window { IsWindow self.old.reader self.old.used self.old.word }
+        requires other { next ≡ other color }
+        ensures window { IsWindow self.new.reader self.new.used self.new.word }
+        ensures some { IfSome result (λ runs. (past : CodeFaultKind)
+            → ReadsTwoRuns color room past (passed self.old.reader self.old.used) (passed self.new.reader self.new.used) runs.0 runs.1) }
+        ensures most { IfSome result (λ runs. runs.0 + runs.1 ≤ room) }
+    {
+        let first = self.run(color, room)?;
+        let second = self.run(next, room - first)?;
+        Some((first, second))
     }
 }

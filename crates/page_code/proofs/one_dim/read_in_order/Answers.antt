@@ -1,4 +1,4 @@
-use Rattle.std.proofs.Common.{arith, sym, subst, ◌∙◌}
+use Rattle.std.proofs.Common.{arith, refl, sym, subst, ◌∙◌}
 use Rattle.std.proofs.lemmas.Result.{err_from_is_err_and}
 use Rattle.raster.specs.Packed.{bits_of}
 use Rattle.raster.specs.Pixels.{IsWidth}
@@ -10,8 +10,8 @@ pub next_row-requires : goal.next_row-requires
 next_row-requires c = read_within c.loop-place.to.page.width c.args.order c.args.octets.now c.loop-place.to.page.rows c.loop-place.to.place
     c.loop-place.invariant.read
 
-pub at-reader-requires : goal.at-reader-requires
-at-reader-requires c = found_within c.args.order c.args.octets.now c.loop-place.to.page.width c.loop-place.to.page.rows
+pub read_row-requires-clause-within : goal.read_row-requires-clause-within
+read_row-requires-clause-within c = found_within c.args.order c.args.octets.now c.loop-place.to.page.width c.loop-place.to.page.rows
     c.loop-place.to.place c.in-Row.place c.in-Row.ensures.finds
 
 pub read_row-requires-clause-room : goal.read_row-requires-clause-room
@@ -22,32 +22,32 @@ pub white_rows-requires-clause-width : goal.white_rows-requires-clause-width
 white_rows-requires-clause-width c =
     let row = row_read (bits_of c.args.order c.args.octets.now) c.args.to.now c.loop-place.to c.loop-place.invariant.width
     c.loop-place.invariant.fine c.loop-place.invariant.read (subst IsWidth (sym c.loop-place.invariant.width) c.requires.width)
-    c.in-Row.ensures.few c.in-Row.place c.read_row.new.to c.at-reader.result c.in-Row.ensures.finds
-    c.at-reader.ensures c.in_ok-read_row-in-Row.ensures.row in
+    c.in-Row.ensures.few c.in-Row.place c.read_row.new.to
+    (record { bits = bits_of c.args.order c.args.octets.now; place = c.in-Row.place }) c.in-Row.ensures.finds refl c.in_ok-read_row-in-Row.ensures.row in
     subst IsWidth (sym row.0) c.requires.width
 
 pub white_rows-requires-clause-white : goal.white_rows-requires-clause-white
 white_rows-requires-clause-white c =
     let row = row_read (bits_of c.args.order c.args.octets.now) c.args.to.now c.loop-place.to c.loop-place.invariant.width
     c.loop-place.invariant.fine c.loop-place.invariant.read (subst IsWidth (sym c.loop-place.invariant.width) c.requires.width)
-    c.in-Row.ensures.few c.in-Row.place c.read_row.new.to c.at-reader.result c.in-Row.ensures.finds
-    c.at-reader.ensures c.in_ok-read_row-in-Row.ensures.row in
+    c.in-Row.ensures.few c.in-Row.place c.read_row.new.to
+    (record { bits = bits_of c.args.order c.args.octets.now; place = c.in-Row.place }) c.in-Row.ensures.finds refl c.in_ok-read_row-in-Row.ensures.row in
     subst (λ width. IsWhiteRow width c.of-white.result) (sym row.0) (rw c.width-2.ensures at c.of-white.ensures)
 
 pub white_rows-requires-clause-read : goal.white_rows-requires-clause-read
 white_rows-requires-clause-read c =
     let row = row_read (bits_of c.args.order c.args.octets.now) c.args.to.now c.loop-place.to c.loop-place.invariant.width
     c.loop-place.invariant.fine c.loop-place.invariant.read (subst IsWidth (sym c.loop-place.invariant.width) c.requires.width)
-    c.in-Row.ensures.few c.in-Row.place c.read_row.new.to c.at-reader.result c.in-Row.ensures.finds
-    c.at-reader.ensures c.in_ok-read_row-in-Row.ensures.row in
+    c.in-Row.ensures.few c.in-Row.place c.read_row.new.to
+    (record { bits = bits_of c.args.order c.args.octets.now; place = c.in-Row.place }) c.in-Row.ensures.finds refl c.in_ok-read_row-in-Row.ensures.row in
     row.3
 
 pub loop-place-preserved : goal.loop-place-preserved
 loop-place-preserved c =
     let row = row_read (bits_of c.args.order c.args.octets.now) c.args.to.now c.loop-place.to c.loop-place.invariant.width
     c.loop-place.invariant.fine c.loop-place.invariant.read (subst IsWidth (sym c.loop-place.invariant.width) c.requires.width)
-    c.in-Row.ensures.few c.in-Row.place c.read_row.new.to c.at-reader.result c.in-Row.ensures.finds
-    c.at-reader.ensures c.in_ok-read_row-in-Row.ensures.row in
+    c.in-Row.ensures.few c.in-Row.place c.read_row.new.to
+    (record { bits = bits_of c.args.order c.args.octets.now; place = c.in-Row.place }) c.in-Row.ensures.finds refl c.in_ok-read_row-in-Row.ensures.row in
     let more = c.in_ok-white_rows-in-Row.ensures.further in
     record {
       width = more.width ∙ row.0;
@@ -62,8 +62,8 @@ pub loop-place-smaller : goal.loop-place-smaller
 loop-place-smaller c =
     let row = row_read (bits_of c.args.order c.args.octets.now) c.args.to.now c.loop-place.to c.loop-place.invariant.width
     c.loop-place.invariant.fine c.loop-place.invariant.read (subst IsWidth (sym c.loop-place.invariant.width) c.requires.width)
-    c.in-Row.ensures.few c.in-Row.place c.read_row.new.to c.at-reader.result c.in-Row.ensures.finds
-    c.at-reader.ensures c.in_ok-read_row-in-Row.ensures.row in
+    c.in-Row.ensures.few c.in-Row.place c.read_row.new.to
+    (record { bits = bits_of c.args.order c.args.octets.now; place = c.in-Row.place }) c.in-Row.ensures.finds refl c.in_ok-read_row-in-Row.ensures.row in
     omega (
       arith,
       row.2,
@@ -78,8 +78,8 @@ returns-in_err-read_row-in-Row c =
     let wide : IsWidth c.loop-place.to.page.width = subst IsWidth (sym c.loop-place.invariant.width) c.requires.width in
     rw (p.1, p.2) (row_refused (bits_of c.args.order c.args.octets.now) c.args.to.now c.loop-place.to c.loop-place.invariant.width
     c.loop-place.invariant.fine c.loop-place.invariant.read wide c.in-Row.ensures.few c.in-Row.place c.read_row.new.to
-    c.at-reader.result c.in_err-read_row-in-Row.field-0.0 c.in-Row.ensures.finds
-    c.at-reader.ensures c.in_err-read_row-in-Row.ensures.row)
+    (record { bits = bits_of c.args.order c.args.octets.now; place = c.in-Row.place }) c.in_err-read_row-in-Row.field-0.0
+    c.in-Row.ensures.finds refl c.in_err-read_row-in-Row.ensures.row)
 
 pub returns-in-End : goal.returns-in-End
 returns-in-End c =

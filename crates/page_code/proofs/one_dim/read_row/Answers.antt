@@ -1,23 +1,28 @@
-use Rattle.std.proofs.Common.{◌≡◌, ◌+◌, ap, refl, ◌∙◌}
-use Rattle.std.proofs.lemmas.Result.{err_from_is_err_and}
+use Rattle.std.proofs.Common.{ℕ, ◌≡◌, ◌+◌, ap, subst, ◌∙◌}
+use Rattle.raster.specs.Packed.{bits_of}
 use Rattle.raster.specs.Pages.{PagePixels}
 use Rattle.run_tables.specs.Reading.{Reading}
-use Rattle.page_code.proofs.GivesPage.{memory_or}
-use Rattle.page_code.proofs.OneDimension.RowsOn.{row_refusal}
+use Rattle.run_tables.specs.RowReading.{IsQuickRowOnto, ReadsRowOnto}
+use Rattle.page_code.specs.OneDimension.Reading.{ReadsRowOfPage}
+use Rattle.page_code.specs.declared.page.Progress.{Progress}
 use Rattle.page_code.proofs.one_dim.read_row.Goals as goal
 
-pub returns-in_err-read_row_onto-clause-row : goal.returns-in_err-read_row_onto-clause-row
-returns-in_err-read_row_onto-clause-row c =
-    let p = err_from_is_err_and c.from_residual.result c.from_residual.ensures.1 in
-    let same = ap (λ (page : PagePixels). record c.args.to.now { page = page }) c.in_err-read_row_onto.ensures.page in
-    rw (p.1, p.2) (memory_or c.in_err-read_row_onto.field-0.0.kind _ (λ other.
-    let refused = row_refusal c.args.reader.bits c.args.reader.place c.args.to.now.page.width c.args.reader
-    c.in_err-read_row_onto.field-0.0 refl (c.in_err-read_row_onto.ensures.refuses other) in
-    (same, refused.0, refused.1, refused.2)))
+pub returns-in-Some-clause-row : goal.returns-in-Some-clause-row
+returns-in-Some-clause-row c =
+    let quick : ReadsRowOnto c.args.to.now.page c.quick_row_onto.new.page c.reader-quick.result c.in-Some.after =
+    subst (IsQuickRowOnto c.args.to.now.page c.quick_row_onto.new.page c.reader-quick.result) c.in-Some.is c.in_ok-after.ensures.row in
+    let read = subst (λ (old : Reading). ReadsRowOnto c.args.to.now.page c.quick_row_onto.new.page old c.in-Some.after)
+    c.reader-quick.ensures quick in
+    let end : c.place-to.result ≡ c.args.at.place + read.1.used = c.place-to.ensures.place ∙ ap (λ (r : Reading). r.place) read.1.after in
+    let at : ℕ → Progress = λ place. record { page = c.quick_row_onto.new.page; place = place } in
+    let onto : PagePixels → Progress = λ page. record { page = page; place = c.args.at.place + read.1.used } in
+    (read.0, read.1.used, read.1.reads, ap at end ∙ ap onto read.2)
 
 pub returns-clause-row : goal.returns-clause-row
 returns-clause-row c =
-    let read = c.in_ok-read_row_onto.ensures.reads in
-    let end : c.place-to.result ≡ c.args.reader.place + read.1.used =
-    c.place-to.ensures.place ∙ ap (λ (r : Reading). r.place) read.1.after in
-    (read.0, read.1.used, read.1.reads, rw (end, read.2) refl)
+    let same : c.quick_row_onto.new.page ≡ c.args.to.now.page =
+    subst (IsQuickRowOnto c.args.to.now.page c.quick_row_onto.new.page c.reader-quick.result) c.in_default.is c.in_ok-after.ensures.row in
+    let read = subst (λ (r : Reading). ReadsRowOfPage r.bits r.place (record { page = c.quick_row_onto.new.page; place = c.args.to.now.place })
+    c.read_row_by_runs.new.to c.read_row_by_runs.result) c.reader.ensures c.read_row_by_runs.ensures in
+    subst (λ (page : PagePixels). ReadsRowOfPage (bits_of c.args.at.order c.args.at.octets.now) c.args.at.place
+    (record { page = page; place = c.args.to.now.place }) c.read_row_by_runs.new.to c.read_row_by_runs.result) same read
