@@ -12,4 +12,4 @@ pub mod HandCoded
 pub mod RowCoders
 pub mod RowReaders
 pub mod PassedRows
-mod TurnedOctets
+pub mod TurnedOctets

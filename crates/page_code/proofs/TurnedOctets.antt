@@ -14,6 +14,11 @@ use Rattle.raster.specs.declared.packed.Order.TheVariants.{LsbFirst, MsbFirst}
 use Rattle.page_code.specs.TurnedCodes.{AreTurned, IsTurnedCode, most_turned}
 use Rattle.raster.proofs.WordLemmas.{bit_at_turned8}
 
+-- the bit at a place of a turned octet
+turned_bit : (octet place : ℕ) → place < 8 → bit_at (turned_octet octet) place ≡ bit_at octet (7 - place)
+turned_bit octet place h =
+    ap (bit_at (turned_octet octet)) (omega (arith, h)) ∙ bit_at_turned8 octet (7 - place) (omega (arith, h))
+
 pub turned_bits : (xs ys : List ℕ) → length ys ≡ length xs
     → ((j : ℕ) → j < length xs → slice_index ys j ≡ turned_octet (slice_index xs j))
     → bits_of MsbFirst ys ≡ bits_of LsbFirst xs
@@ -30,6 +35,19 @@ turned_bits xs ys same turned =
 -- octets that are turned have the same bits in the other order
 pub turned_all : (xs : List ℕ) → bits_of MsbFirst (map turned_octet xs) ≡ bits_of LsbFirst xs
 turned_all xs = turned_bits xs (map turned_octet xs) (length-map xs turned_octet) (λ j h. get_or-map turned_octet xs j 0 0 h)
+
+-- octets have the bits of those that are turned in the other order
+pub turned_back : (xs : List ℕ) → bits_of LsbFirst (map turned_octet xs) ≡ bits_of MsbFirst xs
+unfolding bits_in
+turned_back xs =
+    let ys : List ℕ = map turned_octet xs in
+    let count : 8 * length ys ≡ 8 * length xs = omega (arith, length-map xs turned_octet) in
+    ap (bits_in LsbFirst ys) count ∙
+    fill_by_all (λ place. bit_in MsbFirst xs place) (bits_in LsbFirst ys (8 * length xs)) (8 * length xs) true
+    (length-map-range_with_len (λ place. bit_in LsbFirst ys place) 0 (8 * length xs))
+    (λ k h. get_or-map-range_with_len (λ place. bit_in LsbFirst ys place) 0 (8 * length xs) k k true h (omega arith) ∙
+    ap (λ x. nat_eq x 1) (ap (λ octet. bit_at octet (k % 8)) (get_or-map turned_octet xs (k / 8) 0 0 (omega (arith, h))) ∙
+    turned_bit (slice_index xs (k / 8)) (k % 8) (omega arith)))
 
 -- no more are turned than there are octets
 no_more : (turned octets : List ℕ) → AreTurned turned octets → length turned ≤ length octets

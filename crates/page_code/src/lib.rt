@@ -21,4 +21,5 @@ pub use crate::page_rows::{MAX_HELD, NextRow, RowReader};
 pub use crate::row_coder::RowCoder;
 pub use crate::t6::T6;
 pub use crate::t6::page_end::RowsToEnd;
+pub use crate::turned::turn_from;
 pub use raster::Coding;

@@ -15,16 +15,18 @@ const MOST_TURNED: usize = 4_194_304;
 /// The octet with its bits in the other order: its least significant bit is the most significant.
 #[inline(always)]
 fn turned(octet: u8) -> u8
-    ensures { result ≡ turned_octet octet }
+    ensures turned { result ≡ turned_octet octet }
+    ensures back { turned_octet result ≡ octet }
 {
     let halves = octet >> 4 | octet << 4;
     let pairs = halves >> 2 & 0x33 | (halves & 0x33) << 2;
     pairs >> 1 & 0x55 | (pairs & 0x55) << 1
 }
 
-/// Turns the bits of each octet.
+/// Turns the bits of each octet. Turned once more they are as before.
 fn turn(octets: &mut [u8])
-    ensures { octets.new ≡ map turned_octet octets.old }
+    ensures turned { octets.new ≡ map turned_octet octets.old }
+    ensures back { map turned_octet octets.new ≡ octets.old }
 {
     let mut at = 0;
     while at < octets.len() {
@@ -33,10 +35,11 @@ fn turn(octets: &mut [u8])
     }
 }
 
-/// Turns the bits of each octet from a place on.
-fn turn_from(octets: &mut [u8], from: usize)
+/// Puts the bits of each octet from a place on in the other order. Turned once more they are as before.
+pub fn turn_from(octets: &mut [u8], from: usize)
     requires { from ≤ length octets.old }
-    ensures { octets.new ≡ take from octets.old ++ map turned_octet (drop from octets.old) }
+    ensures turned { octets.new ≡ take from octets.old ++ map turned_octet (drop from octets.old) }
+    ensures back { map turned_octet (drop from octets.new) ≡ drop from octets.old }
 {
     turn(&mut octets[from..]);
 }

@@ -1,11 +1,13 @@
 -- What a page is read as, whole stores, and the map of missing frames.
-use Rattle.std.proofs.Common.{◌≡◌, ◌≢◌, ℕ, ◌≤◌, ◌<◌, ◌↔◌, Bool, true, false, List, [], ◌∷◌, length, replicate, Some}
+use Rattle.std.proofs.Common.{◌≡◌, ◌≢◌, ℕ, ◌≤◌, ◌<◌, ◌↔◌, ◌++◌, Bool, true, false, List, [], ◌∷◌, length, map, replicate, Some}
+use Rattle.std.proofs.lemmas.List.{map-append}
 use Rattle.std.proofs.Common.{None, Result, Ok, Err, refl, ap, sym, subst, cond, ◌∙◌, arith, nat_le}
 use Rattle.std.specs.List.{list_all}
 use Rattle.std.proofs.lemmas.Bool.{leb-true, le-leb, lt-leb}
 use Rattle.raster.specs.Pages.{PagePixels}
 use Rattle.raster.specs.Packed.{bits_of}
 use Rattle.raster.specs.Pixels.{IsWidth}
+use Rattle.raster.specs.Words.{turned_octet}
 use Rattle.raster.specs.declared.packed.Order.TheVariants.{LsbFirst}
 use Rattle.raster.specs.declared.row.Color.{Color}
 use Rattle.run_tables.specs.declared.fault.CodeFaultKind.{CodeFaultKind}
@@ -17,6 +19,7 @@ use Rattle.signals.specs.declared.params.Params.{Params}
 use Rattle.page_code.specs.Codings.{read_rows, ReadsIn, ReadsExactly}
 use Rattle.stations.specs.Laws.{ReadsByGrammar}
 use Rattle.stations.specs.Layers.{IsPageOf, within_page_limit, page_of, page_read}
+use Rattle.stations.specs.OpenPage.{AppendsTurned}
 use Rattle.std.specs.Prelude.{IsTrue, not, is_some}
 use Rattle.signals.specs.declared.signal.PageEnd.{PageEnd}
 use Rattle.signals.specs.declared.signal.PageEnd.TheVariants.{Null, Mps, Eom, Eop}
@@ -36,6 +39,13 @@ over_limit octets long = lt-leb (length octets) 8388608 long
 pub within_limit : (octets : List ℕ) → length octets ≤ 8388608 → within_page_limit octets ≡ true
 unfolding within_page_limit
 within_limit octets few = le-leb (length octets) 8388608 few
+
+-- octets that were appended turned, each turned once more
+pub turned_after : (old new octets : List ℕ) → AppendsTurned old new octets
+    → map turned_octet new ≡ map turned_octet old ++ octets
+turned_after old new octets is =
+    ap (map turned_octet) is.turned ∙ (map-append turned_octet old (map turned_octet octets) ∙
+    ap (λ (xs : List ℕ). map turned_octet old ++ xs) is.back)
 
 pub too_long : (params : Params) (octets : List ℕ) → 8388608 < length octets → None ≡ page_read params octets
 unfolding page_read

@@ -1,6 +1,7 @@
 -- The page that an answerer has open, and the reader that reads it as its blocks come.
-use Rattle.std.specs.Prelude.{ℕ, ◌≡◌, Bool, true, false, List, Result, Ok, Err}
-use Rattle.raster.specs.declared.packed.Order.TheVariants.{LsbFirst}
+use Rattle.std.specs.Prelude.{ℕ, ◌≡◌, ◌++◌, Bool, true, false, List, Result, Ok, Err, map}
+use Rattle.raster.specs.Words.{turned_octet}
+use Rattle.raster.specs.declared.packed.Order.TheVariants.{MsbFirst}
 use Rattle.page_code.specs.PageReaders.{PageReading, GoesOnTo}
 use Rattle.signals.specs.Agreement.{pixels_of}
 use Rattle.signals.specs.declared.params.Params.{Params}
@@ -11,13 +12,19 @@ pub record OpenOctets : Type 0 where
   pub params : Params
   pub octets : List ℕ
 
--- the reader reads the code, the order of bits, the width and the lines that were agreed, and has read a beginning of the octets
-pub record IsReaderOf (params : Params) (octets : List ℕ) (reader : PageReading) : Type 0 where
+-- the reader reads the code, the width and the lines that were agreed, the most significant bit of turned octets first, and has read a
+-- beginning of these
+pub record IsReaderOf (params : Params) (turned : List ℕ) (reader : PageReading) : Type 0 where
   pub coding : reader.coding ≡ params.coding
-  pub order : reader.order ≡ LsbFirst
+  pub order : reader.order ≡ MsbFirst
   pub width : reader.page.width ≡ pixels_of params.width
   pub fine : reader.page.fine ≡ params.fine
-  pub goes_on : GoesOnTo reader octets
+  pub goes_on : GoesOnTo reader turned
+
+-- octets were appended to others, each with its bits in the other order; turned once more they are these octets
+pub record AppendsTurned (old new octets : List ℕ) : Type 0 where
+  pub turned : new ≡ old ++ map turned_octet octets
+  pub back : map turned_octet (map turned_octet octets) ≡ octets
 
 -- pages are of the same code, width and lines
 pub record AreReadAlike (params other : Params) : Type 0 where

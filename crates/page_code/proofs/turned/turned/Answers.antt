@@ -13,7 +13,12 @@ pairs_of octet = bit_or (bit_and (bit_or (octet / 16) (octet * 16 % 256) / 4) 51
 abbrev bits_of_pairs : ℕ → ℕ
 bits_of_pairs octet = bit_or (bit_and (pairs_of octet / 2) 85) (bit_and (pairs_of octet) 85 * 2 % 256)
 
-pub returns : goal.returns
+pub returns-clause-turned : goal.returns-clause-turned
 unfolding reverse_bits_onto
-returns c = eqb-true (bits_of_pairs c.args.octet) (turned_octet c.args.octet) (agree_below_at
+returns-clause-turned c = eqb-true (bits_of_pairs c.args.octet) (turned_octet c.args.octet) (agree_below_at
     (λ n. nat_eq (bits_of_pairs n) (turned_octet n)) (λ n. true) 256 c.args.octet refl (omega arith))
+
+pub returns-clause-back : goal.returns-clause-back
+unfolding reverse_bits_onto
+returns-clause-back c = eqb-true (turned_octet (bits_of_pairs c.args.octet)) c.args.octet (agree_below_at
+    (λ n. nat_eq (turned_octet (bits_of_pairs n)) n) (λ n. true) 256 c.args.octet refl (omega arith))
