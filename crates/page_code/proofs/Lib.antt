@@ -11,5 +11,6 @@ pub mod PageReads
 pub mod HandCoded
 pub mod RowCoders
 pub mod RowReaders
+pub mod PassedEols
 pub mod PassedRows
 pub mod TurnedOctets

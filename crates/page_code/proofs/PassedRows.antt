@@ -1,10 +1,11 @@
 -- What a reader of rows passed of its next row: it comes in more bits too, and where no run goes on, the page is refused.
 use Rattle.std.proofs.Common.{ℕ, zero, suc, ◌≡◌, ◌≢◌, ◌+◌, ◌*◌, ◌-◌, ◌<◌, ◌≤◌, Bool, true, false, List, [], ◌∷◌, ◌++◌, length, drop, take}
-use Rattle.std.proofs.Common.{replicate}
+use Rattle.std.proofs.Common.{inl, inr, replicate}
 use Rattle.std.proofs.Common.{Some, None, refl, ap, sym, ◌∙◌, subst, arith, length-append, append_assoc, drop-drop, take-append-drop}
 use Rattle.std.specs.Prelude.{Option, IfSome, Ok, Err, is_none, is_some, not}
 use Rattle.std.specs.Option.{option_map}
-use Rattle.std.proofs.lemmas.List.{drop-append-le, drop_at, length-drop, length-replicate, length-take, take_all}
+use Rattle.std.proofs.lemmas.Bool.{cases_lt}
+use Rattle.std.proofs.lemmas.List.{drop-append-le, drop_all, drop_at, length-drop, length-replicate, length-take, take_all}
 use Rattle.raster.specs.declared.coding.Coding.TheVariants.{OneDim}
 use Rattle.raster.specs.declared.packed.Order.{Order}
 use Rattle.raster.specs.declared.row.Color.{Color}
@@ -27,18 +28,20 @@ use Rattle.page_code.specs.declared.one_dim.Start.TheVariants.{Row}
 use Rattle.page_code.specs.declared.one_dim.eol.Eol.TheVariants.{Present}
 use Rattle.page_code.specs.declared.one_dim.open_row.RunsBefore.{RunsBefore}
 use Rattle.page_code.specs.declared.page_rows.RowPlace.{RowPlace}
+use Rattle.page_code.specs.declared.passed_row.EolsBefore.{EolsBefore}
 use Rattle.page_code.specs.declared.passed_row.PassedRow.{PassedRow}
 use Rattle.page_code.specs.Codings.{read_rows}
 use Rattle.page_code.specs.OneDimension.Fronts.{item_word, CodeBegins, Step, zeros_before}
 use Rattle.page_code.specs.OneDimension.Fronts.PageState.{first}
 use Rattle.page_code.specs.OneDimension.OpenRows.{AreZerosBefore}
 use Rattle.page_code.specs.OneDimension.Reading.{FindsRow, SeesEol}
-use Rattle.page_code.specs.PassedRows.{AreRunsPassed, IsPassedRow}
+use Rattle.page_code.specs.PassedRows.{AreEolsPassed, AreRunsPassed, IsPassedRow}
 use Rattle.page_code.specs.RowReaders.{FindsStart, IsFoundRefused, IsStartWithin}
 use Rattle.page_code.specs.RowsSoFar.{IsReadTo, LeadsTo, after_rows}
 use Rattle.page_code.proofs.FrontEnds.{leads_more, leads_within}
 use Rattle.page_code.proofs.OneDimension.OpenRows.{begins_on, only_zeros, run_more, run_stops, zeros_there}
 use Rattle.page_code.proofs.OneDimension.RowsOn.{row_stops}
+use Rattle.page_code.proofs.PassedEols.{eols_same, no_eols, passed_anywhere}
 use Rattle.page_code.proofs.RowReaders.{left_on}
 
 -- ---- 0 bits
@@ -280,19 +283,34 @@ module _ (held : List Bool) (to : RowPlace) (passed : RunsBefore) (runs : AreRun
 
 -- ---- what was passed of a row
 
-pub passed_none : (width count : ℕ) (bits : List Bool) (passed : PassedRow) → passed.zeros ≡ 0 → passed.after ≡ 0 → passed.runs ≡ None
-    → IsPassedRow width count bits passed
-passed_none width count bits passed zeros after runs = record {
+pub passed_none : (width count : ℕ) (bits : List Bool) (passed : PassedRow) → passed.zeros ≡ 0
+    → AreEolsPassed (drop (passed.zeros + 1) bits) passed.eols → passed.runs ≡ None → IsPassedRow width count bits passed
+passed_none width count bits passed zeros eols runs = record {
   zeros = rw zeros (bits, refl);
-  after = rw after (drop (passed.zeros + 1) bits, refl);
+  eols = eols;
   runs = rw runs tt;
 }
+
+-- EOLs that were passed in the bits from a place on come in more bits too
+eols_on : (bits more : List Bool) (place : ℕ) (passed : EolsBefore) → AreEolsPassed (drop place bits) passed
+    → AreEolsPassed (drop place (bits ++ more)) passed
+eols_on bits more place passed is = elim (cases_lt (length bits) place) [
+  | inl far ↦ passed_anywhere (drop place (bits ++ more)) passed
+      (subst (λ (x : List Bool). AreEolsPassed x passed) (drop_all place bits (omega (arith, far))) is)
+  | inr near ↦
+      let there : drop place bits ++ more ≡ drop place (bits ++ more) = sym (drop-append-le place bits more near) in
+      subst (λ (x : List Bool). AreEolsPassed x passed) there (record {
+        few = is.few;
+        eols = eols_same passed.count (drop place bits) more 0 passed.at (omega arith) is.eols;
+        zeros = zeros_more (drop place bits) more passed.at passed.zeros is.zeros;
+      })
+]
 
 pub passed_on : (width count : ℕ) (bits more : List Bool) (passed : PassedRow) → IsPassedRow width count bits passed
     → IsPassedRow width count (bits ++ more) passed
 passed_on width count bits more passed is = record {
   zeros = zeros_more bits more 0 passed.zeros is.zeros;
-  after = zeros_more bits more (passed.zeros + 1) passed.after is.after;
+  eols = eols_on bits more (passed.zeros + 1) passed.eols is.eols;
   runs = some passed.runs is.runs;
 }
   where
@@ -304,45 +322,53 @@ passed_on width count bits more passed is = record {
 pub passed_runs : (width count : ℕ) (bits : List Bool) (runs : RunsBefore) (passed : PassedRow) → AreRunsPassed width count bits runs
     → IsPassedRow width count bits passed → IsPassedRow width count bits (record {
       zeros = passed.zeros;
-      after = passed.after;
+      eols = passed.eols;
       runs = Some runs;
       tried = passed.tried;
     })
-passed_runs width count bits runs passed come is = record { zeros = is.zeros; after = is.after; runs = come }
+passed_runs width count bits runs passed come is = record { zeros = is.zeros; eols = is.eols; runs = come }
 
 -- a row was found
 pub passed_tried : (width count : ℕ) (bits : List Bool) (passed : PassedRow) → IsPassedRow width count bits passed
     → IsPassedRow width count bits (record {
       zeros = passed.zeros;
-      after = passed.after;
+      eols = passed.eols;
       runs = passed.runs;
       tried = true;
     })
-passed_tried width count bits passed is = record { zeros = is.zeros; after = is.after; runs = is.runs }
+passed_tried width count bits passed is = record { zeros = is.zeros; eols = is.eols; runs = is.runs }
 
--- the 0 bits of an EOL were passed, and those after it
-pub passed_eol : (held : List Bool) (to : RowPlace) (count after : ℕ) (passed : PassedRow) → SeesEol (drop to.at held) (Present count)
-    → AreZerosBefore held (to.at + count) after → IsPassedRow to.width to.rows (drop to.at held) passed
+-- the 0 bits of an EOL were passed, and the EOLs after it
+pub passed_eol : (held : List Bool) (to : RowPlace) (count : ℕ) (eols : EolsBefore) (passed : PassedRow)
+    → SeesEol (drop to.at held) (Present count) → AreEolsPassed (drop (to.at + count) held) eols
+    → IsPassedRow to.width to.rows (drop to.at held) passed
     → IsPassedRow to.width to.rows (drop to.at held) (record {
       zeros = count - 1;
-      after = after;
+      eols = eols;
       runs = passed.runs;
       tried = passed.tried;
     })
-passed_eol held to count after passed sees zeros is =
-    let place : to.at + count ≡ to.at + (count - 1 + 1) = omega (arith, sees.3) in record {
+passed_eol held to count eols passed sees come is =
+    let place : to.at + count ≡ to.at + (count - 1 + 1) = omega (arith, sees.3) in
+    let there : drop (to.at + count) held ≡ drop (count - 1 + 1) (drop to.at held) =
+    ap (λ (n : ℕ). drop n held) place ∙ sym (drop-drop (count - 1 + 1) to.at held) in record {
       zeros = eol_zeros held to.at count sees;
-      after = zeros_near held to.at (count - 1 + 1) after (subst (λ (n : ℕ). AreZerosBefore held n after) place zeros);
+      eols = subst (λ (x : List Bool). AreEolsPassed x eols) there come;
       runs = is.runs;
     }
 
 -- so many 0 bits were passed
 pub passed_zeros : (held : List Bool) (to : RowPlace) (count : ℕ) (passed : PassedRow) → AreZerosBefore held to.at count
     → IsPassedRow to.width to.rows (drop to.at held) passed
-    → IsPassedRow to.width to.rows (drop to.at held) (record { zeros = count; after = 0; runs = passed.runs; tried = passed.tried })
+    → IsPassedRow to.width to.rows (drop to.at held) (record {
+      zeros = count;
+      eols = record { at = 0; count = 0; zeros = 0 };
+      runs = passed.runs;
+      tried = passed.tried;
+    })
 passed_zeros held to count passed zeros is = record {
   zeros = zeros;
-  after = (drop (count + 1) (drop to.at held), refl);
+  eols = no_eols (drop (count + 1) (drop to.at held)) (record { at = 0; count = 0; zeros = 0 }) refl refl refl;
   runs = is.runs;
 }
 

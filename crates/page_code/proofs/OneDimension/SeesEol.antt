@@ -120,7 +120,7 @@ pub counted_other : (most : ℕ) (x : List Bool) → CodeBegins x → counted mo
 unfolding counted
 counted_other most x stands = eols_other most x stands
 
-counted_go : (most n : ℕ) (x : List Bool) → zeros_before x ≡ Some n → 11 ≤ n → counted (suc most) x ≡ n + 1 + counted most (drop (n + 1) x)
+pub counted_go : (most n : ℕ) (x : List Bool) → zeros_before x ≡ Some n → 11 ≤ n → counted (suc most) x ≡ n + 1 + counted most (drop (n + 1) x)
 unfolding counted
 counted_go most n x is long = eols_go most n x is long
 

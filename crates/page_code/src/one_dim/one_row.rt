@@ -2,19 +2,20 @@
 
 ghost use Rattle.page_code.specs.OneDimension.OpenRows.{AreZerosBefore};
 ghost use Rattle.page_code.specs.OneDimension.Reading.{SeesEol, SeesStart};
-ghost use Rattle.page_code.specs.PassedRows.{AreRunsPassed, IsPassedRow};
+ghost use Rattle.page_code.specs.OneDimension.Fronts.{bits_of_five};
+ghost use Rattle.page_code.specs.PassedRows.{AreEolsPassed, AreRunsPassed, IsPassedRow};
 ghost use Rattle.page_code.specs.RowReaders.{FindsNext, FindsStart, IsFoundRefused, IsStartWithin, ReadsRowThere};
 ghost use Rattle.raster.specs.Packed.{bits_of};
 ghost use Rattle.raster.specs.Pages.{max_rows};
 ghost use Rattle.raster.specs.Pixels.{IsWidth};
 ghost use Rattle.raster.specs.declared.row.Color.{Color};
-ghost use Rattle.std.specs.Prelude.{◌≤◌, ◌<◌, ◌+◌, ◌*◌, IfSome, List, drop, length};
+ghost use Rattle.std.specs.Prelude.{◌≡◌, ◌≤◌, ◌<◌, ◌+◌, ◌*◌, IfSome, List, drop, length};
 
 use crate::one_dim::eol::{Eol, quick_eol};
 use crate::one_dim::open_row::{RunsBefore, zeros_after};
 use crate::one_dim::{Start, start_by};
 use crate::page_rows::{NextRow, RowPlace, refused};
-use crate::passed_row::PassedRow;
+use crate::passed_row::{EolsBefore, NO_EOLS, PassedRow};
 use raster::packed::Order;
 use raster::{Coding, Color, MAX_ROWS};
 use run_tables::{BitReader, CodeFault, CodeFaultKind};
@@ -38,17 +39,35 @@ fn eol_after(octets: &[u8], order: Order, place: u128, known: u128) -> Eol
     }
 }
 
-/// The number of 0 bits of what is found at a place where an EOL may come; 0 where none is.
-fn zeros_in(octets: &[u8], order: Order, place: u128, eol: Eol) -> u128
+/// Passes the EOLs that come after these, five at most beside the first one, which ends at this place; and the 0 bits after them, if nothing
+/// else comes.
+fn pass_eols(octets: &[u8], order: Order, place: u128, before: EolsBefore) -> EolsBefore
     requires place { place ≤ 8 * length octets.now }
-    requires eol { SeesEol (drop place (bits_of order octets.now)) eol }
-    ensures { AreZerosBefore (bits_of order octets.now) place result }
+    requires eols { AreEolsPassed (drop place (bits_of order octets.now)) before }
+    ensures eols { AreEolsPassed (drop place (bits_of order octets.now)) result }
+    ensures all { result.at ≡ bits_of_five (drop place (bits_of order octets.now)) }
 {
-    match eol {
-        Eol::Present(bits) => bits - 1,
-        Eol::Absent => 0,
-        Eol::OnlyZeros => 8 * octets.len() as u128 - place,
+    let mut eols = before;
+    while eols.count < 5 {
+        match eol_after(octets, order, place + eols.at, eols.zeros) {
+            Eol::Present(bits) => {
+                eols = EolsBefore {
+                    at: eols.at + bits,
+                    count: eols.count + 1,
+                    zeros: 0,
+                };
+            }
+            Eol::Absent => return eols,
+            Eol::OnlyZeros => {
+                let left = 8 * octets.len() as u128 - (place + eols.at);
+                return EolsBefore {
+                    zeros: left,
+                    ..eols
+                };
+            }
+        }
     }
+    eols
 }
 
 /// What is found after an EOL at a row's place.
@@ -67,11 +86,17 @@ fn start_after_eol(
 {
     let place = to.at + bits;
     let zeros = bits - 1;
-    let known = passed.known_after(zeros);
-    let eol = eol_after(octets, order, place, known);
+    let eols = pass_eols(octets, order, place, passed.eols_after(zeros));
     passed.zeros = zeros;
-    passed.after = zeros_in(octets, order, place, eol);
-    start_by(octets, order, place, to.rows, eol)
+    passed.eols = eols;
+    if eols.count == 0 {
+        let eol = eol_after(octets, order, place, eols.zeros);
+        return start_by(octets, order, place, to.rows, eol);
+    }
+    if to.rows == 0 {
+        return Start::Refused(CodeFault::new(place, CodeFaultKind::NoRows));
+    }
+    Start::End(place + eols.at)
 }
 
 /// What is found after these rows: the next row's first code, the page's end or a refusal. Keeps how many 0 bits were passed.
@@ -88,8 +113,7 @@ fn start_after(octets: &[u8], order: Order, to: &RowPlace, passed: &mut PassedRo
             return Start::Row(to.at + bits as u128);
         }
     }
-    let eol = eol_after(octets, order, to.at, passed.zeros);
-    match eol {
+    match eol_after(octets, order, to.at, passed.zeros) {
         Eol::Present(bits) => start_after_eol(octets, order, to, bits, passed),
         Eol::Absent => {
             if to.rows == 0 {
@@ -99,8 +123,8 @@ fn start_after(octets: &[u8], order: Order, to: &RowPlace, passed: &mut PassedRo
             }
         }
         Eol::OnlyZeros => {
-            passed.zeros = zeros_in(octets, order, to.at, eol);
-            passed.after = 0;
+            passed.zeros = 8 * octets.len() as u128 - to.at;
+            passed.eols = NO_EOLS;
             if to.rows == 0 {
                 Start::Refused(CodeFault::new(to.at, CodeFaultKind::NoRows))
             } else {

@@ -11,7 +11,7 @@ ghost use Rattle.std.specs.Prelude.{◌≡◌, ◌≤◌, ◌*◌, drop, length}
 
 use crate::one_dim::open_row::zeros_after;
 use crate::page_rows::{NextRow, RowPlace, refused};
-use crate::passed_row::PassedRow;
+use crate::passed_row::{NO_EOLS, PassedRow};
 use crate::t6::lines::Lines;
 use crate::t6::mode::EOFB;
 use crate::t6::read::{Start, begins_row, read_row, start_by};
@@ -41,7 +41,7 @@ fn start_after(
     }
     let zeros = zeros_after(octets, order, to.at, passed.zeros);
     passed.zeros = zeros.unwrap_or(8 * octets.len() as u128 - to.at);
-    passed.after = 0;
+    passed.eols = NO_EOLS;
     start_by(reader, to.rows, zeros.is_none())
 }
 

@@ -4,6 +4,7 @@ use Rattle.raster.proofs.PackedLemmas.{length-bits_in}
 use Rattle.page_code.specs.declared.one_dim.Start.TheVariants.{Row}
 use Rattle.page_code.specs.RowReaders.{IsStartWithin}
 use Rattle.page_code.proofs.OneDimension.RowsOn.{eol_fits, within_bits}
+use Rattle.page_code.proofs.PassedRows.{all_zeros, passed_zeros}
 use Rattle.page_code.proofs.RowReaders.{start_after_eol, start_bad, start_end, start_within}
 use Rattle.page_code.proofs.one_dim.one_row.start_after.Goals as goal
 
@@ -22,12 +23,12 @@ returns-in-Some-clause-within c =
 
 pub returns-in-Present-clause-finds : goal.returns-in-Present-clause-finds
 returns-in-Present-clause-finds c = start_after_eol (bits_of c.args.order c.args.octets.now) c.args.to.now.at c.in-Present.bits
-    c.args.to.now.rows c.start_after_eol.result (rw c.in-Present.is at c.eol_after-eol.ensures) c.start_after_eol.ensures.sees
+    c.args.to.now.rows c.start_after_eol.result (rw c.in-Present.is at c.eol_after.ensures) c.start_after_eol.ensures.sees
 
 pub returns-in-Present-clause-within : goal.returns-in-Present-clause-within
 returns-in-Present-clause-within c =
     let fits = eol_fits c.args.order c.args.octets.now c.args.to.now.at c.in-Present.bits c.requires.within (rw c.in-Present.is at
-    c.eol_after-eol.ensures) in
+    c.eol_after.ensures) in
     subst (λ n. IsStartWithin c.args.to.now.at n c.args.to.now.rows c.start_after_eol.result)
     (length-bits_in c.args.order c.args.octets.now (8 * length c.args.octets.now))
     (start_within (bits_of c.args.order c.args.octets.now) c.args.to.now.at (c.args.to.now.at + c.in-Present.bits) c.args.to.now.rows
@@ -36,8 +37,16 @@ returns-in-Present-clause-within c =
 
 pub returns-else-to-eq0-clause-finds : goal.returns-else-to-eq0-clause-finds
 returns-else-to-eq0-clause-finds c = rw c.new.ensures (start_bad (bits_of c.args.order c.args.octets.now) c.args.to.now.at
-    c.args.to.now.rows (omega (arith, c.if-to-eq0.false)) (rw c.in-Absent.is at c.eol_after-eol.ensures))
+    c.args.to.now.rows (omega (arith, c.if-to-eq0.false)) (rw c.in-Absent.is at c.eol_after.ensures))
 
 pub returns-else-to-eq0-2-clause-finds : goal.returns-else-to-eq0-2-clause-finds
 returns-else-to-eq0-2-clause-finds c = start_end (bits_of c.args.order c.args.octets.now) c.args.to.now.at c.args.to.now.rows
-    (omega (arith, c.if-to-eq0-2.false)) (rw c.in-OnlyZeros.is at c.eol_after-eol.ensures)
+    (omega (arith, c.if-to-eq0-2.false)) (rw c.in-OnlyZeros.is at c.eol_after.ensures)
+
+pub returns-then-to-eq0-2-clause-passed : goal.returns-then-to-eq0-2-clause-passed
+returns-then-to-eq0-2-clause-passed c = passed_zeros (bits_of c.args.order c.args.octets.now) c.args.to.now _ c.args.passed.now
+    (all_zeros c.args.order c.args.octets.now c.args.to.now.at (rw c.in-OnlyZeros.is at c.eol_after.ensures)) c.requires.passed
+
+pub returns-else-to-eq0-2-clause-passed : goal.returns-else-to-eq0-2-clause-passed
+returns-else-to-eq0-2-clause-passed c = passed_zeros (bits_of c.args.order c.args.octets.now) c.args.to.now _ c.args.passed.now
+    (all_zeros c.args.order c.args.octets.now c.args.to.now.at (rw c.in-OnlyZeros.is at c.eol_after.ensures)) c.requires.passed
