@@ -3,10 +3,11 @@ use Rattle.std.proofs.Common.{◌≡◌, ℕ, Bool, true, false, List, ◌∷◌
 use Rattle.std.specs.Prelude.{Option, Some, None, IfSome, slice_get}
 use Rattle.raster.specs.declared.fault.RasterFault.{RasterFault}
 use Rattle.raster.specs.Pages.{PagePixels}
-use Rattle.raster.specs.Pbm.{AreImages, BeginsImages, FailsOrIo, IsReadUnless, read_images, read_kept}
+use Rattle.raster.specs.Pbm.{AreImages, BeginsImages, FailsOrIo, Given, IsReadUnless, read_images, read_kept}
 use Rattle.raster.specs.PbmFaults.{AnswersFirstFault, IsFirstFault}
 use Rattle.raster.proofs.PbmFaults.{answers_fault, no_first_fault}
-use Rattle.raster.proofs.PbmReading.{fails_only, found_first, found_images, only_first, only_images}
+use Rattle.raster.proofs.PbmPieces.{given_known}
+use Rattle.raster.proofs.PbmReading.{kept_fails, fails_only, found_first, found_images, only_first, only_images}
 
 -- ---- a fault
 
@@ -30,6 +31,19 @@ pub fault_is_first : (X : Type 0) (fine : Bool) (octets : Option (List ℕ)) (fa
     → IfSome octets (λ octets. AnswersFirstFault {X = X} octets (Err fault))
 fault_is_first X fine None fault h = tt
 fault_is_first X fine (Some octets) fault h = answers_fault X fine octets fault h
+
+-- ---- the octets that were read
+
+pub fault_known : (all fine : Bool) (octets : Option (List ℕ)) (fault : RasterFault)
+    → Given octets (λ octets. FailsOrIo fault (read_kept all fine octets))
+    → IfSome octets (λ octets. FailsOrIo fault (read_images fine octets))
+fault_known all fine None fault given = tt
+fault_known all fine (Some octets) fault given =
+    kept_fails all fine octets fault (given_known (Some octets) (λ octets. FailsOrIo fault (read_kept all fine octets)) given)
+
+pub kept_known : (all fine : Bool) (octets : Option (List ℕ)) (found : List PagePixels × ℕ)
+    → Given octets (λ octets. read_kept all fine octets ≡ Ok found) → IfSome octets (λ octets. read_kept all fine octets ≡ Ok found)
+kept_known all fine octets found given = given_known octets (λ octets. read_kept all fine octets ≡ Ok found) given
 
 -- ---- all images
 

@@ -6,10 +6,10 @@ use Rattle.std.proofs.lemmas.List.{length-append}
 use Rattle.raster.specs.declared.fault.RasterFault.{RasterFault}
 use Rattle.raster.specs.declared.fault.RasterFault.TheVariants.{NoPages, Io, NoMemory}
 use Rattle.raster.specs.Pages.{PagePixels}
-use Rattle.raster.specs.Pbm.{FailsOrIo, Follow, AreImages, image_at, images_at, read_images, ◌>>=◌}
+use Rattle.raster.specs.Pbm.{FailsOrIo, Follow, AreImages, image_at, images_at, images_of, read_images, ◌>>=◌}
 use Rattle.raster.specs.PbmFaults.{BreaksOff, IsOneImage, AfterImages, IsFirstFault, AnswersFirstFault, NamesFirstFault}
 use Rattle.raster.proofs.PbmImages.{image_takes, image_again, image_less, image_length, reads_images}
-use Rattle.raster.proofs.PbmReading.{images_of, images_next_of}
+use Rattle.raster.proofs.PbmReading.{images_next_of}
 use Rattle.raster.proofs.PbmFaultParts.{image_or_fault, image_breaks, breaks_some}
 
 -- ---- a first fault is what is read

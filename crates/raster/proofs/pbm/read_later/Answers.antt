@@ -1,21 +1,17 @@
-use Rattle.std.proofs.Common.{[], ◌∷◌, ◌∙◌, sym, length, arith}
+use Rattle.std.proofs.Common.{length, arith}
 use Rattle.std.proofs.lemmas.Result.{err_from_is_err_and}
-use Rattle.raster.specs.Pbm.{read_kept}
+use Rattle.raster.specs.Pbm.{images_of, with_kept}
 use Rattle.raster.proofs.PbmImages.{image_less, image_rows}
-use Rattle.raster.proofs.PbmReading.{with_kept, images_of, images_begin, images_next, images_fail, images_done, fails_same}
-use Rattle.raster.proofs.PbmReading.{some_left, none_left}
+use Rattle.raster.proofs.PbmReading.{images_next, images_fail, images_done, some_left, none_left}
 use Rattle.raster.proofs.pbm.read_later.Goals as goal
 
 pub returns-in_err-page : goal.returns-in_err-page
-returns-in_err-page c whole e =
-    let p = err_from_is_err_and c.from_residual-in_err-page.result c.from_residual-in_err-page.ensures.1 in
+returns-in_err-page c =
+    let p = err_from_is_err_and c.from_residual.result c.from_residual.ensures.1 in
     let some = some_left c.is_empty.result (length c.loop-rest.rest.now) c.is_empty.ensures c.loop-rest-test.true in
-    let total = with_kept c.args.all (c.args.page ∷ []) 1 (images_of c.args.fine c.args.octets.now) in
     rw (p.1, p.2)
-    (fails_same c.in_err-page.field-0.0 total (read_kept c.args.all c.args.fine whole)
-    (images_begin c.args.all c.args.fine whole c.args.page c.args.octets.now e)
-    (images_fail c.in_err-page.field-0.0 c.args.all c.loop-rest.document c.loop-rest.count c.args.fine c.loop-rest.rest.now total some
-    c.in_err-page.ensures c.loop-rest.invariant.read))
+    (images_fail c.in_err-page.field-0.0 c.args.all c.loop-rest.document c.loop-rest.count c.args.fine c.loop-rest.rest.now (with_kept
+    c.args.all c.args.document c.args.count (images_of c.args.fine c.args.octets.now)) some c.in_err-page.ensures c.loop-rest.invariant.read)
 
 pub keep-requires : goal.keep-requires
 keep-requires c = image_rows c.args.fine c.loop-rest.rest.now (c.in_ok-page.page, c.in_ok-page.after.now) c.in_ok-page.ensures
@@ -37,8 +33,7 @@ loop-rest-preserved c = record {
 }
 
 pub returns : goal.returns
-returns c whole e =
-    sym (images_begin c.args.all c.args.fine whole c.args.page c.args.octets.now e) ∙
+returns c =
     images_done c.args.all c.loop-rest.document c.loop-rest.count c.args.fine c.loop-rest.rest.now _
     (none_left c.is_empty.result (length c.loop-rest.rest.now) c.is_empty.ensures c.loop-rest-test.false)
     c.loop-rest.invariant.read
