@@ -156,6 +156,13 @@ impl Caller {
         self.page as u64
     }
 
+    /// Returns the document's pages, in order, borrowed.
+    pub fn pages(&self) -> &[Page]
+        ensures { result.now ≡ self.now.document }
+    {
+        self.document.pages()
+    }
+
     /// Returns the document, and how many of its first pages are confirmed; the station is given up. A program that
     /// calls again sends the others.
     pub fn into_document(self) -> (Document, u64)
