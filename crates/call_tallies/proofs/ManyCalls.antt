@@ -11,14 +11,14 @@ use Rattle.std.proofs.lemmas.List.Concat.{flat_map-append}
 use Rattle.raster.specs.Pbm.{AreImages, ReadsImages, read_images}
 use Rattle.raster.specs.declared.fault.RasterFault.{RasterFault}
 use Rattle.stations.specs.CallerFields.{AreCallable}
+use Rattle.stations.specs.CallerStep.{confirmed}
 use Rattle.stations.specs.Layers.{Document}
 use Rattle.stations.specs.declared.turn.End.{End}
 use Rattle.line_sim.specs.Fates.{DrivenFields}
 use Rattle.line_sim.specs.Line.{World}
 use Rattle.line_sim.specs.Represents.{Shows}
-use Rattle.line_sim.specs.declared.live.Ending.{Ending}
+use Rattle.line_sim.specs.declared.live.EndingCounts.{EndingCounts}
 use Rattle.calls.specs.BadLines.{RefusesDriven, bad_call, gone}
-use Rattle.calls.specs.Calls.{EndsAs}
 use Rattle.faults.specs.Faults.{IsOutside}
 use Rattle.call_tallies.specs.ManyCalls.{AreDrivenTo, CountsAll, IsCallOf, IsDrivenTo, Tallies, TellsMany, all_ends, borne_in, end_row, ended_at}
 use Rattle.call_tallies.specs.LineTimes.{seconds_in}
@@ -36,11 +36,18 @@ use Rattle.call_tallies.specs.declared.tallies.Tally.{Tally}
 use Rattle.call_tallies.proofs.CountedSteps.{total_both}
 use Rattle.faults.proofs.FirstElements.{take_next}
 
+-- what a call has come to in a world: its ends, and the numbers of its pages
+pub record CountsAs (ending : EndingCounts) (w : World) : Type 0 where
+  pub stored : ending.stored ≡ length w.answerer.pages
+  pub confirmed : ending.confirmed ≡ confirmed w.caller
+  pub caller_end : ending.caller_end ≡ w.caller.ending
+  pub answerer_end : ending.answerer_end ≡ w.answerer.ending
+
 -- what the call of a number came to, of what its steps lead to
 pub is_call : (options : CallOptions) (bad : BadLine) (number : ℕ) (document : Document) (new : DrivenFields) (counted : Counted)
-    (ending : Ending) (pages seconds : ℕ) (few : Bool) → AreCallable document →
+    (ending : EndingCounts) (seconds : ℕ) (few : Bool) → AreCallable document →
     CountsAll bad (slower_speeds options.modems) (bad_call options bad number document) new counted →
-    ((w : World) → Shows new.live w → EndsAs ending w) → pages ≡ length ending.pages.items →
+    ((w : World) → Shows new.live w → CountsAs ending w) →
     seconds ≡ seconds_in counted.clocks counted.counts.waited ending.caller_end →
     (IsTrue few ↔ ((3 ≤ bad.calls) × (bad.busy ≡ 0) × IsTrue counted.few)) →
     IsCallOf options bad number document
@@ -49,14 +56,14 @@ pub is_call : (options : CallOptions) (bad : BadLine) (number : ℕ) (document :
       caller_end = ending.caller_end;
       confirmed = ending.confirmed;
       answerer_end = ending.answerer_end;
-      pages = pages;
+      pages = ending.stored;
       counts = counted.counts;
       seconds = seconds;
       few = few;
     })
-is_call options bad number document new counted ending pages seconds few callable told ends stored seconds_is few_is =
+is_call options bad number document new counted ending seconds few callable told ends seconds_is few_is =
     let w : World = (gone told.made bad (bad_call options bad number document)).call.world in
-    let ended : EndsAs ending w = ends w told.shows.world in
+    let ended : CountsAs ending w = ends w told.shows.world in
     record {
       callable = callable;
       made = told.made;
@@ -68,7 +75,7 @@ is_call options bad number document new counted ending pages seconds few callabl
         caller_end = ended.caller_end;
         confirmed = ended.confirmed;
         answerer_end = ended.answerer_end;
-        pages = stored ∙ ap length ended.pages;
+        pages = ended.stored;
         counted = told.counts;
       };
       clocks = counted.clocks;

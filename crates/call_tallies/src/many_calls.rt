@@ -11,7 +11,7 @@ ghost use Rattle.line_sim.specs.Fates.{entries_of};
 ghost use Rattle.raster.specs.Pbm.{AreImages};
 ghost use Rattle.stations.specs.CallerFields.{AreCallable};
 ghost use Rattle.std.specs.Io.KnownBytes.{Appends};
-ghost use Rattle.std.specs.Prelude.{◌≡◌, ◌≤◌, ◌+◌, ◌↔◌, ◌⊎◌, [], ◌∷◌, IfErr, IfOk, IsTrue, OnOk, length};
+ghost use Rattle.std.specs.Prelude.{◌≡◌, ◌≤◌, ◌+◌, ◌↔◌, ◌⊎◌, [], ◌∷◌, IfErr, IfOk, IsTrue, OnOk};
 
 use crate::line_time::{Clocks, seconds_in, waited_in};
 use crate::seconds::Seconds;
@@ -22,7 +22,7 @@ use calls::{
     patience_of, set_answerer,
 };
 use faults::{FAILED, NO_MEMORY, ToolFault};
-use line_sim::{DrivenCall, Ending, Entry, Event, Kind, Step};
+use line_sim::{DrivenCall, Entry, Event, Kind, Step};
 use rand_pcg::Lcg64Xsh32;
 use raster::laws::pbm_reads_exactly;
 use raster::read_pbm;
@@ -229,13 +229,6 @@ fn count_fates(
     Err(FAILED)
 }
 
-/// How many pages are stored at a call's end.
-fn stored(ending: &Ending) -> usize
-    ensures { result ≡ length ending.now.pages.items }
-{
-    ending.pages.len()
-}
-
 /// True if a call is one that is borne: few of its tries were bad, at least three DIS are sent in a wait, and the answerer is never busy.
 fn is_borne(line: &BadLine, few: bool) -> bool
     ensures { IsTrue result ↔ ((3 ≤ line.now.calls) × (line.now.busy ≡ 0) × IsTrue few) }
@@ -270,7 +263,7 @@ fn run_call(
     let mut generator = generator_of(line, number);
     let spare = slower_speeds(options.modems);
     let counted = count_fates(&mut call, line, &mut generator, spare)?;
-    let (ending, document) = call.into_live().into_ending_and_document();
+    let (ending, document) = call.into_live().into_counts_and_document();
     let seconds = seconds_in(&counted.clocks, counted.counts.waited, ending.caller_end)?;
     let few = is_borne(line, counted.few);
     let ran = OneCall {
@@ -278,7 +271,7 @@ fn run_call(
         caller_end: ending.caller_end,
         confirmed: ending.confirmed,
         answerer_end: ending.answerer_end,
-        pages: stored(&ending),
+        pages: ending.stored,
         counts: counted.counts,
         seconds,
         few,

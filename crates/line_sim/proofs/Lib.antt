@@ -60,4 +60,6 @@ pub mod Breaking
 pub mod Places
 pub mod Fates
 pub mod Putting
+pub mod Fronts
+pub mod SamePages
 pub mod Redialling

@@ -6,9 +6,10 @@ ghost use Rattle.line_sim.specs.Fates.{ActsIf, BearsTwo, ComesNext, DrivesAll, E
 ghost use Rattle.line_sim.specs.Fates.{Steps, act_to_answerer, act_to_caller, act_waiting, asks_ready, dis_with, is_fate_due, is_one_too_many, is_sending};
 ghost use Rattle.line_sim.specs.Fates.{plain_fate, plainly, rnrs_after, rnrs_heard};
 ghost use Rattle.line_sim.specs.Line.{World as WorldValue};
+ghost use Rattle.line_sim.specs.Live.{whole_call};
 ghost use Rattle.line_sim.specs.Represents.{Shows};
 ghost use Rattle.stations.specs.declared.turn.CallerState.TheVariants.{WaitDis};
-ghost use Rattle.std.specs.Prelude.{◌≡◌, ◌+◌, ◌<◌, ◌^◌, Bool, IsTrue, ◌↔◌, IfOk, cond, drop, map, nat_lt, true, false, Some};
+ghost use Rattle.std.specs.Prelude.{◌≡◌, ◌+◌, ◌<◌, ◌^◌, ℕ, Bool, IsTrue, ◌↔◌, IfOk, cond, drop, map, nat_lt, true, false, Some};
 
 use crate::call::Call;
 use crate::event::{Entry, Event, Kind};
@@ -197,7 +198,7 @@ impl Call {
     /// True if the caller is sending a block, which an MCF would confirm. The caller's fields don't have the block's place in the call, so
     /// this is known from the PPS that it could send.
     fn is_sending(&self) -> bool
-        ensures { (w : WorldValue) → Shows self.now w → result ≡ is_sending w.caller }
+        ensures { (same : ℕ) (w : WorldValue) → Shows (whole_call same self.now) w → result ≡ is_sending w.caller }
     {
         let mut items = self.caller.frames(&Turn::Pps);
         items.take_next().is_some()
@@ -205,7 +206,8 @@ impl Call {
 
     /// True if the answerer's T2 is due: the caller waits for a DIS, the answerer for a DCS, and the DIS of this wait are few.
     fn dis_is_due(&self, few: bool) -> bool
-        ensures is { (w : WorldValue) → Shows self.now w → result ≡ dis_is_due w.caller.state w.answerer.state w.answerer.ending few }
+        ensures is { (same : ℕ) (w : WorldValue) → Shows (whole_call same self.now) w →
+            result ≡ dis_is_due w.caller.state w.answerer.state w.answerer.ending few }
         ensures at_few { result ≡ true → few ≡ true }
     {
         if self.answerer.end().is_some() {
@@ -223,7 +225,7 @@ impl Call {
     /// If nothing is in transit, the timer that expires next.
     fn wait_over(&self, few: bool) -> Option<Act>
         ensures may { (few_rnrs : Bool) → MayAct few few_rnrs (head_kind self.now.to_caller) result }
-        ensures is { (w : WorldValue) → Shows self.now w →
+        ensures is { (same : ℕ) (w : WorldValue) → Shows (whole_call same self.now) w →
             result ≡ act_waiting w.caller.ending w.answerer.ending (dis_is_due w.caller.state w.answerer.state w.answerer.ending few) }
     {
         if self.caller.end().is_none() {
@@ -240,8 +242,9 @@ impl Call {
 
     /// The next act by a fate; None if the call is over. `few_dis` allows another DIS, `few_rnrs` another RNR.
     fn driven_by(&self, fate: Fate, few_dis: bool, few_rnrs: bool) -> Option<Act>
-        ensures next { (p : PatienceValue) (d : Driven) → Shows self.now d.world → first_fate d.fates ≡ plain_fate fate →
-            nat_lt d.dis p.calls ≡ few_dis → nat_lt d.rnrs p.busy ≡ few_rnrs → ComesNext p d.world.to_answerer d.world.to_caller d result }
+        ensures next { (same : ℕ) (p : PatienceValue) (d : Driven) → Shows (whole_call same self.now) d.world →
+            first_fate d.fates ≡ plain_fate fate → nat_lt d.dis p.calls ≡ few_dis → nat_lt d.rnrs p.busy ≡ few_rnrs →
+            ComesNext p d.world.to_answerer d.world.to_caller d result }
         ensures may { MayAct few_dis few_rnrs (head_kind self.now.to_caller) result }
     {
         if !self.to_answerer.is_empty() {

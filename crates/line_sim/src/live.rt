@@ -19,29 +19,33 @@ use crate::call::Call;
 use crate::event::{Entry, Event, LineItem};
 use crate::fault::WorldFault;
 use crate::laws::headline;
+use crate::pages::keep_once;
 use crate::world::are_full_pages;
 use raster::{Document, Page};
 use signals::{Caps, Side, Wish};
-use stations::laws::{layers_hold, signals_hold};
+use stations::laws::{layers_hold, signals_hold, taken_and_there};
 use stations::{CodedDocument, End};
 use std::alloc::Global;
 use std::marker::Model;
 
-/// A caller and an answerer, and what is under way between them, without a transcript: each event returns its entry.
+/// A caller and an answerer, and what is under way between them, without a transcript: each event returns its entry. A page that is stored
+/// is compared with the document's, which is the same by the headline, and is kept once.
 #[derive(Debug, Drop)]
 pub struct LiveCall {
     pub(crate) call: Call,
+    // How many of the document's first pages are stored. The answerer keeps none of them.
+    same: usize,
 }
 
 impl Model for LiveCall {
     ghost use Rattle.line_sim.specs.declared.call.Call.{Call};
-    ghost use Rattle.line_sim.specs.Live.{IsLive};
+    ghost use Rattle.line_sim.specs.Live.{IsWhole, whole_call};
 
     ghost Value = { Call };
 
-    ghost view = { λ l. l.call };
+    ghost view = { λ l. whole_call l.same l.call };
 
-    ghost invariant = { λ l. IsLive l.call };
+    ghost invariant = { λ l. IsWhole l.same l.call };
 }
 
 /// The next event of a call that nobody disturbs.
@@ -60,6 +64,19 @@ pub enum Next {
 pub struct Ending {
     /// The pages that the answerer has stored, in order.
     pub pages: Vec<Page>,
+    /// How many pages the caller counts as confirmed.
+    pub confirmed: u64,
+    /// Why the call ended for the caller, if it has.
+    pub caller_end: Option<End>,
+    /// Why the call ended for the answerer, if it has.
+    pub answerer_end: Option<End>,
+}
+
+/// The final state of a call, with the number of its stored pages in place of the pages.
+#[derive(Clone, Copy, Debug, PartialEq, Eq)]
+pub struct EndingCounts {
+    /// How many pages the answerer has stored.
+    pub stored: usize,
     /// How many pages the caller counts as confirmed.
     pub confirmed: u64,
     /// Why the call ended for the caller, if it has.
@@ -102,7 +119,7 @@ impl LiveCall {
         signals_hold();
         are_full_pages(document.pages());
         let call = Call::new(alloc, document, wish, caps)?;
-        Ok(LiveCall { call })
+        Ok(LiveCall { call, same: 0 })
     }
 
     /// What comes next if nobody disturbs the call: the next step of a polite run.
@@ -161,7 +178,10 @@ impl LiveCall {
         headline();
         layers_hold();
         signals_hold();
-        self.call.act(event)
+        taken_and_there();
+        let entry = self.call.act(event);
+        self.same = keep_once(&mut self.call, self.same);
+        entry
     }
 
     /// The final state of the call: the pages stored are the first of the document, each confirmed page is stored once, and a station's
@@ -173,32 +193,43 @@ impl LiveCall {
         ensures answerer { (w : WorldValue) → Shows self w → result.answerer_end ≡ w.answerer.ending }
         ensures safe { IsSafe self.caller.document result.pages.items result.confirmed result.caller_end result.answerer_end }
     {
-        let (ending, _document) = self.into_ending_and_document();
-        ending
+        headline();
+        layers_hold();
+        signals_hold();
+        let LiveCall { call, same } = self;
+        let confirmed = call.caller.confirmed();
+        let caller_end = call.caller.end();
+        let answerer_end = call.answerer.end();
+        let mut pages = call.caller.into_coded().into_document().into_pages();
+        pages.truncate(same);
+        Ending {
+            pages,
+            confirmed,
+            caller_end,
+            answerer_end,
+        }
     }
 
-    /// Returns what `into_ending` returns, and the document with the codes of its pages that the caller was made with, for a further call.
-    pub fn into_ending_and_document(self) -> (Ending, CodedDocument)
-        ensures pages { (w : WorldValue) → Shows self w → result.0.pages.items ≡ w.answerer.pages }
+    /// Returns what `into_ending` returns, with the number of the stored pages in place of the pages, and the document with the codes of its
+    /// pages that the caller was made with, for a further call.
+    pub fn into_counts_and_document(self) -> (EndingCounts, CodedDocument)
+        ensures stored { (w : WorldValue) → Shows self w → result.0.stored ≡ length w.answerer.pages }
         ensures confirmed { (w : WorldValue) → Shows self w → result.0.confirmed ≡ confirmed w.caller }
         ensures caller { (w : WorldValue) → Shows self w → result.0.caller_end ≡ w.caller.ending }
         ensures answerer { (w : WorldValue) → Shows self w → result.0.answerer_end ≡ w.answerer.ending }
-        ensures safe { IsSafe self.caller.document result.0.pages.items result.0.confirmed result.0.caller_end result.0.answerer_end }
+        ensures safe { IsSafe self.caller.document self.answerer.pages result.0.confirmed result.0.caller_end result.0.answerer_end }
         ensures document { result.1 ≡ self.caller.document }
     {
         headline();
         layers_hold();
         signals_hold();
-        let LiveCall { call } = self;
-        let confirmed = call.caller.confirmed();
-        let caller_end = call.caller.end();
-        let answerer_end = call.answerer.end();
-        let ending = Ending {
-            pages: call.answerer.into_pages(),
-            confirmed,
-            caller_end,
-            answerer_end,
+        let LiveCall { call, same } = self;
+        let counts = EndingCounts {
+            stored: same,
+            confirmed: call.caller.confirmed(),
+            caller_end: call.caller.end(),
+            answerer_end: call.answerer.end(),
         };
-        (ending, call.caller.into_coded())
+        (counts, call.caller.into_coded())
     }
 }

@@ -8,7 +8,7 @@ use Rattle.line_sim.proofs.Fates.{may_back, may_there, meets_back, meets_there, 
 use Rattle.line_sim.proofs.call.Call.driven_by.Goals as goal
 
 pub returns-then-not-is_empty-clause-next : goal.returns-then-not-is_empty-clause-next
-returns-then-not-is_empty-clause-next c p d shows is few_dis few_rnrs =
+returns-then-not-is_empty-clause-next c same p d shows is few_dis few_rnrs =
     subst (Follows p d.world.to_answerer d.world.to_caller d) (sym c.to_answerer.ensures)
     (meets_there p d.world.to_answerer d.world.to_caller d c.args.fate c.has_check.result
     (λ e. iff_false c.is_empty.ensures c.if-not-is_empty.true (sym shows.to_answerer ∙ e))
@@ -20,7 +20,7 @@ returns-then-not-is_empty-clause-may c =
     (may_there c.args.few_dis c.args.few_rnrs (head_kind c.args.self.now.to_caller) c.args.fate c.has_check.result)
 
 pub returns-then-not-is_empty-2-clause-next : goal.returns-then-not-is_empty-2-clause-next
-returns-then-not-is_empty-2-clause-next c p d shows is few_dis few_rnrs =
+returns-then-not-is_empty-2-clause-next c same p d shows is few_dis few_rnrs =
     subst (Follows p d.world.to_answerer d.world.to_caller d) (sym c.to_caller.ensures)
     (meets_back p d.world.to_answerer d.world.to_caller d c.args.fate c.has_one_too_many.result
     (shows.to_answerer ∙ c.is_empty.ensures.0 c.if-not-is_empty.false)
@@ -35,10 +35,10 @@ returns-then-not-is_empty-2-clause-may c =
     (sym c.has_one_too_many.ensures))
 
 pub returns-clause-next : goal.returns-clause-next
-returns-clause-next c p d shows is few_dis few_rnrs =
+returns-clause-next c same p d shows is few_dis few_rnrs =
     waits_next p d.world.to_answerer d.world.to_caller d c.args.few_dis c.wait_over.result
     (shows.to_answerer ∙ c.is_empty.ensures.0 c.if-not-is_empty.false)
-    (shows.to_caller ∙ c.is_empty-2.ensures.0 c.if-not-is_empty-2.false) few_dis (c.wait_over.ensures.is d.world shows)
+    (shows.to_caller ∙ c.is_empty-2.ensures.0 c.if-not-is_empty-2.false) few_dis (c.wait_over.ensures.is same d.world shows)
 
 pub returns-clause-may : goal.returns-clause-may
 returns-clause-may c = c.wait_over.ensures.may c.args.few_rnrs
