@@ -48,7 +48,7 @@ fn number_of(alloc: Global, octets: &[u8], fails: bool) -> u8 {
         step: 3,
         fails,
     };
-    match rows_of(alloc, &mut reader) {
+    match read_pbm(alloc, &mut reader, false) {
         Ok(_) => 0,
         Err(fault) => fault.number(),
     }
