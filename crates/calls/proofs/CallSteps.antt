@@ -24,7 +24,7 @@ use Rattle.line_sim.specs.declared.event.Event.{Event}
 use Rattle.line_sim.specs.declared.event.Event.TheVariants.{AnswererT2, DeliverToCaller}
 use Rattle.line_sim.specs.declared.live.Ending.{Ending}
 use Rattle.line_sim.proofs.Transcripts.{run_both, entries_both}
-use Rattle.calls.specs.Calls.{EndsAs, HaveRows, LeavesTold, MakeAll, Makes, MakesNext, Steps, StopsPolite, TellsCall, TellsCommand}
+use Rattle.calls.specs.Calls.{EndsAs, HaveRows, LeavesTold, MakeAll, MakesNext, Steps, StopsPolite, TellsCall, TellsCommand}
 use Rattle.calls.specs.Calls.{TellsCommands}
 use Rattle.calls.specs.Calls.{TellsEvent, TellsNext, TellsSteps, answerer_caps, call_world, caller_wish}
 use Rattle.calls.specs.Transcripts.{ending_text, entry_line, entry_lines}
@@ -304,32 +304,37 @@ ends_along delivered most w now new first mid next before at after whole within 
 pub none_followed : (v : Call) (w : World) (first : ℕ) (at : Written) → Shows v w → TellsCommands [] w v first first at at
 none_followed v w first at shows = ([], refl, none_told v w first at shows)
 
-make_more : (commands : List Command) (command : Command) (w : World) (xs ys : Steps) → MakeAll commands w xs →
-    Makes command (run xs w) ys →
-    MakeAll (commands ++ command ∷ []) w (xs ++ ys)
-make_more [] command w xs ys none makes =
-    let last : Makes command w ys = subst (λ l. Makes command (run l w) ys) none makes in
-    (ys, [], ap (λ l. l ++ ys) none ∙ sym (append-nil ys), last, refl)
-make_more (first ∷ commands) command w xs ys (front, rest, are, makes_front, makes_rest) makes =
+make_both : (commands others : List Command) (w : World) (xs ys : Steps) → MakeAll commands w xs → MakeAll others (run xs w) ys →
+    MakeAll (commands ++ others) w (xs ++ ys)
+make_both [] others w xs ys none made =
+    let last : MakeAll others w ys = subst (λ l. MakeAll others (run l w) ys) none made in
+    subst (λ l. MakeAll others w (l ++ ys)) (sym none) last
+make_both (first ∷ commands) others w xs ys (front, rest, are, makes_front, makes_rest) made =
     let there : run xs w ≡ run rest (run front w) = ap (λ l. run l w) are ∙ run_both front rest w in (
       front,
       rest ++ ys,
       ap (λ l. l ++ ys) are ∙ append_assoc front rest ys,
       makes_front,
-      make_more commands command (run front w) rest ys makes_rest (subst (λ u. Makes command u ys) there makes),
+      make_both commands others (run front w) rest ys makes_rest (subst (λ u. MakeAll others u ys) there made),
     )
 
--- one command more
-pub one_followed : (commands : List Command) (command : Command) (now new : Call) (w : World) (first mid next : ℕ)
-    (before at after : Written) → TellsCommands commands w now first mid before at →
-    ((u : World) → Shows now u → TellsCommand command u new mid next at after) →
-    TellsCommands (commands ++ command ∷ []) w new first next before after
-one_followed commands command now new w first mid next before at after told more =
+-- commands, and then others
+pub both_followed : (commands others : List Command) (now new : Call) (w : World) (first mid next : ℕ) (before at after : Written) →
+    TellsCommands commands w now first mid before at →
+    ((u : World) → Shows now u → TellsCommands others u new mid next at after) →
+    TellsCommands (commands ++ others) w new first next before after
+both_followed commands others now new w first mid next before at after told more =
     let one = more (run told.0 w) told.2.shows in (
       told.0 ++ one.0,
-      make_more commands command w told.0 one.0 told.1 one.1,
+      make_both commands others w told.0 one.0 told.1 one.1,
       told_on now new w told.0 one.0 first mid next before at after told.2 one.2,
     )
+
+-- one command
+pub one_followed : (command : Command) (new : Call) (w : World) (first next : ℕ) (before after : Written) →
+    TellsCommand command w new first next before after → TellsCommands (command ∷ []) w new first next before after
+one_followed command new w first next before after told =
+    (told.0, (told.0, [], sym (append-nil told.0), told.1, refl), told.2)
 
 -- ---- a whole call
 

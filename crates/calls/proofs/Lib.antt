@@ -1,6 +1,7 @@
 -- The lemmas of `calls`.
 mod ScriptLines
 mod ScriptWords
+mod FollowedScripts
 mod OneScript
 pub mod SentItems
 mod CallEnds

@@ -1,13 +1,13 @@
 -- Lines of a script, one after the other.
 use Rattle.std.proofs.Common.{◌≡◌, ◌+◌, ◌≤◌, ℕ, List, [], ◌∷◌, ◌++◌, Option, Some, None, length, refl, ap, sym, ◌∙◌, append_assoc}
-use Rattle.std.proofs.Common.{length-append, arith, inl, inr}
+use Rattle.std.proofs.Common.{length-append, arith, inl, inr, subst}
 use Rattle.std.proofs.lemmas.List.{append-nil}
 use Rattle.std.specs.List.{AllByRecursion}
 use Rattle.faults.specs.declared.fault.ToolFault.{ToolFault}
 use Rattle.faults.specs.declared.fault.ToolFault.TheVariants.{No, AtBit, AtLine}
 use Rattle.calls.specs.declared.script.Command.{Command}
-use Rattle.calls.specs.Scripts.{AddsLine, HasNoFeed, IsLineAt, IsScript, LinesSay, RefusesLine, RefusesScript, ended}
-use Rattle.calls.specs.Scripts.{said_before}
+use Rattle.calls.specs.Scripts.{AddsLine, HasNoFeed, IsFirstBadLine, IsLineAt, IsNoLine, IsScript, LinesSay, RefusesLine}
+use Rattle.calls.specs.Scripts.{RefusesScript, ended, said_before}
 
 -- one line more says more
 pub lines_more : (lines : List (List ℕ)) (line : List ℕ) (old new : List Command) → LinesSay lines old → HasNoFeed line
@@ -67,16 +67,10 @@ all_read text last old new number so_far one adds = record {
   say = lines_more so_far.lines last old new so_far.say one adds;
 }
 
--- the line that follows is refused
-pub line_refused : (text rest line after : List ℕ) (old : List Command) (number : ℕ) (fault : ToolFault) → ReadSoFar text rest old number
-    → HasNoFeed line
-    → rest ≡ line ++ 10 ∷ after → RefusesLine line number fault → RefusesScript text fault
-line_refused text rest line after old number (No n) so_far one is (inl e) = cc
-line_refused text rest line after old number (No n) so_far one is (inr (e, bad)) = cc
-line_refused text rest line after old number (AtBit n place) so_far one is (inl e) = cc
-line_refused text rest line after old number (AtBit n place) so_far one is (inr (e, bad)) = cc
-line_refused text rest line after old number (AtLine n) so_far one is (inl e) = cc
-line_refused text rest line after old number (AtLine n) so_far one is (inr (e, bad)) = record {
+-- the line that follows isn't one
+pub bad_next : (text rest line after : List ℕ) (old : List Command) (number : ℕ) → ReadSoFar text rest old number → HasNoFeed line
+    → rest ≡ line ++ 10 ∷ after → IsNoLine line → IsFirstBadLine text number
+bad_next text rest line after old number so_far one is bad = record {
   before = so_far.lines;
   commands = old;
   line = line;
@@ -86,8 +80,36 @@ line_refused text rest line after old number (AtLine n) so_far one is (inr (e, b
   one = one;
   ends = inr (after, refl);
   bad = bad;
-  number_is = let same : n ≡ number = cc in same ∙ so_far.number_is;
+  number_is = so_far.number_is;
 }
+
+-- the last line isn't one
+pub bad_last : (text last : List ℕ) (old : List Command) (number : ℕ) → ReadSoFar text last old number → HasNoFeed last → IsNoLine last
+    → IsFirstBadLine text number
+bad_last text last old number so_far one bad = record {
+  before = so_far.lines;
+  commands = old;
+  line = last;
+  rest = [];
+  text_is = so_far.text_is ∙ ap (λ xs. ended so_far.lines ++ xs) (sym (append-nil last));
+  say = so_far.say;
+  one = one;
+  ends = inl refl;
+  bad = bad;
+  number_is = so_far.number_is;
+}
+
+-- the line that follows is refused
+pub line_refused : (text rest line after : List ℕ) (old : List Command) (number : ℕ) (fault : ToolFault) → ReadSoFar text rest old number
+    → HasNoFeed line
+    → rest ≡ line ++ 10 ∷ after → RefusesLine line number fault → RefusesScript text fault
+line_refused text rest line after old number (No n) so_far one is (inl e) = cc
+line_refused text rest line after old number (No n) so_far one is (inr (e, bad)) = cc
+line_refused text rest line after old number (AtBit n place) so_far one is (inl e) = cc
+line_refused text rest line after old number (AtBit n place) so_far one is (inr (e, bad)) = cc
+line_refused text rest line after old number (AtLine n) so_far one is (inl e) = cc
+line_refused text rest line after old number (AtLine n) so_far one is (inr (e, bad)) =
+    subst (IsFirstBadLine text) (let same : number ≡ n = cc in same) (bad_next text rest line after old number so_far one is bad)
 
 -- the last line is refused
 pub last_refused : (text last : List ℕ) (old : List Command) (number : ℕ) (fault : ToolFault) → ReadSoFar text last old number
@@ -98,18 +120,8 @@ last_refused text last old number (No n) so_far one (inr (e, bad)) = cc
 last_refused text last old number (AtBit n place) so_far one (inl e) = cc
 last_refused text last old number (AtBit n place) so_far one (inr (e, bad)) = cc
 last_refused text last old number (AtLine n) so_far one (inl e) = cc
-last_refused text last old number (AtLine n) so_far one (inr (e, bad)) = record {
-  before = so_far.lines;
-  commands = old;
-  line = last;
-  rest = [];
-  text_is = so_far.text_is ∙ ap (λ xs. ended so_far.lines ++ xs) (sym (append-nil last));
-  say = so_far.say;
-  one = one;
-  ends = inl refl;
-  bad = bad;
-  number_is = let same : n ≡ number = cc in same ∙ so_far.number_is;
-}
+last_refused text last old number (AtLine n) so_far one (inr (e, bad)) =
+    subst (IsFirstBadLine text) (let same : number ≡ n = cc in same) (bad_last text last old number so_far one bad)
 
 -- ---- a line by its number
 

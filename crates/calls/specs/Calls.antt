@@ -1,5 +1,6 @@
 -- What the command that runs a call does with a script and images.
 use Rattle.std.specs.Prelude.{◌≡◌, ◌≢◌, ◌<◌, ◌+◌, ◌⊎◌, ℕ, Bool, true, false, List, [], ◌∷◌, ◌++◌, length, map, replicate, All, Err}
+use Rattle.std.specs.Prelude.{Option}
 use Rattle.std.specs.Io.KnownBytes.{Appends}
 use Rattle.raster.specs.Faults.{number_of}
 use Rattle.raster.specs.Pages.{PagePixels}
@@ -22,7 +23,7 @@ use Rattle.line_sim.specs.declared.call.Call.{Call}
 use Rattle.line_sim.specs.declared.event.Event.{Event}
 use Rattle.line_sim.specs.declared.live.Ending.{Ending}
 use Rattle.faults.specs.Faults.{IsOutside}
-use Rattle.calls.specs.Scripts.{IsFirstBadLine, IsScript}
+use Rattle.calls.specs.Scripts.{IsFirstBadLine, IsLineOf, IsScript, said_before}
 use Rattle.calls.specs.SentBits.{WritesCall, WritesSent, Written}
 use Rattle.calls.specs.Transcripts.{call_text, entry_lines}
 use Rattle.faults.specs.declared.fault.ToolFault.{ToolFault}
@@ -103,6 +104,16 @@ abbrev pub TellsCommands : List Command → World → Call → ℕ → ℕ → W
 TellsCommands commands w new first next before after =
     (steps : Steps) × MakeAll commands w steps × TellsSteps steps w new first next before after
 
+-- a line is one of a script, and a call made the steps of its command, if it says one
+abbrev pub TellsLine : List ℕ → Call → Call → ℕ → ℕ → Written → Written → Type 0
+TellsLine line old new first next before after = (said : Option Command) × IsLineOf line said ×
+    ((w : World) → Shows old w → TellsCommands (said_before said []) w new first next before after)
+
+-- a text is a script, and a call made the steps of its commands
+abbrev pub TellsScript : List ℕ → Call → Call → ℕ → ℕ → Written → Written → Type 0
+TellsScript text old new first next before after = (commands : List Command) × IsScript text commands ×
+    ((w : World) → Shows old w → TellsCommands commands w new first next before after)
+
 -- what a call leaves is what its world has come to
 pub record EndsAs (ending : Ending) (w : World) : Type 0 where
   pub pages : ending.pages.items ≡ w.answerer.pages
@@ -131,6 +142,11 @@ pub record TellsCall (options : CallOptions) (document : Document) (commands : L
 abbrev pub LeavesTold : CallOptions → Document → List Command → Written → Written → Ending → Type 0
 LeavesTold options document commands before after ending =
     (told : TellsCall options document commands before after ending.pages.items) × (told.ending ≡ ending)
+
+-- a text is a script, and a call of a document by its commands left this ending
+abbrev pub LeavesScript : CallOptions → Document → List ℕ → Written → Written → Ending → Type 0
+LeavesScript options document text before after ending =
+    (commands : List Command) × IsScript text commands × LeavesTold options document commands before after ending
 
 -- each page has a row or more
 abbrev pub HaveRows : List PagePixels → Type 0

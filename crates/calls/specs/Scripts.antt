@@ -117,9 +117,13 @@ RefusesScript text (AtLine number) = IsFirstBadLine text number
 abbrev pub AddsLine : List ℕ → List Command → List Command → Type 0
 AddsLine line before after = (said : Option Command) × IsLineOf line said × (after ≡ before ++ said_before said [])
 
+-- the line of this number isn't one of a script
+abbrev pub IsBadLine : List ℕ → ℕ → ToolFault → Type 0
+IsBadLine line number fault = (fault ≡ AtLine number) × IsNoLine line
+
 -- why no line was added
 abbrev pub RefusesLine : List ℕ → ℕ → ToolFault → Type 0
-RefusesLine line number fault = (fault ≡ No 9) ⊎ ((fault ≡ AtLine number) × IsNoLine line)
+RefusesLine line number fault = (fault ≡ No 9) ⊎ IsBadLine line number fault
 
 -- ---- what is wrong with a line
 

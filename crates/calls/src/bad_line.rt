@@ -152,15 +152,16 @@ fn follow_fates<T: CallWriter>(
     Err(FAILED)
 }
 
-/// Runs the call of a number, of a document, over a bad line, writes the line of each event as it happens, and then how the call ended, and
-/// returns what it leaves.
-fn tell_driven<T: CallWriter>(
+/// Runs the call of this number, of a document, over a bad line, as `drive_to_end` does. Errs with 26 if no call can have the width of a
+/// page (nothing is written then), with `FAILED` (8) if the writer fails or there are 2^64 events, and with `NO_MEMORY` (9), after its line,
+/// if a growth was refused in an event.
+pub fn drive_document<T: CallWriter>(
     alloc: Global,
     document: Document,
+    writer: &mut T,
     options: &CallOptions,
     line: &BadLine,
     number: u64,
-    writer: &mut T,
 ) -> Result<Ending, ToolFault>
     ensures told { IfOk result (LeavesAfter options.now line.now number document (T.written writer.old) (T.written writer.new)) }
     ensures rows { IfOk result (λ ending. HaveRows ending.pages.items) }
@@ -211,6 +212,6 @@ pub fn drive_to_end<R: Read, T: CallWriter>(
     ensures unwritten { IfErr result (λ fault. IsOutside fault ⊎ (writer.new ≡ writer.old)) }
 {
     let document = read_pbm(alloc, input, options.fine)?;
-    let ending = tell_driven(alloc, document, options, line, number, writer)?;
+    let ending = drive_document(alloc, document, writer, options, line, number)?;
     Ok(ending)
 }

@@ -1,9 +1,9 @@
 //! Runs a call of a document by a script, for the command `call`, over any readers and any writer.
 
-ghost use Rattle.calls.specs.Calls.{HaveRows, IsAtLine, IsBadScript, LeavesCall, LeavesTold, RefusesCall, RunsCall, TellsCommand};
-ghost use Rattle.calls.specs.Calls.{TellsCommands, TellsEvent, TellsNext, answerer_caps};
+ghost use Rattle.calls.specs.Calls.{HaveRows, IsAtLine, IsBadScript, LeavesCall, LeavesScript, RefusesCall, RunsCall, TellsCommand};
+ghost use Rattle.calls.specs.Calls.{TellsEvent, TellsLine, TellsNext, TellsScript, answerer_caps};
 ghost use Rattle.faults.specs.Faults.{IsOutside};
-ghost use Rattle.calls.specs.Scripts.{IsScript};
+ghost use Rattle.calls.specs.Scripts.{IsBadLine};
 ghost use Rattle.faults.specs.declared.fault.ToolFault.TheVariants.{No};
 ghost use Rattle.calls.specs.declared.script.Command.TheVariants.{Events, Polite};
 ghost use Rattle.line_sim.specs.Line.{World as WorldValue};
@@ -16,7 +16,7 @@ ghost use Rattle.std.specs.Prelude.{◌≡◌, ◌+◌, ◌⊎◌, IfErr, IfOk, 
 use crate::call_writer::CallWriter;
 use crate::counts::Counts;
 use crate::options::CallOptions;
-use crate::script::{Command, read_script};
+use crate::script::{Command, check_script, said_at, split_line};
 use crate::sent::write_sent;
 use faults::{FAILED, ToolFault};
 use line_sim::laws::headline;
@@ -161,37 +161,63 @@ fn follow<T: CallWriter>(
     }
 }
 
-/// Gives a call commands, in order, and writes the line of each event.
-fn follow_all<T: CallWriter>(
+/// Gives a call what a script's line of this number says, and writes the line of each event. Errs with `AtLine` (30) if it isn't a line of
+/// a script.
+fn follow_line<T: CallWriter>(
     live: &mut LiveCall,
-    commands: &[Command],
+    line: &[u8],
+    at: u64,
     number: &mut u64,
     writer: &mut T,
 ) -> Result<(), ToolFault>
-    ensures told { OnOk result ((w : WorldValue) → Shows live.old w →
-        TellsCommands commands.now w live.new number.old number.new (T.written writer.old) (T.written writer.new)) }
-    ensures fault { IfErr result IsOutside }
+    ensures told { OnOk result (TellsLine line.now live.old live.new number.old number.new (T.written writer.old) (T.written writer.new)) }
+    ensures fault { IfErr result (λ fault. IsOutside fault ⊎ IsBadLine line.now at fault) }
 {
-    for command in commands {
-        follow(live, *command, number, writer)?;
+    let said = said_at(line, at)?;
+    match said {
+        Some(command) => follow(live, command, number, writer),
+        None => Ok(()),
     }
+}
+
+/// Gives a call the commands of a script, each as its line is read, and writes the line of each event. Errs with `AtLine` (30) at the first
+/// line that isn't one of a script, after the lines before it.
+fn follow_script<T: CallWriter>(
+    live: &mut LiveCall,
+    script: &[u8],
+    number: &mut u64,
+    writer: &mut T,
+) -> Result<(), ToolFault>
+    ensures told { OnOk result (TellsScript script.now live.old live.new number.old number.new (T.written writer.old) (T.written writer.new)) }
+    ensures fault { IfErr result (λ fault. IsOutside fault ⊎ IsBadScript script.now fault) }
+{
+    let mut rest = script;
+    let mut at: u64 = 1;
+    while let Some((line, after)) = split_line(rest) {
+        follow_line(live, line, at, number, writer)?;
+        rest = after;
+        at += 1;
+    }
+    follow_line(live, rest, at, number, writer)?;
     Ok(())
 }
 
-/// Runs a call of a document by commands, writes the line of each event as it happens, and then how the call ended, and returns what it
-/// leaves. Errs with 26 if no call can have the width of a page (nothing is written then), with `FAILED` (8) if the writer fails, and with
-/// `NO_MEMORY` (9).
-fn tell_call<T: CallWriter>(
+/// Runs a call of a document by a script that `check_script` takes, writes the line of each event as it happens, and then how the call
+/// ended, and returns what it leaves, as `call_to_end` does. Errs with 26 if no call can have the width of a page (nothing is written then),
+/// with `FAILED` (8) if the writer fails or there are 2^64 events, and with `NO_MEMORY` (9); with `AtLine` (30) at the first line that isn't
+/// one of a script, after the lines of the events before it.
+pub fn call_of_document<T: CallWriter>(
     alloc: Global,
+    script: &[u8],
     document: Document,
-    commands: &[Command],
-    options: &CallOptions,
     writer: &mut T,
+    options: &CallOptions,
 ) -> Result<Ending, ToolFault>
-    ensures told { IfOk result (LeavesTold options.now document commands.now (T.written writer.old) (T.written writer.new)) }
+    ensures told { IfOk result (LeavesScript options.now document script.now (T.written writer.old) (T.written writer.new)) }
     ensures rows { IfOk result (λ ending. HaveRows ending.pages.items) }
-    ensures refused { IfErr result (λ fault. IsOutside fault ⊎ (¬ AreCallable document × (fault ≡ No 26))) }
-    ensures unwritten { IfErr result (λ fault. IsOutside fault ⊎ (writer.new ≡ writer.old)) }
+    ensures refused { IfErr result (λ fault.
+        IsOutside fault ⊎ (IsBadScript script.now fault ⊎ (¬ AreCallable document × (fault ≡ No 26)))) }
+    ensures unwritten { IfErr result (λ fault. IsOutside fault ⊎ (IsBadScript script.now fault ⊎ (writer.new ≡ writer.old))) }
 {
     headline();
     let _pages = document.pages(); // for the proof: what holds of every document
@@ -207,20 +233,32 @@ fn tell_call<T: CallWriter>(
     };
     write_sent(&live, Counts::none(), writer)?;
     let mut number = 1;
-    follow_all(&mut live, commands, &mut number, writer)?;
+    follow_script(&mut live, script, &mut number, writer)?;
     let ending = live.into_ending();
     writer.ending(&ending)?;
     Ok(ending)
 }
 
-/// Reads a script. Errs with `AtLine` (30) at its first line that isn't one, with `FAILED` (8) if the reader fails, and with `NO_MEMORY`.
-fn read_commands<S: Read>(alloc: Global, script: &mut S) -> Result<Vec<Command>, ToolFault>
-    ensures said { IfOk result (λ commands. IfSome (S.remaining script.old) (λ said. IsScript said commands.items)) }
-    ensures refused { IfErr result (λ fault. IfSome (S.remaining script.old) (λ said. IsOutside fault ⊎ IsBadScript said fault)) }
+/// Does what `call_to_end` does, with a script that is in memory.
+pub fn call_of_text<R: Read, T: CallWriter>(
+    alloc: Global,
+    script: &[u8],
+    input: &mut R,
+    writer: &mut T,
+    options: &CallOptions,
+) -> Result<Ending, ToolFault>
+    ensures called { IfOk result (λ ending. IfSome (R.remaining input.old) (λ images.
+        LeavesCall options.now script.now images (T.written writer.old) (T.written writer.new) ending)) }
+    ensures refused { IfErr result (λ fault. IfSome (R.remaining input.old) (λ images.
+        RefusesCall options.now.fine script.now images fault)) }
+    ensures rows { IfOk result (λ ending. HaveRows ending.pages.items) }
+    ensures early { IfErr result (λ fault. IsAtLine fault → (input.new ≡ input.old) × (writer.new ≡ writer.old)) }
+    ensures unwritten { IfErr result (λ fault. IsOutside fault ⊎ (writer.new ≡ writer.old)) }
 {
-    let mut said = Vec::new(alloc);
-    script.read_to_end(&mut said)?;
-    read_script(alloc, &said)
+    check_script(script)?;
+    let document = read_pbm(alloc, input, options.fine)?;
+    let ending = call_of_document(alloc, script, document, writer, options)?;
+    Ok(ending)
 }
 
 /// Reads a script and then a document's images, and runs the call that the script says between a caller that has the document and an
@@ -245,9 +283,9 @@ pub fn call_to_end<S: Read, R: Read, T: CallWriter>(
     ensures early { IfErr result (λ fault. IsAtLine fault → (input.new ≡ input.old) × (writer.new ≡ writer.old)) }
     ensures unwritten { IfErr result (λ fault. IsOutside fault ⊎ (writer.new ≡ writer.old)) }
 {
-    let commands = read_commands(alloc, script)?;
-    let document = read_pbm(alloc, input, options.fine)?;
-    let ending = tell_call(alloc, document, &commands, options, writer)?;
+    let mut said = Vec::new(alloc);
+    script.read_to_end(&mut said)?;
+    let ending = call_of_text(alloc, said.as_slice(), input, writer, options)?;
     Ok(ending)
 }
 

@@ -1,11 +1,12 @@
 //! What a script says: the events of a call, a line each.
 
-ghost use Rattle.calls.specs.Scripts.{AddsLine, HasNoFeed, IsCount, IsLineOf, IsNoLine, IsScript, RefusesLine};
+ghost use Rattle.calls.specs.Calls.{IsBadScript};
+ghost use Rattle.calls.specs.Scripts.{AddsLine, HasNoFeed, IsBadLine, IsCount, IsLineOf, IsNoLine, IsScript, RefusesLine};
 ghost use Rattle.calls.specs.Scripts.{RefusesScript, Says, word_of};
 ghost use Rattle.line_sim.specs.declared.event.Event.{Event as EventValue};
 ghost use Rattle.faults.specs.declared.fault.ToolFault.TheVariants.{No};
 ghost use Rattle.calls.specs.declared.script.Command.{Command as CommandValue};
-ghost use Rattle.std.specs.Prelude.{◌≡◌, ◌++◌, ◌∷◌, ℕ, List, MatchOption, MatchResult};
+ghost use Rattle.std.specs.Prelude.{◌≡◌, ◌++◌, ◌∷◌, ℕ, IsOk, List, MatchOption, MatchResult};
 
 use faults::{NO_MEMORY, ToolFault};
 use line_sim::Event;
@@ -97,14 +98,24 @@ fn read_line(line: &[u8]) -> Option<Option<Command>>
     Some(Some(command))
 }
 
+/// What the line of this number says: a command, or nothing if it is skipped. Errs with `AtLine` (30) if it isn't a line of a script.
+pub(crate) fn said_at(line: &[u8], number: u64) -> Result<Option<Command>, ToolFault>
+    ensures { MatchResult result (IsLineOf line.now) (IsBadLine line.now number) }
+{
+    match read_line(line) {
+        Some(said) => Ok(said),
+        None => Err(ToolFault::AtLine(number)),
+    }
+}
+
 /// Adds the command of the line of this number. Errs with fault 30 at that line, and with `NO_MEMORY`.
 fn add_line(commands: &mut Vec<Command>, line: &[u8], number: u64) -> Result<(), ToolFault>
     ensures { MatchResult result (λ _. AddsLine line.now commands.old.items commands.new.items) (RefusesLine line.now number) }
 {
-    match read_line(line) {
-        None => Err(ToolFault::AtLine(number)),
-        Some(None) => Ok(()),
-        Some(Some(command)) => match commands.push(command) {
+    match said_at(line, number) {
+        Err(fault) => Err(fault),
+        Ok(None) => Ok(()),
+        Ok(Some(command)) => match commands.push(command) {
             Ok(()) => Ok(()),
             Err(_) => Err(NO_MEMORY),
         },
@@ -141,4 +152,21 @@ pub fn read_script(alloc: Global, text: &[u8]) -> Result<Vec<Command>, ToolFault
     }
     add_line(&mut commands, rest, number)?;
     Ok(commands)
+}
+
+/// Checks that octets are a script, line by line, and keeps nothing. Errs with `AtLine` (30) at the first line that isn't one of a script,
+/// counted from 1, as `read_script` does. Takes no memory.
+pub fn check_script(text: &[u8]) -> Result<(), ToolFault>
+    ensures says { MatchResult result (λ _. (script : List CommandValue) × IsScript text.now script) (IsBadScript text.now) }
+    ensures only { (script : List CommandValue) → IsScript text.now script → IsOk result }
+{
+    let mut rest = text;
+    let mut at: u64 = 1;
+    while let Some((line, after)) = split_line(rest) {
+        let _said = said_at(line, at)?;
+        rest = after;
+        at += 1;
+    }
+    let _said = said_at(rest, at)?;
+    Ok(())
 }

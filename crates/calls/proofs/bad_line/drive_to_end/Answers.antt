@@ -13,5 +13,5 @@ returns-in_err-ending-clause-refused g c =
 pub returns-clause-called : goal.returns-clause-called
 returns-clause-called g c =
     leaves_driven c.args.options.now c.args.line.now c.args.number (g.R.Read.remaining c.args.input.now)
-    (g.T.CallWriter.written c.args.writer.now) (g.T.CallWriter.written c.tell_driven.new.writer) c.in_ok-document.document
+    (g.T.CallWriter.written c.args.writer.now) (g.T.CallWriter.written c.drive_document.new.writer) c.in_ok-document.document
     c.in_ok-ending.ending c.in_ok-document.ensures.found c.in_ok-ending.ensures.told

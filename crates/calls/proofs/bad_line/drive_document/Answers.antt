@@ -1,4 +1,4 @@
--- What the check asks of `tell_driven`.
+-- What the check asks of `drive_document`.
 use Rattle.std.proofs.Common.{[], subst, sym}
 use Rattle.line_sim.specs.Driving.{new_driven}
 use Rattle.line_sim.specs.Fates.{ShowsDriven}
@@ -8,7 +8,7 @@ use Rattle.calls.specs.Calls.{answerer_caps, caller_wish}
 use Rattle.calls.specs.SentBits.{WritesAfter}
 use Rattle.calls.proofs.DrivenCalls.{driven_rows, tells_driven}
 use Rattle.calls.proofs.SentItems.{no_counts}
-use Rattle.calls.proofs.bad_line.tell_driven.Goals as goal
+use Rattle.calls.proofs.bad_line.drive_document.Goals as goal
 
 pub returns-clause-told : goal.returns-clause-told
 returns-clause-told g c =
