@@ -79,6 +79,7 @@ for program in "$@"; do
     try_closed
     try_scripts
     try_calls
+    try_call_memory
     try_counts
     try_drives
     try_bits
