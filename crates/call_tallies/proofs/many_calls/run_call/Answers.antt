@@ -24,21 +24,21 @@ returns-clause-is c =
       drawn = sym c.generator_of-generator.ensures;
     } in
     is_call c.args.options.now c.args.line.now c.args.number c.args.document c.count_fates.new.call c.in_ok-counted.counted
-    c.into_counts_and_document-ending.result.0 c.in_ok-seconds.seconds _ c.in-Ok.ensures.0
+    c.into_counts_and_document-document.result.0 c.in_ok-seconds.seconds _ c.in-Ok.ensures.0
     (subst (λ n. CountsAll c.args.line.now n first c.count_fates.new.call c.in_ok-counted.counted) c.slower_speeds-spare.ensures
     (c.in_ok-counted.ensures.counted first starts))
     (λ w shows.
     let there : Shows c.into_live.result w = subst (λ v. Shows v w) (sym c.into_live.ensures) shows in
     record {
-      stored = c.into_counts_and_document-ending.ensures.stored w there;
-      confirmed = c.into_counts_and_document-ending.ensures.confirmed w there;
-      caller_end = c.into_counts_and_document-ending.ensures.caller w there;
-      answerer_end = c.into_counts_and_document-ending.ensures.answerer w there;
+      stored = c.into_counts_and_document-document.ensures.stored w there;
+      confirmed = c.into_counts_and_document-document.ensures.confirmed w there;
+      caller_end = c.into_counts_and_document-document.ensures.caller w there;
+      answerer_end = c.into_counts_and_document-document.ensures.answerer w there;
     })
     c.in_ok-seconds.ensures.seconds
     c.is_borne-few.ensures
 
 pub returns-clause-document : goal.returns-clause-document
 returns-clause-document c =
-    c.into_counts_and_document-ending.ensures.document ∙ (ap (λ (v : Call). v.caller.document) c.into_live.ensures ∙ (c.in_ok-counted.ensures.document
+    c.into_counts_and_document-document.ensures.document ∙ (ap (λ (v : Call). v.caller.document) c.into_live.ensures ∙ (c.in_ok-counted.ensures.document
     ∙ sym (c.in-Ok.ensures.1 []).world.caller.document))
