@@ -12,7 +12,7 @@ use Rattle.stations.specs.Layers.{Document}
 use Rattle.stations.specs.Taken.{FrontStays, with_front}
 use Rattle.stations.specs.declared.turn.Turn.{Turn}
 use Rattle.stations.specs.declared.turn.Turn.TheVariants.{Silent}
-use Rattle.line_sim.specs.Entries.{Said, answerer_says, entry_of, event_fields, event_says, input_to_answerer, input_to_caller, is_refused, item_of}
+use Rattle.line_sim.specs.Entries.{Said, entry_of, event_fields, event_says, input_to_answerer, input_to_caller, is_refused, item_of}
 use Rattle.line_sim.specs.Entries.{station_says, unless_lost}
 use Rattle.line_sim.specs.Headline.{CanBeWritten, EventsMove, Promised}
 use Rattle.line_sim.specs.Line.{World, Outcome, acts, answerer_acts, answerer_sends, answerer_timer, caller_acts, caller_sends, caller_timer}

@@ -1,5 +1,5 @@
 -- Rows of one width and with the same octets are the same.
-use Rattle.std.proofs.Common.{◌≡◌, List, ℕ, subst, sym, ◌∙◌}
+use Rattle.std.proofs.Common.{◌≡◌, subst, sym, ◌∙◌}
 use Rattle.std.specs.Cmp.Lexicographic.{bytes_decides}
 use Rattle.raster.specs.PbmText.{HoldsRow}
 use Rattle.line_sim.proofs.SamePages.{octets_once, row_once}
