@@ -1,15 +1,14 @@
 -- Many calls over a bad line, one after the other.
 use Rattle.std.proofs.Common.{◌≡◌, ◌⊎◌, ℕ, ◌+◌, ◌<◌, ◌≤◌, List, [], ◌∷◌, ◌++◌, length, Option, inl, inr, refl, ap, sym, subst, ◌∙◌, arith}
 use Rattle.std.specs.Prelude.{◌↔◌, ◌&&◌, Bool, IsTrue, nat_le}
-use Rattle.std.proofs.Common.{codes, true, nat_eq, slice_index, slice_set, take, get_or, Result, Ok, Err}
+use Rattle.std.proofs.Common.{codes, true, nat_eq, slice_index, slice_set, take, get_or}
 use Rattle.std.specs.Io.KnownBytes.{Appends}
 use Rattle.std.specs.List.{flat_map}
 use Rattle.std.proofs.KnownBytes.{Appends-nil, Appends-trans}
 use Rattle.std.proofs.lemmas.Bool.{and_parts, cases_eq, eq-eqb, eqb-true, le-leb, leb-true, ne_eqb}
 use Rattle.std.proofs.lemmas.List.{append-nil, get_or-set_other, get_or-set_same, length-append, length-set}
 use Rattle.std.proofs.lemmas.List.Concat.{flat_map-append}
-use Rattle.raster.specs.Pbm.{AreImages, ReadsImages, read_images}
-use Rattle.raster.specs.declared.fault.RasterFault.{RasterFault}
+use Rattle.raster.specs.Pbm.{AreImages}
 use Rattle.stations.specs.CallerFields.{AreCallable}
 use Rattle.stations.specs.CallerStep.{confirmed}
 use Rattle.stations.specs.Layers.{Document}
@@ -20,7 +19,7 @@ use Rattle.line_sim.specs.Represents.{Shows}
 use Rattle.line_sim.specs.declared.live.EndingCounts.{EndingCounts}
 use Rattle.calls.specs.BadLines.{RefusesDriven, bad_call, gone}
 use Rattle.faults.specs.Faults.{IsOutside}
-use Rattle.call_tallies.specs.ManyCalls.{AreDrivenTo, CountsAll, IsCallOf, IsDrivenTo, Tallies, TellsMany, all_ends, borne_in, end_row, ended_at}
+use Rattle.call_tallies.specs.ManyCalls.{AreCallsOf, CountsAll, IsCallOf, Tallies, TellsCalls, all_ends, borne_in, end_row, ended_at}
 use Rattle.call_tallies.specs.LineTimes.{seconds_in}
 use Rattle.call_tallies.specs.FewTries.{slower_speeds}
 use Rattle.call_tallies.specs.ManyCalls.{few_in, few_row, mild_in, mild_row, one_line, place_of, sum_row, table_text, through_in}
@@ -103,64 +102,43 @@ few_when calls busy few = (there, back)
         ap (λ b. b && (nat_eq busy 0 && few)) (le-leb 3 calls h.0) ∙ (ap (λ b. b && few) (eq-eqb busy 0 h.1) ∙ h.2)
 
 -- one call more
-pub and_call : (options : CallOptions) (bad : BadLine) (first : ℕ) (images : List ℕ) (calls : List OneCall) (call : OneCall) →
-    AreDrivenTo options bad first images calls → IsDrivenTo options bad (first + length calls) images call →
-    AreDrivenTo options bad first images (calls ++ call ∷ [])
-and_call options bad first images [] call are is =
+pub and_call : (options : CallOptions) (bad : BadLine) (first : ℕ) (document : Document) (calls : List OneCall) (call : OneCall) →
+    AreCallsOf options bad first document calls → IsCallOf options bad (first + length calls) document call →
+    AreCallsOf options bad first document (calls ++ call ∷ [])
+and_call options bad first document [] call are is =
     let e : first + 0 ≡ first = omega arith in
-    (subst (λ n. IsDrivenTo options bad n images call) e is, tt)
-and_call options bad first images (one ∷ calls) call are is =
+    (subst (λ n. IsCallOf options bad n document call) e is, tt)
+and_call options bad first document (one ∷ calls) call are is =
     let e : first + length (one ∷ calls) ≡ first + 1 + length calls = omega arith in
-    (are.0, and_call options bad (first + 1) images calls call are.1 (subst (λ n. IsDrivenTo options bad n images call) e is))
-
--- of images that calls were run of, no other document is read, and none is refused
-pub ran_before : ReadsImages → (options : CallOptions) (bad : BadLine) (number : ℕ) (images : List ℕ) (call : OneCall) (fault : ToolFault) →
-    IsDrivenTo options bad number images call → RefusesDriven options.fine images fault → IsOutside fault
-ran_before law options bad number images call fault is (inl outside) = outside
-ran_before law options bad number images call fault is (inr (inl (first, none, number_is))) =
-    let read : read_images options.fine images ≡ Ok is.document = (law options.fine images is.document).1 is.read in
-    let no : ◌≡◌ {A = Result Document RasterFault} (Ok is.document) (Err first) = sym read ∙ none in
-    absurd (cc)
-ran_before law options bad number images call fault is (inr (inr (document, read, wide, number_is))) =
-    let one : read_images options.fine images ≡ Ok is.document = (law options.fine images is.document).1 is.read in
-    let other : read_images options.fine images ≡ Ok document = (law options.fine images document).1 read in
-    let same : ◌≡◌ {A = Result Document RasterFault} (Ok is.document) (Ok document) = sym one ∙ other in
-    absurd (wide (subst AreCallable (ok_inj is.document document same) is.is.callable))
-  where
-    document_of : Result Document RasterFault → Document → Document
-    document_of (Ok document) other = document
-    document_of (Err fault) other = other
-
-    ok_inj : (a b : Document) → ◌≡◌ {A = Result Document RasterFault} (Ok a) (Ok b) → a ≡ b
-    ok_inj a b e = ap (λ r. document_of r a) e
+    (are.0, and_call options bad (first + 1) document calls call are.1 (subst (λ n. IsCallOf options bad n document call) e is))
 
 -- some calls were run, and what was written is their lines
-pub record RanSo (options : CallOptions) (bad : BadLine) (images : List ℕ) (made : ℕ) (tally : Tally) (seconds : Histogram)
+pub record RanSo (options : CallOptions) (bad : BadLine) (document : Document) (made : ℕ) (tally : Tally) (seconds : Histogram)
     (before at : Option (List ℕ)) : Type 0 where
   pub calls : List OneCall
   pub many : length calls ≡ made
-  pub are : AreDrivenTo options bad 0 images calls
+  pub are : AreCallsOf options bad 0 document calls
   pub tallies : Tallies tally calls
   pub counts : CountsSeconds seconds calls
   pub written : Appends before at (flat_map one_line calls)
 
-pub none_ran : (options : CallOptions) (bad : BadLine) (images : List ℕ) (tally : Tally) (seconds : Histogram) (at : Option (List ℕ)) →
-    Tallies tally [] → CountsSeconds seconds [] → RanSo options bad images 0 tally seconds at at
-none_ran options bad images tally seconds at none nothing =
+pub none_ran : (options : CallOptions) (bad : BadLine) (document : Document) (tally : Tally) (seconds : Histogram) (at : Option (List ℕ)) →
+    Tallies tally [] → CountsSeconds seconds [] → RanSo options bad document 0 tally seconds at at
+none_ran options bad document tally seconds at none nothing =
     record { calls = []; many = refl; are = tt; tallies = none; counts = nothing; written = Appends-nil at }
 
-pub one_ran : (options : CallOptions) (bad : BadLine) (images : List ℕ) (made : ℕ) (tally new : Tally) (seconds longer : Histogram)
-    (before at after : Option (List ℕ)) (call : OneCall) → RanSo options bad images made tally seconds before at →
-    IsDrivenTo options bad made images call → Appends at after (one_line call) →
+pub one_ran : (options : CallOptions) (bad : BadLine) (document : Document) (made : ℕ) (tally new : Tally) (seconds longer : Histogram)
+    (before at after : Option (List ℕ)) (call : OneCall) → RanSo options bad document made tally seconds before at →
+    IsCallOf options bad made document call → Appends at after (one_line call) →
     ((calls : List OneCall) → Tallies tally calls → Tallies new (calls ++ call ∷ [])) →
     ((calls : List OneCall) → CountsSeconds seconds calls → CountsSeconds longer (calls ++ call ∷ [])) →
-    RanSo options bad images (made + 1) new longer before after
-one_ran options bad images made tally new seconds longer before at after call ran is line more lasts = record {
+    RanSo options bad document (made + 1) new longer before after
+one_ran options bad document made tally new seconds longer before at after call ran is line more lasts = record {
   calls = ran.calls ++ call ∷ [];
   many = length-append ran.calls (call ∷ []) ∙ ap (λ n. n + 1) ran.many;
-  are = and_call options bad 0 images ran.calls call ran.are
+  are = and_call options bad 0 document ran.calls call ran.are
       (let e : made ≡ 0 + length ran.calls = (let m = ran.many in omega (arith, m)) in
-      subst (λ n. IsDrivenTo options bad n images call) e is);
+      subst (λ n. IsCallOf options bad n document call) e is);
   tallies = more ran.calls ran.tallies;
   counts = lasts ran.calls ran.counts;
   written = subst (Appends before after)
@@ -174,28 +152,28 @@ pub images_refused : (fine : Bool) (images : List ℕ) (document : Document) (fa
 images_refused fine images document fault read (inl outside) = inl outside
 images_refused fine images document fault read (inr not) = inr (inr (document, read, not.0, not.1))
 
--- a fault of a later call is one of the outside, since the first call could be run
-pub fault_later : ReadsImages → (options : CallOptions) (bad : BadLine) (images : List ℕ) (calls : List OneCall) (made : ℕ)
-    (fault : ToolFault) → length calls ≡ made → 0 < made → AreDrivenTo options bad 0 images calls →
-    RefusesDriven options.fine images fault → IsOutside fault
-fault_later law options bad images [] made fault many some are refused = absurd (omega (arith, many, some))
-fault_later law options bad images (call ∷ calls) made fault many some are refused =
-    ran_before law options bad 0 images call fault are.0 refused
+-- if a call was run, the fault of a later one is one of the outside
+fault_later : (options : CallOptions) (bad : BadLine) (document : Document) (calls : List OneCall) (made : ℕ) (fault : ToolFault) →
+    length calls ≡ made → 0 < made → AreCallsOf options bad 0 document calls →
+    IsOutside fault ⊎ (¬ AreCallable document × (fault ≡ No 26)) → IsOutside fault
+fault_later options bad document calls made fault many some are (inl outside) = outside
+fault_later options bad document [] made fault many some are (inr not) = absurd (omega (arith, many, some))
+fault_later options bad document (call ∷ calls) made fault many some are (inr not) = absurd (not.0 are.0.callable)
 
 -- so it is of the call that is under way, unless it is the first
-pub later_or : {Q : Type 0} → ReadsImages → (options : CallOptions) (bad : BadLine) (images : List ℕ) (made : ℕ) (tally : Tally)
-    (seconds : Histogram) (before at : Option (List ℕ)) (fault : ToolFault) → RanSo options bad images made tally seconds before at →
-    (0 < made) ⊎ Q → RefusesDriven options.fine images fault → IsOutside fault ⊎ Q
-later_or law options bad images made tally seconds before at fault ran (inl some) refused =
-    inl (fault_later law options bad images ran.calls made fault ran.many some ran.are refused)
-later_or law options bad images made tally seconds before at fault ran (inr same) refused = inr same
+pub later_or : {Q : Type 0} → (options : CallOptions) (bad : BadLine) (document : Document) (made : ℕ) (tally : Tally)
+    (seconds : Histogram) (before at : Option (List ℕ)) (fault : ToolFault) → RanSo options bad document made tally seconds before at →
+    (0 < made) ⊎ Q → IsOutside fault ⊎ (¬ AreCallable document × (fault ≡ No 26)) → IsOutside fault ⊎ Q
+later_or options bad document made tally seconds before at fault ran (inl some) refused =
+    inl (fault_later options bad document ran.calls made fault ran.many some ran.are refused)
+later_or options bad document made tally seconds before at fault ran (inr same) refused = inr same
 
 -- all calls were run, and their table was written
-pub all_ran : (options : CallOptions) (bad : BadLine) (images : List ℕ) (made times : ℕ) (tally : Tally) (seconds : Histogram)
-    (before at mid after : Option (List ℕ)) → RanSo options bad images made tally seconds before at → made ≡ times →
+pub all_ran : (options : CallOptions) (bad : BadLine) (document : Document) (made times : ℕ) (tally : Tally) (seconds : Histogram)
+    (before at mid after : Option (List ℕ)) → RanSo options bad document made tally seconds before at → made ≡ times →
     ((calls : List OneCall) → Tallies tally calls → Appends at mid (table_text calls)) →
-    ((calls : List OneCall) → CountsSeconds seconds calls → TellsSeconds calls mid after) → TellsMany options bad times images before after
-all_ran options bad images made times tally seconds before at mid after ran all table row =
+    ((calls : List OneCall) → CountsSeconds seconds calls → TellsSeconds calls mid after) → TellsCalls options bad times document before after
+all_ran options bad document made times tally seconds before at mid after ran all table row =
     let told : TellsSeconds ran.calls mid after = row ran.calls ran.counts in
     record {
       calls = ran.calls;

@@ -120,17 +120,11 @@ pub record IsCallOf (options : CallOptions) (bad : BadLine) (number : ℕ) (docu
   pub seconds : call.seconds ≡ seconds_in clocks call.counts.waited call.caller_end
   pub few : IsTrue call.few ↔ HasFewTries options bad number document made
 
--- the images are a document's, and the call of this number, of that document, came to this result
-pub record IsDrivenTo (options : CallOptions) (bad : BadLine) (number : ℕ) (images : List ℕ) (call : OneCall) : Type 0 where
-  pub document : Document
-  pub read : AreImages options.fine images document
-  pub is : IsCallOf options bad number document call
-
--- the calls of the numbers from a first one on, of the same images
-abbrev pub AreDrivenTo : CallOptions → BadLine → ℕ → List ℕ → List OneCall → Type 0
-AreDrivenTo options bad first images [] = Unit {0}
-AreDrivenTo options bad first images (call ∷ calls) =
-    IsDrivenTo options bad first images call × AreDrivenTo options bad (first + 1) images calls
+-- calls of a document, of the numbers from a first one on
+abbrev pub AreCallsOf : CallOptions → BadLine → ℕ → Document → List OneCall → Type 0
+AreCallsOf options bad first document [] = Unit {0}
+AreCallsOf options bad first document (call ∷ calls) =
+    IsCallOf options bad first document call × AreCallsOf options bad (first + 1) document calls
 
 -- ---- what is written
 
@@ -236,11 +230,18 @@ pub record Tallies (tally : Tally) (calls : List OneCall) : Type 0 where
 abbrev pub many_text : List OneCall → Shares → List ℕ
 many_text calls shares = flat_map one_line calls ++ (table_text calls ++ seconds_row shares)
 
--- So many calls of the images over a bad line were driven, numbered from 0, and what was written is the line of each and the table.
-pub record TellsMany (options : CallOptions) (bad : BadLine) (times : ℕ) (images : List ℕ) (before after : Option (List ℕ)) : Type 0 where
+-- So many calls of a document over a bad line were driven, numbered from 0, and what was written is the line of each and the table.
+pub record TellsCalls (options : CallOptions) (bad : BadLine) (times : ℕ) (document : Document) (before after : Option (List ℕ))
+    : Type 0 where
   pub calls : List OneCall
   pub many : length calls ≡ times
-  pub are : AreDrivenTo options bad 0 images calls
+  pub are : AreCallsOf options bad 0 document calls
   pub shares : Shares
   pub are_shares : AreShares shares calls
   pub written : Appends before after (many_text calls shares)
+
+-- the images are a document's, and so many of its calls were driven and told
+pub record TellsMany (options : CallOptions) (bad : BadLine) (times : ℕ) (images : List ℕ) (before after : Option (List ℕ)) : Type 0 where
+  pub document : Document
+  pub read : AreImages options.fine images document
+  pub told : TellsCalls options bad times document before after

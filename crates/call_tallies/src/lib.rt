@@ -8,4 +8,4 @@ mod seconds;
 mod tallies;
 mod tries;
 
-pub use crate::many_calls::drive_many;
+pub use crate::many_calls::{drive_document_often, drive_many};

@@ -2,13 +2,12 @@
 
 ghost use Rattle.calls.specs.BadLines.{Going, RefusesDriven, Stands, is_marked};
 ghost use Rattle.faults.specs.Faults.{IsOutside};
-ghost use Rattle.call_tallies.specs.ManyCalls.{CountsAll, IsCallOf, TellsMany, counts_in, counts_with, frames_again};
+ghost use Rattle.call_tallies.specs.ManyCalls.{CountsAll, IsCallOf, TellsCalls, TellsMany, counts_in, counts_with, frames_again};
 ghost use Rattle.call_tallies.specs.ManyCalls.{counts_words, ends_words, is_delivery, is_loss, is_spoiling, one_line};
 ghost use Rattle.call_tallies.specs.FewTries.{slower_speeds};
 ghost use Rattle.call_tallies.specs.Totals.{one_if};
 ghost use Rattle.faults.specs.declared.fault.ToolFault.TheVariants.{No};
 ghost use Rattle.line_sim.specs.Fates.{entries_of};
-ghost use Rattle.raster.specs.Pbm.{AreImages};
 ghost use Rattle.stations.specs.CallerFields.{AreCallable};
 ghost use Rattle.std.specs.Io.KnownBytes.{Appends};
 ghost use Rattle.std.specs.Prelude.{◌≡◌, ◌≤◌, ◌+◌, ◌↔◌, ◌⊎◌, [], ◌∷◌, IfErr, IfOk, IsTrue, OnOk};
@@ -24,8 +23,7 @@ use calls::{
 use faults::{FAILED, NO_MEMORY, ToolFault};
 use line_sim::{DrivenCall, Entry, Event, Kind, Step};
 use rand_pcg::Lcg64Xsh32;
-use raster::laws::pbm_reads_exactly;
-use raster::read_pbm;
+use raster::{Document, read_pbm};
 use signals::{Modems, Wish};
 use stations::{CodedDocument, End};
 use std::alloc::Global;
@@ -279,21 +277,6 @@ fn run_call(
     Ok((ran, document))
 }
 
-/// Reads images as a document, and codes its pages as the calls send them. Errs with the first fault of the images, and with `NO_MEMORY`.
-fn coded_images(
-    alloc: Global,
-    images: &[u8],
-    options: &CallOptions,
-) -> Result<CodedDocument, ToolFault>
-    ensures read { IfOk result (AreImages options.now.fine images.now) }
-    ensures refused { IfErr result (RefusesDriven options.now.fine images.now) }
-{
-    let mut input = images;
-    let document = read_pbm(alloc, &mut input, options.fine)?;
-    let coded = CodedDocument::coded(alloc, document, options.coding)?;
-    Ok(coded)
-}
-
 /// Writes a call's number and how it ended for both stations, without the end of the line. Errs with `FAILED` (8) if the writer fails, and
 /// with `NO_MEMORY`.
 fn write_ends<W: Write>(call: &OneCall, writer: &mut W) -> Result<(), ToolFault>
@@ -334,6 +317,37 @@ fn write_call<W: Write>(call: &OneCall, writer: &mut W) -> Result<(), ToolFault>
     write_counts(&call.counts, writer)
 }
 
+/// Runs calls 0 to `times` - 1 of a document over a lossy line, as `drive_many` does. Errs with 26 if no call can have the width of a page
+/// (nothing is written then), with `FAILED` (8) if the writer fails or a sum would be 2^64, and with `NO_MEMORY` (9).
+pub fn drive_document_often<W: Write>(
+    alloc: Global,
+    document: Document,
+    writer: &mut W,
+    options: &CallOptions,
+    line: &BadLine,
+    times: u64,
+) -> Result<(), ToolFault>
+    ensures told { OnOk result (TellsCalls options.now line.now times document (W.contents writer.old) (W.contents writer.new)) }
+    ensures refused { IfErr result (λ fault. IsOutside fault ⊎ (¬ AreCallable document × (fault ≡ No 26))) }
+    ensures unwritten { IfErr result (λ fault. IsOutside fault ⊎ (writer.new ≡ writer.old)) }
+{
+    let mut tally = Tally::new();
+    let mut seconds = Seconds::new(alloc)?;
+    let mut coded = CodedDocument::coded(alloc, document, options.coding)?;
+    for number in 0..times {
+        // A call takes its document and gives it back; only numbers are kept of it. The call draws from the stream of its number, so it is
+        // the call that runs alone with that number.
+        let (call, again) = run_call(alloc, coded, options, line, number)?;
+        coded = again;
+        write_call(&call, writer)?;
+        tally.add(&call)?;
+        seconds.add(&call)?;
+    }
+    tally.write(writer)?;
+    seconds.write(writer)?;
+    Ok(())
+}
+
 /// Runs calls 0 to `times` - 1 over a lossy line, one after the other, each as `drive_to_end` runs the call of its number. Writes a line
 /// for each as it is over: how it ended for both stations, how many items came and were lost, how many training checks were spoiled and how
 /// many FCDs were sent again. Then it writes a table: how many calls ended how for the caller, how many had at most two losses, how many
@@ -352,20 +366,8 @@ pub fn drive_many<W: Write>(
     ensures refused { IfErr result (RefusesDriven options.now.fine images.now) }
     ensures unwritten { IfErr result (λ fault. IsOutside fault ⊎ (writer.new ≡ writer.old)) }
 {
-    pbm_reads_exactly();
-    let mut tally = Tally::new();
-    let mut seconds = Seconds::new(alloc)?;
-    let mut document = coded_images(alloc, images, options)?;
-    for number in 0..times {
-        // A call takes its document and gives it back; only numbers are kept of it. The call draws from the stream of its number, so it is
-        // the call that runs alone with that number.
-        let (call, again) = run_call(alloc, document, options, line, number)?;
-        document = again;
-        write_call(&call, writer)?;
-        tally.add(&call)?;
-        seconds.add(&call)?;
-    }
-    tally.write(writer)?;
-    seconds.write(writer)?;
+    let mut input = images;
+    let document = read_pbm(alloc, &mut input, options.fine)?;
+    drive_document_often(alloc, document, writer, options, line, times)?;
     Ok(())
 }
