@@ -172,7 +172,8 @@ later_or options bad document made tally seconds before at fault ran (inr same) 
 pub all_ran : (options : CallOptions) (bad : BadLine) (document : Document) (made times : ℕ) (tally : Tally) (seconds : Histogram)
     (before at mid after : Option (List ℕ)) → RanSo options bad document made tally seconds before at → made ≡ times →
     ((calls : List OneCall) → Tallies tally calls → Appends at mid (table_text calls)) →
-    ((calls : List OneCall) → CountsSeconds seconds calls → TellsSeconds calls mid after) → TellsCalls options bad times document before after
+    ((calls : List OneCall) → CountsSeconds seconds calls → TellsSeconds calls mid after) →
+    TellsCalls options bad times document before after
 all_ran options bad document made times tally seconds before at mid after ran all table row =
     let told : TellsSeconds ran.calls mid after = row ran.calls ran.counts in
     record {

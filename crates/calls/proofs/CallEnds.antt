@@ -17,7 +17,8 @@ use Rattle.calls.proofs.FollowedScripts.{bad_is_none}
 
 pub leaves_call : (options : CallOptions) (script : List ℕ) (images : Option (List ℕ)) (before after : Written) (document : Document)
     (ending : Ending) → IfSome images (λ octets. AreImages options.fine octets document) →
-    LeavesScript options document script before after ending → IfSome images (λ octets. LeavesCall options script octets before after ending)
+    LeavesScript options document script before after ending →
+    IfSome images (λ octets. LeavesCall options script octets before after ending)
 leaves_call options script None before after document ending read told = tt
 leaves_call options script (Some images) before after document ending read (commands, said, (told, left)) =
     (record { commands = commands; said = said; document = document; read = read; told = told }, left)

@@ -153,8 +153,8 @@ fn follow_fates<T: CallWriter>(
 }
 
 /// Runs the call of this number, of a document, over a bad line, as `drive_to_end` does. Errs with 26 if no call can have the width of a
-/// page (nothing is written then), with `FAILED` (8) if the writer fails or there are 2^64 events, and with `NO_MEMORY` (9), after its line,
-/// if a growth was refused in an event.
+/// page (nothing is written then); with `FAILED` (8) if the writer fails or there are 2^64 events; and with `NO_MEMORY` (9), after its
+/// line, if a growth was refused in an event.
 pub fn drive_document<T: CallWriter>(
     alloc: Global,
     document: Document,

@@ -188,7 +188,8 @@ fn follow_script<T: CallWriter>(
     number: &mut u64,
     writer: &mut T,
 ) -> Result<(), ToolFault>
-    ensures told { OnOk result (TellsScript script.now live.old live.new number.old number.new (T.written writer.old) (T.written writer.new)) }
+    ensures told { OnOk result (TellsScript script.now live.old live.new number.old number.new
+        (T.written writer.old) (T.written writer.new)) }
     ensures fault { IfErr result (λ fault. IsOutside fault ⊎ IsBadScript script.now fault) }
 {
     let mut rest = script;
@@ -202,10 +203,9 @@ fn follow_script<T: CallWriter>(
     Ok(())
 }
 
-/// Runs a call of a document by a script that `check_script` takes, writes the line of each event as it happens, and then how the call
-/// ended, and returns what it leaves, as `call_to_end` does. Errs with 26 if no call can have the width of a page (nothing is written then),
-/// with `FAILED` (8) if the writer fails or there are 2^64 events, and with `NO_MEMORY` (9); with `AtLine` (30) at the first line that isn't
-/// one of a script, after the lines of the events before it.
+/// Runs a call of a document by a script that `check_script` takes, as `call_to_end` does. Errs with 26 if no call can have the width of a
+/// page (nothing is written then); with `FAILED` (8) if the writer fails or there are 2^64 events; with `NO_MEMORY` (9); and with `AtLine`
+/// (30) at the first line that isn't one of a script, after the lines of the events before it.
 pub fn call_of_document<T: CallWriter>(
     alloc: Global,
     script: &[u8],
