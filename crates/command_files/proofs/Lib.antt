@@ -1,2 +1,3 @@
 -- The lemmas of what commands share.
 pub mod ApartLemmas
+mod DocumentLemmas

@@ -1,9 +1,13 @@
 -- In which ways octets are read as a page, how an image begins and how many octets it has, and which octets of a file are kept.
-use Rattle.std.specs.Prelude.{◌≡◌, ◌⊎◌, ◌+◌, ◌*◌, ◌++◌, ◌&&◌, ℕ, Bool, true, nat_eq, List, [], ◌∷◌, length, take}
+use Rattle.std.specs.Prelude.{◌≡◌, ◌⊎◌, ◌+◌, ◌*◌, ◌++◌, ◌&&◌, ℕ, Bool, true, nat_eq, List, [], ◌∷◌, Err, length, take}
 use Rattle.raster.specs.Pages.{PagePixels}
-use Rattle.raster.specs.Pbm.{stride}
+use Rattle.raster.specs.Faults.{number_of}
+use Rattle.raster.specs.Pbm.{read_images, stride}
 use Rattle.raster.specs.PbmText.{header_text}
 use Rattle.raster.specs.Pixels.{IsWidth}
+use Rattle.raster.specs.declared.fault.RasterFault.{RasterFault}
+use Rattle.faults.specs.declared.fault.ToolFault.{ToolFault}
+use Rattle.faults.specs.declared.fault.ToolFault.TheVariants.{No}
 use Rattle.command_files.specs.declared.files.bounded.Ways.{Ways}
 use Rattle.command_files.specs.declared.files.bounded.Ways.TheVariants.{One, Tried, Any}
 
@@ -18,6 +22,10 @@ abbrev pub begins_image : List ℕ → Bool
 begins_image [] = true
 begins_image (first ∷ []) = nat_eq first 80
 begins_image (first ∷ second ∷ rest) = nat_eq first 80 && nat_eq second 52
+
+-- octets are no images, and the fault is their first one
+abbrev pub AreNoImages : Bool → List ℕ → ToolFault → Type 0
+AreNoImages fine octets fault = (first : RasterFault) × (read_images fine octets ≡ Err first) × (fault ≡ No (number_of first))
 
 -- the octets that are kept, where there is room for so many more, before and after others were read: as many of them, or none if memory is
 -- refused

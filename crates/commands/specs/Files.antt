@@ -1,5 +1,5 @@
 -- Which files each command reads and writes, in the order in which they are added.
-use Rattle.std.specs.Prelude.{ℕ, ◌++◌, ◌∷◌, [], List, Option, String, cond, codes, flat_map, map, option_map, string_bytes, unwrap_or}
+use Rattle.std.specs.Prelude.{ℕ, ◌++◌, ◌∷◌, [], List, Option, String, cond, codes, flat_map, option_map, string_bytes, unwrap_or}
 use Rattle.std.specs.Path.{path_file_name}
 use Rattle.std.specs.Str.{bytes_eq}
 use Rattle.command_files.specs.Apart.{NamedFile, bits_in, first_page_in, may_be_written, printed, read_as, written_as}

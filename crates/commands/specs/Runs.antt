@@ -2,7 +2,7 @@
 --
 -- No clause says what a file holds. So the octets that a command has read, and what a writer had before and after, are some octets of which
 -- the engine's definition holds.
-use Rattle.std.specs.Prelude.{◌≡◌, ◌⊎◌, ◌<◌, ◌||◌, ◌-◌, ℕ, Bool, List, Option, Some, None, Result, Ok, Err, not, false}
+use Rattle.std.specs.Prelude.{◌≡◌, ◌⊎◌, ◌<◌, ◌||◌, ℕ, Bool, List, Option, Some, None, Result, Ok, Err, not, false}
 use Rattle.std.specs.Prelude.{IfOk, if◌then◌else◌, length}
 use Rattle.call_tallies.specs.ManyCalls.{TellsMany}
 use Rattle.captures.specs.declared.frames.ListForm.{ListForm}
@@ -75,6 +75,11 @@ IdentifyGives (Err fault) = IsOutside fault ⊎ IsIdentified (Nothing fault)
 abbrev pub as_wanted : Bool → Ending → Completeness
 as_wanted normal ending = completeness_of (ended_normally ending || not normal)
 
+-- Why the file of a call's document has none that a call carries: it can't be read, its octets are no images, or a page has a width that no
+-- call has (26).
+abbrev pub IsNoDocument : Bool → ToolFault → Type 0
+IsNoDocument fine fault = IsOutside fault ⊎ ((images : List ℕ) × RefusesDriven fine images fault)
+
 -- a call by a script was run, and left this ending
 abbrev pub IsScripted : ScriptCommand → Ending → Type 0
 IsScripted command ending = (script images : List ℕ) × (before after : Written)
@@ -101,7 +106,7 @@ AreDriven command times = (images : List ℕ) × (before after : Option (List �
 
 -- no call over the bad line was run to its end
 abbrev pub IsUndriven : DriveCommand → ToolFault → Type 0
-IsUndriven command fault = IsOutside fault ⊎ ((images : List ℕ) × RefusesDriven command.options.fine images fault)
+IsUndriven command fault = IsNoDocument command.options.fine fault
 
 -- one call was run and ended so, or as many as are asked for; or they were refused
 abbrev pub DriveGives : DriveCommand → Result Completeness ToolFault → Type 0

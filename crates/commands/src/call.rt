@@ -7,23 +7,23 @@ pub mod drives;
 ghost use Rattle.calls.specs.Calls.{HaveRows};
 ghost use Rattle.command_files.specs.Apart.{AddsFiles, read_as};
 ghost use Rattle.commands.specs.Files.{named_in, script_files};
-ghost use Rattle.commands.specs.Runs.{IsScripted, IsUnscripted};
+ghost use Rattle.commands.specs.Runs.{IsNoDocument, IsScripted, IsUnscripted};
 ghost use Rattle.faults.specs.Faults.{IsOutside};
-ghost use Rattle.std.specs.Prelude.{◌≡◌, ◌∷◌, IfErr, IfOk, OnOk, codes, string_bytes};
+ghost use Rattle.raster.specs.Pbm.{AreImages};
+ghost use Rattle.std.specs.Prelude.{◌≡◌, ◌∷◌, ℕ, IfErr, IfOk, List, OnOk, codes, string_bytes};
 
-use calls::{CallOptions, call_to_end, ended_normally, read_script};
+use calls::{CallOptions, call_of_document, check_script, ended_normally};
 use command_files::command::{Completeness, NO_NAMES, Names, Runs};
-use command_files::context::{Context, Part};
+use command_files::context::{Context, Part, first_not_callable};
 use command_files::files::apart::CommandFiles;
 use command_files::files::bounded::read_script_file;
 use command_files::files::images::save_images;
-use command_files::files::input::read_images;
-use command_files::files::output;
 use command_files::files::progress::Watch;
+use command_files::files::{input, output};
 use faults::ToolFault;
 use line_sim::Ending;
 use page_files::PageForm;
-use raster::Page;
+use raster::{Document, Page};
 use std::alloc::AllocError;
 
 /// The files of a call.
@@ -74,6 +74,24 @@ impl<'a> CallFiles<'a> {
             output::check_folder(context, folder, Part::Bits)?;
         }
         Ok(())
+    }
+
+    /// Reads the document, whose lines are `fine` or not. Errors: the first fault of the images; `WidthNotCallable` (26) if no call carries
+    /// a page, which is noted; `Io` (8) if the file can't be read, and that is noted; `NoMemory` (9).
+    pub(crate) fn read_document(
+        self,
+        context: &mut Context<'_>,
+        fine: bool,
+    ) -> Result<Document, ToolFault>
+        ensures found { IfOk result (λ document. (images : List ℕ) × AreImages fine images document) }
+        ensures refused { IfErr result (IsNoDocument fine) }
+    {
+        let document = input::read_document(context, self.input, Watch::Shown, fine)?;
+        if let Some(cause) = first_not_callable(document.pages(), 0) {
+            context.note_cause(cause);
+            return Err(ToolFault::No(26));
+        }
+        Ok(document)
     }
 
     /// Writes the pages that a call has stored, one after the other, if a file is named and there are any. Errors: `Io` (8) if they can't
@@ -169,13 +187,16 @@ impl ScriptCommand {
     {
         read_script_file(context, self.script.as_str())?;
         // a wrong script is refused before the document is read
-        let _commands = read_script(context.alloc(), context.script())?;
-        read_images(context, files.input, Watch::Shown)?;
+        check_script(context.script())?;
+        let document = files.read_document(context, self.options.fine)?;
         let mut writer = diagram::open(context, files)?;
-        let alloc = context.alloc();
-        let mut script = context.script();
-        let mut images = context.octets();
-        let called = call_to_end(alloc, &mut script, &mut images, &mut writer, &self.options);
+        let called = call_of_document(
+            context.alloc(),
+            context.script(),
+            document,
+            &mut writer,
+            &self.options,
+        );
         let ended = diagram::close(context, writer, called.is_ok(), files.diagram);
         let ending = called?;
         ended?;

@@ -18,7 +18,7 @@ use crate::explain::told::Told;
 use calls::line_fault_at;
 use clap::Error;
 use command_files::Runs;
-use command_files::context::{Cause, Context, first_not_callable};
+use command_files::context::{Cause, Context};
 use command_files::notices::is_explained;
 use faults::{
     Expected, Explained, FAILED, FaultKind, Known, LineFault, ToolFault, is_shown, write_fault,
@@ -26,9 +26,7 @@ use faults::{
 };
 use page_code::Coding;
 use page_files::{PageForm, ends_by_eofb, ends_in_empty_runs, may_follow, refused_at, refused_in};
-use raster::{Page, read_pbm};
 use run_tables::Order;
-use signals::PageWidth;
 use std::alloc::{AllocError, Global};
 use std::env::{self, Env, FillError};
 use std::io;
@@ -216,7 +214,6 @@ fn cause_of(form: Option<PageForm>, fault: ToolFault, context: &Context<'_>) -> 
     requires { IfSome form (λ form. IsWidth form.width) }
 {
     match fault {
-        ToolFault::No(26) => width_not_callable(context.rt(), context.octets()),
         ToolFault::AtBit { no: _, place } => {
             let form = form?;
             match form.coding {
@@ -263,13 +260,6 @@ fn t6_cause(form: PageForm, fault: ToolFault, context: &Context<'_>) -> Option<C
             None => Some(Cause::NoEofb),
         },
     }
-}
-
-/// Returns the first page of a document that a call can't carry.
-fn width_not_callable(rt: &HostRuntime, images: &[u8]) -> Option<Cause> {
-    let mut images = images;
-    let document = read_pbm(rt.alloc(), &mut images, false).ok()?;
-    first_not_callable(document.pages(), 0)
 }
 
 /// Returns the width of the rows of a page of T.4, if they all have the same one, and it isn't the one given.

@@ -1,8 +1,12 @@
 -- The pages of a document from a number on, written as images and read again.
-use Rattle.std.proofs.Common.{◌≡◌, ◌∙◌, ◌∷◌, [], ℕ, zero, suc, Bool, List, ap, drop, map, refl, sym, take}
+use Rattle.std.proofs.Common.{◌≡◌, ◌∙◌, ◌∷◌, ◌⊎◌, [], ℕ, zero, suc, Bool, Err, List, ap, drop, inl, inr, map, refl, sym, take}
 use Rattle.raster.specs.Pages.{PagePixels}
 use Rattle.raster.specs.Pbm.{AreImages, Follow}
 use Rattle.raster.specs.PbmText.{with_fine}
+use Rattle.command_files.specs.Bounds.{AreNoImages}
+use Rattle.faults.specs.Faults.{IsOutside}
+use Rattle.faults.specs.declared.fault.ToolFault.{ToolFault}
+use Rattle.station_commands.specs.Stations.{SendsFrom}
 
 same_page : (fine : Bool) (page : PagePixels) → page.fine ≡ fine → with_fine fine page ≡ page
 same_page fine page lines = ap (λ f. with_fine f page) (sym lines)
@@ -37,3 +41,9 @@ take_map fine (suc n) (page ∷ pages) = ap (λ others. with_fine fine page ∷ 
 pub part_lines : (fine : Bool) (n count : ℕ) (pages : List PagePixels) → map (with_fine fine) pages ≡ pages
     → map (with_fine fine) (take count (drop n pages)) ≡ take count (drop n pages)
 part_lines fine n count pages same = take_map fine count (drop n pages) ∙ ap (take count) (rest_lines fine n pages same)
+
+-- octets that are no images have no pages
+pub none_from : (fine : Bool) (from : ℕ) (fault : ToolFault) → IsOutside fault ⊎ ((octets : List ℕ) × AreNoImages fine octets fault)
+    → SendsFrom fine from (Err fault)
+none_from fine from fault (inl outside) = inl outside
+none_from fine from fault (inr (octets, none)) = inr (octets, inl none)

@@ -37,7 +37,7 @@ use calls::{CallOptions, end_word};
 use command_files::command::{Completeness, NO_NAMES, Names, Runs};
 use command_files::context::{Cause, Context, Part, first_not_callable};
 use command_files::files::apart::CommandFiles;
-use command_files::files::input::read_images;
+use command_files::files::input::read_document;
 use command_files::files::output::Rights;
 use command_files::files::printed::{self, Printed};
 use command_files::files::progress::Watch;
@@ -533,13 +533,12 @@ impl DialCommand {
     fn document(&self, context: &mut Context<'_>) -> Result<Document, ToolFault>
         ensures { SendsFrom self.now.options.fine self.now.from result }
     {
-        read_images(context, self.input.as_str(), Watch::Silent)?;
-        let mut images = context.octets();
-        let document = read_pbm(context.alloc(), &mut images, self.options.fine)?;
+        let fine = self.options.fine;
+        let document = read_document(context, self.input.as_str(), Watch::Silent, fine)?;
         let count = document.pages().len();
         let before = self.pages_before();
         if before < count {
-            return pages_after(context.alloc(), document, before, self.options.fine);
+            return pages_after(context.alloc(), document, before, fine);
         }
         let from = self.from;
         context.note_cause(Cause::FewerPages { count, from });

@@ -1,13 +1,15 @@
 //! Files that are read.
 
 ghost use Rattle.faults.specs.Faults.{IsOutside};
-ghost use Rattle.command_files.specs.Bounds.{KeepsFirst, begins_image};
-ghost use Rattle.std.specs.Prelude.{◌≡◌, IfErr};
+ghost use Rattle.command_files.specs.Bounds.{AreNoImages, KeepsFirst, begins_image};
+ghost use Rattle.raster.specs.Pbm.{AreImages};
+ghost use Rattle.std.specs.Prelude.{◌≡◌, ◌⊎◌, ℕ, IfErr, IfOk, List};
 
 use crate::context::{Context, Part};
 use crate::files::STANDARD;
 use crate::files::progress::{Progress, Watch};
 use faults::ToolFault;
+use raster::{Document, read_pbm};
 use std::io::{ErrorKind, Read};
 use std::{fs, io};
 
@@ -167,16 +169,20 @@ fn open_as<'a>(
     })
 }
 
-/// Reads the input as images; its octets go to the context. If it doesn't begin as an image, its first octets are all that is read. Errors:
-/// `Io` (8) if it can't be read; `NoMemory` (9).
-pub fn read_images(context: &mut Context<'_>, input: &str, watch: Watch) -> Result<(), ToolFault>
-    ensures { IfErr result IsOutside }
+/// Reads the images of the input as a document, whose lines are `fine` or not, and keeps only its first octets beside that. If the input
+/// doesn't begin as an image, these are all that is read. Errors: the first fault of the images; `Io` (8) if it can't be read, and that is
+/// noted; `NoMemory` (9).
+pub fn read_document(
+    context: &mut Context<'_>,
+    input: &str,
+    watch: Watch,
+    fine: bool,
+) -> Result<Document, ToolFault>
+    ensures found { IfOk result (λ document. (octets : List ℕ) × AreImages fine octets document) }
+    ensures fault { IfErr result (λ fault. IsOutside fault ⊎ ((octets : List ℕ) × AreNoImages fine octets fault)) }
 {
-    let mut reader = open_image(context, input, watch)?;
-    let mut octets = Vec::new(context.alloc());
-    let read = reader.read_to_end(&mut octets);
-    reader.close(context);
-    let _count = read?;
-    context.keep_octets(octets);
-    Ok(())
+    let mut source = open_image(context, input, watch)?;
+    let read = read_pbm(context.alloc(), &mut source, fine);
+    source.close(context);
+    Ok(read?)
 }

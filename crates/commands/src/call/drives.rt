@@ -6,14 +6,12 @@ ghost use Rattle.commands.specs.Runs.{AreDriven, IsDriven, IsUndriven};
 ghost use Rattle.std.specs.Prelude.{◌≡◌, IfErr, IfOk, OnOk};
 
 use crate::call::{CallFiles, diagram};
-use call_tallies::drive_many;
-use calls::{BadLine, CallOptions, drive_to_end, ended_normally};
+use call_tallies::drive_document_often;
+use calls::{BadLine, CallOptions, drive_document, ended_normally};
 use command_files::command::{Completeness, Names, Runs};
 use command_files::context::Context;
 use command_files::files::apart::CommandFiles;
-use command_files::files::input::read_images;
 use command_files::files::printed;
-use command_files::files::progress::Watch;
 use faults::ToolFault;
 use line_sim::Ending;
 use page_files::PageForm;
@@ -67,7 +65,7 @@ impl Runs for DriveCommand {
         files.check(context)?;
         match self.times {
             Some(times) => {
-                self.drive_times(context, times)?;
+                self.drive_times(context, files, times)?;
                 Ok(Completeness::Whole)
             }
             None => {
@@ -103,13 +101,11 @@ impl DriveCommand {
         ensures rows { IfOk result (λ ending. HaveRows ending.pages.items) }
         ensures refused { IfErr result (IsUndriven self.now) }
     {
-        read_images(context, files.input, Watch::Shown)?;
+        let document = files.read_document(context, self.options.fine)?;
         let mut writer = diagram::open(context, files)?;
-        let alloc = context.alloc();
-        let mut images = context.octets();
-        let driven = drive_to_end(
-            alloc,
-            &mut images,
+        let driven = drive_document(
+            context.alloc(),
+            document,
             &mut writer,
             &self.options,
             &self.line,
@@ -122,15 +118,20 @@ impl DriveCommand {
     }
 
     /// Runs many calls over the bad line, and prints the line of each as it is over, and then the table.
-    fn drive_times(&self, context: &mut Context<'_>, times: u32) -> Result<(), ToolFault>
+    fn drive_times(
+        &self,
+        context: &mut Context<'_>,
+        files: CallFiles<'_>,
+        times: u32,
+    ) -> Result<(), ToolFault>
         ensures told { OnOk result (AreDriven self.now times) }
         ensures refused { IfErr result (IsUndriven self.now) }
     {
-        read_images(context, self.input.as_str(), Watch::Shown)?;
+        let document = files.read_document(context, self.options.fine)?;
         let mut writer = printed::print(context)?;
-        let driven = drive_many(
+        let driven = drive_document_often(
             context.alloc(),
-            context.octets(),
+            document,
             &mut writer,
             &self.options,
             &self.line,
