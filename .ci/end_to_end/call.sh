@@ -231,7 +231,7 @@ try_call_memory() {
     is_same "$work/pages" "$work/many.pbm" "the pages of a call of 40"
     takes_at_most 22000 call --lose 1% --seed 1 --out "$work/pages" "$work/many.pbm"
     takes_at_most 26000 call --lose 1% --seed 1 --times 2 "$work/many.pbm"
-    yes 'caller-t5 1' | head -n 300000 > "$work/script"
-    takes_at_most 9000 call --script "$work/script" "$input"
+    yes 'caller-t5 1' | head -n 1000000 > "$work/script"
+    takes_at_most 20000 call --script "$work/script" "$input"
     rm "$work/many.pbm" "$work/pages"
 }
