@@ -1,7 +1,7 @@
 -- What is counted of calls over a bad line, and the lines and the table that it is printed in, by rows that were worked by hand.
 use Rattle.std.specs.Prelude.{◌≡◌, ◌*◌, ◌∷◌, [], ℕ, Bool, List, None, Some, true, false, map}
 use Rattle.call_tallies.specs.LineTimes.{after_item, longer_wait, new_clock, octet_after, seconds_in, waited_in}
-use Rattle.call_tallies.specs.ManyCalls.{all_ends, borne_in, counts_words, few_row, frames_again, is_delivery, is_loss, is_mild, is_spoiling}
+use Rattle.call_tallies.specs.ManyCalls.{all_ends, borne_in, few_row, frames_again, is_delivery, is_loss, is_mild, is_spoiling}
 use Rattle.call_tallies.specs.ManyCalls.{mild_in, mild_row, one_line, place_of, row_of, sum_row, through_in}
 use Rattle.call_tallies.specs.Seconds.{IsShare, counted_seconds, seconds_row}
 use Rattle.call_tallies.specs.declared.line_time.Clock.{Clock}
