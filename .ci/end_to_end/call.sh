@@ -222,14 +222,14 @@ try_counts() {
 }
 
 # The memory of a call: each page once for both stations, and not once more for its file or for the document's; and a script's text once. Of
-# a page 450 KB at most, where its rows have 432, and 4 MB for the rest; of many calls the codes of the pages too.
+# a page 450 KB at most, where its rows have 432, and 6 MB for the rest; of many calls the codes of the pages too.
 try_call_memory() {
     rows='[bytes(row) for row in ((number * 2654435761 % 2**32).to_bytes(4, "big") + bytes(212) for number in range(2000))]'
     python3 -B -c "import sys; sys.stdout.buffer.write((b'P4\n1728 2000\n' + b''.join($rows)) * 40)" > "$work/many.pbm"
     echo 'polite 1000000' > "$work/script"
-    takes_at_most 22000 call --script "$work/script" --out "$work/pages" "$work/many.pbm"
+    takes_at_most 24000 call --script "$work/script" --out "$work/pages" "$work/many.pbm"
     is_same "$work/pages" "$work/many.pbm" "the pages of a call of 40"
-    takes_at_most 22000 call --lose 1% --seed 1 --out "$work/pages" "$work/many.pbm"
+    takes_at_most 24000 call --lose 1% --seed 1 --out "$work/pages" "$work/many.pbm"
     takes_at_most 26000 call --lose 1% --seed 1 --times 2 "$work/many.pbm"
     yes 'caller-t5 1' | head -n 1000000 > "$work/script"
     takes_at_most 20000 call --script "$work/script" "$input"

@@ -68,7 +68,7 @@ static void hears(g3_terminal *answerer, const heard *burst)
 /* A station's turn on the line; the caller's bursts are kept. */
 static unsigned turn(g3_terminal *from, g3_terminal *to, int caller, int number)
 {
-    g3_burst burst;
+    g3_burst burst = G3_INIT(g3_burst);
     unsigned said = 0;
     for (uint64_t length; says(from, &burst, &length); said++) {
         millis += 75 + 1000.0 * (double)burst.bits / speeds[burst.carrier];
@@ -94,7 +94,7 @@ static void record(g3_document *document, uint32_t coding, const g3_caps *caps)
 {
     g3_terminal caller = G3_EMPTY, answerer = G3_EMPTY;
     g3_wish wish = {G3_V17, coding, 256};
-    g3_state state = {0, 0, 0, 0, 0, 0, 0};
+    g3_state state = G3_INIT(g3_state);
     check(g3_answerer_new(&answerer, caps), "an answerer");
     check(g3_caller_new(&caller, document, &wish), "a caller");
     for (int number = 0; turn(&answerer, &caller, 0, number) + turn(&caller, &answerer, 1, number) > 0; number++) continue;
@@ -107,7 +107,7 @@ static void record(g3_document *document, uint32_t coding, const g3_caps *caps)
 /* An answerer has the first bursts of the call. */
 static void has(g3_terminal *answerer, unsigned first)
 {
-    g3_burst burst;
+    g3_burst burst = G3_INIT(g3_burst);
     uint64_t length;
     for (unsigned at = 0; at < first; at++) {
         if (at == 0 || bursts[at].turn != bursts[at - 1].turn)
@@ -136,7 +136,7 @@ static void time_calls(const g3_caps *caps, unsigned calls)
     if (times == NULL) exit(1);
     for (unsigned call = 0; call < calls; call++) {
         g3_terminal answerer = G3_EMPTY;
-        g3_state state = {0, 0, 0, 0, 0, 0, 0};
+        g3_state state = G3_INIT(g3_state);
         double begun = micros();
         check(g3_answerer_new(&answerer, caps), "an answerer");
         has(&answerer, many);
