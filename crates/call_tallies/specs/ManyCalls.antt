@@ -230,7 +230,7 @@ pub record Tallies (tally : Tally) (calls : List OneCall) : Type 0 where
 abbrev pub many_text : List OneCall → Shares → List ℕ
 many_text calls shares = flat_map one_line calls ++ (table_text calls ++ seconds_row shares)
 
--- So many calls of a document over a bad line were driven, numbered from 0, and what was written is the line of each and the table.
+-- This number of calls of a document over a bad line were driven, numbered from 0, and what was written is the line of each and the table.
 pub record TellsCalls (options : CallOptions) (bad : BadLine) (times : ℕ) (document : Document) (before after : Option (List ℕ))
     : Type 0 where
   pub calls : List OneCall
@@ -240,7 +240,7 @@ pub record TellsCalls (options : CallOptions) (bad : BadLine) (times : ℕ) (doc
   pub are_shares : AreShares shares calls
   pub written : Appends before after (many_text calls shares)
 
--- the images are a document's, and so many of its calls were driven and told
+-- the images are a document's, and its calls were driven and told
 pub record TellsMany (options : CallOptions) (bad : BadLine) (times : ℕ) (images : List ℕ) (before after : Option (List ℕ)) : Type 0 where
   pub document : Document
   pub read : AreImages options.fine images document

@@ -40,5 +40,5 @@ returns-clause-is c =
 
 pub returns-clause-document : goal.returns-clause-document
 returns-clause-document c =
-    c.into_counts_and_document-document.ensures.document ∙ (ap (λ (v : Call). v.caller.document) c.into_live.ensures ∙ (c.in_ok-counted.ensures.document
-    ∙ sym (c.in-Ok.ensures.1 []).world.caller.document))
+    c.into_counts_and_document-document.ensures.document ∙ (ap (λ (v : Call). v.caller.document) c.into_live.ensures ∙
+    (c.in_ok-counted.ensures.document ∙ sym (c.in-Ok.ensures.1 []).world.caller.document))
