@@ -345,7 +345,7 @@ pub header_of : (told : Option Header) (header : Header) (octets : List ℕ) →
     → IfSome told (λ header. header_at octets ≡ Ok (size_of header, [])) → header_at octets ≡ Ok (size_of header, [])
 header_of told header octets is e = subst (λ (t : Option Header). IfSome t (λ header. header_at octets ≡ Ok (size_of header, []))) is e
 
--- a reader behind an empty buffer
+-- a reader after an empty buffer
 pub nothing_before : (known : Option (List ℕ)) → prepend_known [] known ≡ known
 nothing_before None = refl
 nothing_before (Some xs) = refl

@@ -1,13 +1,13 @@
 //! Rows painted from runs, and from the places where their color turns.
 
 ghost use Rattle.raster.specs.PaintedRows.{AppendsPainted};
-ghost use Rattle.raster.specs.Changes.{IsRising, turning};
+ghost use Rattle.raster.specs.Changes.{IsRising, differ, turning};
 ghost use Rattle.raster.specs.Packed.{bit_in, bits_in, IsPacked};
-ghost use Rattle.raster.specs.Painting.{drawn_bit, FitsPainter, IsStored, Paints};
+ghost use Rattle.raster.specs.Painting.{bit_of_turns, drawn_bit, FitsPainter, IsStored, Paints};
 ghost use Rattle.raster.specs.Pixels.{colors, IsWidth};
 ghost use Rattle.raster.specs.Runs.{colored};
 ghost use Rattle.raster.specs.declared.row.Color.{Color};
-ghost use Rattle.std.specs.Prelude.{ℕ, true, false, ◌≡◌, ◌≤◌, ◌<◌, ◌+◌, ◌-◌, ◌*◌, ◌%◌, All, IfOk, None, OnErr, OnOk, [], ◌∷◌, ◌++◌, List, if◌then◌else◌, length, nat_lt, not, sum};
+ghost use Rattle.std.specs.Prelude.{ℕ, true, false, ◌≡◌, ◌≤◌, ◌<◌, ◌+◌, ◌-◌, ◌*◌, ◌%◌, All, IfOk, None, OnErr, OnOk, [], ◌∷◌, ◌++◌, List, drop, if◌then◌else◌, length, nat_lt, not, slice_index_or, sum};
 
 use crate::packed::{Order, octets_for};
 use crate::words::{first_bits, octets_of, put_octets};
@@ -119,6 +119,24 @@ fn reach(octets: &mut [u8], brush: Brush, place: u32) -> Brush
     next_word(octets, brush, place)
 }
 
+/// Turns the color at a place of the brush's word and after it.
+#[inline(always)]
+fn turn_within(brush: Brush, place: u32) -> Brush
+    requires begun { 64 ≤ brush.end }
+    requires aligned { brush.end % 64 ≡ 0 }
+    requires low { brush.end ≤ place + 64 }
+    requires high { place < brush.end }
+    ensures end { result.end ≡ brush.end }
+    ensures drawn { (octets : List ℕ) (k : ℕ) → drawn_bit octets (result.end - 64) result.word k
+        ≡ (if nat_lt k place then drawn_bit octets (brush.end - 64) brush.word k
+        else not (drawn_bit octets (brush.end - 64) brush.word k)) }
+{
+    Brush {
+        end: brush.end,
+        word: brush.word ^ u64::MAX >> (place % 64),
+    }
+}
+
 /// Turns the color at a place and after it.
 #[inline(always)]
 fn turn(octets: &mut [u8], brush: Brush, place: u32) -> Brush
@@ -136,11 +154,43 @@ fn turn(octets: &mut [u8], brush: Brush, place: u32) -> Brush
     ensures drawn { (k : ℕ) → drawn_bit octets.new (result.end - 64) result.word k
         ≡ (if nat_lt k place then drawn_bit octets.old (brush.end - 64) brush.word k else not (drawn_bit octets.old (brush.end - 64) brush.word k)) }
 {
-    let Brush { end, word } = reach(octets, brush, place);
-    Brush {
-        end,
-        word: word ^ u64::MAX >> (place % 64),
+    let here = reach(octets, brush, place);
+    turn_within(here, place)
+}
+
+/// Turns the color at each of four of the rising places and after it; mostly all four are in the
+/// brush's word.
+#[inline(always)]
+fn turn_four(octets: &mut [u8], brush: Brush, places: &[u32], at: usize) -> Brush
+    requires begun { 64 ≤ brush.end }
+    requires aligned { brush.end % 64 ≡ 0 }
+    requires rising { IsRising places.now }
+    requires within { at + 4 ≤ length places.now }
+    requires past { brush.end ≤ slice_index_or places.now at 0 + 64 }
+    requires small { slice_index_or places.now (at + 3) 0 ≤ 2432 }
+    requires room { slice_index_or places.now (at + 3) 0 + 64 ≤ 8 * length octets.old }
+    requires clear { (k : ℕ) → brush.end ≤ k + 64 → bit_in Order.MsbFirst octets.old k ≡ false }
+    ensures length { length octets.new ≡ length octets.old }
+    ensures begun { 64 ≤ result.end }
+    ensures aligned { result.end % 64 ≡ 0 }
+    ensures low { result.end ≤ slice_index_or places.now (at + 3) 0 + 64 }
+    ensures clear { (k : ℕ) → result.end ≤ k + 64 → bit_in Order.MsbFirst octets.new k ≡ false }
+    ensures drawn { (k : ℕ)
+        → differ (bit_of_turns (drop (at + 4) places.now) k)
+        (drawn_bit octets.new (result.end - 64) result.word k)
+        ≡ differ (bit_of_turns (drop at places.now) k)
+        (drawn_bit octets.old (brush.end - 64) brush.word k) }
+{
+    if places[at + 3] < brush.end {
+        let one = turn_within(brush, places[at]);
+        let two = turn_within(one, places[at + 1]);
+        let three = turn_within(two, places[at + 2]);
+        return turn_within(three, places[at + 3]);
     }
+    let one = turn(octets, brush, places[at]);
+    let two = turn(octets, one, places[at + 1]);
+    let three = turn(octets, two, places[at + 2]);
+    turn(octets, three, places[at + 3])
 }
 
 /// Paints on to the row's end.
@@ -193,6 +243,11 @@ pub(crate) fn paint_turns(octets: &mut [u8], places: &[u32], width: u32)
     let mut brush = Brush { end: 64, word: 0 };
     let mut at = 0;
     while at < places.len() {
+        if places.len() - at >= 4 {
+            brush = turn_four(octets, brush, places, at);
+            at += 4;
+            continue;
+        }
         brush = turn(octets, brush, places[at]);
         at += 1;
     }

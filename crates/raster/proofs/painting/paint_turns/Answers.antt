@@ -1,4 +1,4 @@
-use Rattle.std.proofs.Common.{◌-◌, arith, ◌∙◌, ◌≡◌, ◌≤◌, ◌<◌, ◌+◌, ◌∷◌, [], drop, get_or, length}
+use Rattle.std.proofs.Common.{arith, ◌-◌, ◌∙◌, ◌≡◌, ◌≤◌, ◌<◌, ◌+◌, ◌∷◌, [], drop, get_or, length}
 use Rattle.std.proofs.lemmas.List.{drop_all, drop_more}
 use Rattle.std.specs.Prelude.{All}
 use Rattle.raster.proofs.PaintingLemmas.{drawn_none, drawn_turn, painted_turns}
@@ -17,6 +17,22 @@ loop-at-init c = record {
   drawn = drawn_none c.args.octets.now c.args.places.now c.requires.clear;
 }
 
+pub loop-at-preserved-then-places-at-ge4 : goal.loop-at-preserved-then-places-at-ge4
+loop-at-preserved-then-places-at-ge4 c =
+    let places = c.args.places.now in
+    let at = c.loop-at.at in
+    let inside : get_or places (at + 3) 0 < c.args.width = c.requires.below (at + 3) 0 (omega arith) in
+    record {
+      within = omega arith;
+      room = omega (arith, c.turn_four-brush.ensures.length, c.loop-at.invariant.room);
+      begun = c.turn_four-brush.ensures.begun;
+      aligned = c.turn_four-brush.ensures.aligned;
+      low = λ h. let up = c.requires.rising (at + 3) (at + 4) (omega arith) h in omega (arith, c.turn_four-brush.ensures.low);
+      below = omega (arith, c.turn_four-brush.ensures.low);
+      clear = c.turn_four-brush.ensures.clear;
+      drawn = λ k. c.turn_four-brush.ensures.drawn k ∙ c.loop-at.invariant.drawn k;
+    }
+
 pub loop-at-preserved : goal.loop-at-preserved
 loop-at-preserved c =
     let places = c.args.places.now in
@@ -31,8 +47,8 @@ loop-at-preserved c =
       low = λ h. let up = c.requires.rising c.loop-at.at (c.loop-at.at + 1) (omega arith) h in omega (arith, c.turn-brush.ensures.low);
       below = omega (arith, c.turn-brush.ensures.low);
       clear = c.turn-brush.ensures.clear;
-      drawn = drawn_turn c.loop-at.octets (c.loop-at.brush.end - 64) c.loop-at.brush.word place (drop (c.loop-at.at + 1) places) places
-          c.turn-brush.new.octets (c.turn-brush.result.end - 64) c.turn-brush.result.word (rw next at c.loop-at.invariant.drawn)
+      drawn = drawn_turn c.loop-at.octets (c.loop-at.brush.end - 64) c.loop-at.brush.word place (drop (c.loop-at.at + 1) places)
+          places c.turn-brush.new.octets (c.turn-brush.result.end - 64) c.turn-brush.result.word (rw next at c.loop-at.invariant.drawn)
           c.turn-brush.ensures.drawn;
     }
 
