@@ -33,6 +33,14 @@ word_lengths color run listed =
     let below = ltb-true (length (code_word color run)) 14 parts.1 in
     (above, omega (arith, below))
 
+runs_test : list_all (λ n. ltb n 2624) (first_runs 104) ≡ true
+unfolding first_runs
+runs_test = refl
+
+-- no code is for more than 2,623 pixels
+pub run_small : (run : ℕ) → Contains (runs_among AllCodes) run → run < 2624
+run_small run listed = ltb-true run 2624 (all_test (λ n. ltb n 2624) (first_runs 104) run runs_test listed)
+
 -- the codes that may come are among all
 listed_all : (among : Among) (run : ℕ) → Contains (runs_among among) run → Contains (runs_among AllCodes) run
 listed_all AllCodes run listed = listed

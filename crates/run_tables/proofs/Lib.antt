@@ -27,3 +27,4 @@ pub mod RowWriting
 pub mod PendingLemmas
 pub mod FaultNumbers
 pub mod PaintedRows
+pub mod PairLemmas

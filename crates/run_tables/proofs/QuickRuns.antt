@@ -13,7 +13,7 @@ use Rattle.run_tables.specs.ReadTables.{entry_picked, entry_for}
 use Rattle.run_tables.specs.Reading.{Reading, rest_of, after}
 use Rattle.run_tables.specs.Texts.{pick}
 use Rattle.run_tables.specs.Windows.{IsWindow, passed}
-use Rattle.run_tables.proofs.CodePicks.{entry_found, entry_low, word_lengths}
+use Rattle.run_tables.proofs.CodePicks.{entry_found, entry_low, run_small, word_lengths}
 use Rattle.run_tables.proofs.CodeReads.{stands_pick}
 use Rattle.run_tables.proofs.NumberLemmas.{front_first, front_moved}
 use Rattle.run_tables.proofs.RunReads.{rest_after}
@@ -27,6 +27,16 @@ entry_short color x entry is = at (pick (code_word color) (first_runs 104) x) re
     at (Some run) e same =
         let found = stands_pick color AllCodes x run e in
         omega (arith, ap (λ (p : ℕ × ℕ). p.1) same, (word_lengths color run found.0).1)
+
+-- nor is any code for more than 2,623 pixels
+pub entry_small : (color : Color) (x : List Bool) (entry : ℕ × ℕ) → entry ≡ entry_for color x → entry.0 < 2624
+entry_small color x entry is = at (pick (code_word color) (first_runs 104) x) refl is
+  where
+    at : (picked : Option ℕ) → pick (code_word color) (first_runs 104) x ≡ picked → entry ≡ entry_picked color picked → entry.0 < 2624
+    at None e same = omega (arith, ap (λ (p : ℕ × ℕ). p.0) same)
+    at (Some run) e same =
+        let found = stands_pick color AllCodes x run e in
+        omega (arith, ap (λ (p : ℕ × ℕ). p.0) same, run_small run found.0)
 
 -- the code that begins a number's first bits is the one that is picked
 pub code_seen : (color : Color) (count : ℕ) (x : List Bool) (word run bits : ℕ) → (run, bits) ≡ entry_for color (number_text 13 (word / 2 ^
@@ -95,6 +105,6 @@ window_on reader used word count window within =
           (omega arith) (omega arith) window.held);
     }
 
--- so many bits, and then more
+-- a number of bits, and then more
 pub passed_twice : (reader : Reading) (used count : ℕ) → passed reader (used + count) ≡ passed (passed reader used) count
 passed_twice reader used count = ap (λ (n : ℕ). record reader { place = n }) (omega arith)

@@ -1,5 +1,5 @@
 -- The tables by which codes are read hold what is picked of the code table.
-use Rattle.std.proofs.Common.{ℕ, ◌≡◌, ◌+◌, ◌-◌, ◌/◌, ◌^◌, ◌<◌, ◌≤◌, Bool, true, false, List, [], ◌∷◌, ◌++◌, map, length, replicate, get_or}
+use Rattle.std.proofs.Common.{ℕ, ◌≡◌, ◌+◌, ◌-◌, ◌*◌, ◌/◌, ◌%◌, ◌^◌, ◌<◌, ◌≤◌, Bool, true, false, List, [], ◌∷◌, ◌++◌, map, length, replicate, get_or}
 use Rattle.std.proofs.Common.{Some, None, refl, ap, sym, ◌∙◌, ◌≢◌, arith, cond, inl, inr, ltb, subst, suc, zero}
 use mathlib.Core.Bool.{beq}
 use Rattle.std.specs.Prelude.{Option}
@@ -7,18 +7,19 @@ use Rattle.std.specs.List.{range_with_len, list_all}
 use Rattle.std.proofs.lemmas.Bool.{cases_lt, ltb-true, and_parts, and_from, false≢true}
 use Rattle.std.proofs.lemmas.List.FromFn.{get_or-map-range_with_len, get_or-range_with_len, length-range_with_len}
 use Rattle.std.proofs.lemmas.List.FromFn.{length-map-range_with_len}
-use Rattle.std.proofs.lemmas.List.{get_or_append_left, get_or-append-add, length-append}
+use Rattle.std.proofs.lemmas.List.{get_or_append_left, get_or-append-add, get_or-map, length-append, length-map}
 use Rattle.raster.specs.declared.row.Color.{Color}
 use Rattle.raster.specs.declared.row.Color.TheVariants.{White, Black}
 use Rattle.run_tables.specs.declared.reader.Among.TheVariants.{AllCodes}
 use Rattle.run_tables.specs.Codes.{codes_of, code_word, run_at}
 use Rattle.run_tables.specs.CodeReading.{first_runs}
 use Rattle.run_tables.specs.Numbers.{number_text}
-use Rattle.run_tables.specs.ReadTables.{entry_of, entries, held_entries, short_bits, long_zeros, entry_picked, entry_for}
+use Rattle.run_tables.specs.ReadTables.{entry_of, entries, held_entries, short_bits, long_zeros, packed, unpacked, entry_picked, entry_for}
 use Rattle.run_tables.specs.Texts.{begins, pick}
 use Rattle.run_tables.proofs.BeginsLemmas.{list_all_at, pick_begins}
 use Rattle.run_tables.proofs.CodeReads.{pick_stands}
 use Rattle.run_tables.proofs.NumberLemmas.{number_split, number_zeros}
+use Rattle.run_tables.proofs.QuickRuns.{entry_small}
 use Rattle.run_tables.proofs.TableLemmas.{listed, table_is}
 
 -- the first code of a list of places is the one that is picked
@@ -195,3 +196,49 @@ short_zero color held key place d e h there =
 pub long_places : (color : Color) → long_zeros color + (13 - long_zeros color) ≡ 13
 long_places White = refl
 long_places Black = refl
+
+-- ---- an entry as one number
+
+pub unpacked_is : (entry : ℕ × ℕ) → entry.0 < 65536 → unpacked (packed entry) ≡ entry
+unfolding packed
+unpacked_is (run, bits) small =
+    let low : (run + bits * 65536) % 65536 ≡ run = omega (arith, small) in
+    let high : (run + bits * 65536) / 65536 ≡ bits = omega (arith, small) in
+    rw (low, high) refl
+
+pub length_packed : (color : Color) (held : List ℕ) → held ≡ map packed (held_entries color)
+    → length held ≡ 2 ^ (13 - long_zeros color) + 2 ^ short_bits color
+length_packed color held e = ap length e ∙ (length-map (held_entries color) packed ∙ held_both color _ refl)
+
+pub packed_at : (color : Color) (held : List ℕ) (place : ℕ) → held ≡ map packed (held_entries color) → place < length held
+    → get_or held place 0 ≡ packed (get_or (held_entries color) place (0, 0))
+packed_at color held place e within =
+    let inside : place < length (held_entries color) = rw (e, length-map (held_entries color) packed) at within in
+    ap (λ (es : List ℕ). get_or es place 0) e ∙ get_or-map packed (held_entries color) place (0, 0) 0 inside
+
+short_pair : (color : Color) (key place : ℕ) → key < 2 ^ short_bits color → place ≡ 2 ^ (13 - long_zeros color) + key
+    → get_or (held_entries color) place (0, 0) ≡ entry_for color (number_text (short_bits color) key)
+unfolding entries
+short_pair color key place h there =
+    let long : List (ℕ × ℕ) = entries (codes_of color) (long_zeros color) (13 - long_zeros color) in
+    let short : List (ℕ × ℕ) = entries (codes_of color) 0 (short_bits color) in
+    let f : ℕ → ℕ × ℕ = λ key. entry_of (codes_of color) (number_text (short_bits color) key) in
+    let at : place ≡ length long + key = there ∙ ap (λ n. n + key) (sym (held_long color long refl)) in
+    ap (λ n. get_or (long ++ short) n (0, 0)) at ∙ (get_or-append-add long short key (0, 0) ∙
+    (get_or-map-range_with_len f 0 (2 ^ short_bits color) key key (0, 0) h (omega arith) ∙ entry_is color _))
+
+-- where an entry of the short table has no length, all bits but the last two are 0; any other is the entry of the bits
+pub short_packed : (color : Color) (held : List ℕ) (rest next key place : ℕ) → held ≡ map packed (held_entries color)
+    → short_bits color + rest ≡ 13 → next / 2 ^ rest ≡ key → key < 2 ^ short_bits color → place ≡ 2 ^ (13 - long_zeros color) + key
+    → ((unpacked (get_or held place 0)).1 ≡ 0 → key < 4)
+    × ((unpacked (get_or held place 0)).1 ≢ 0 → unpacked (get_or held place 0) ≡ entry_for color (number_text 13 next))
+short_packed color held rest next key place e sum is h there =
+    let within : place < length held = rw (length_packed color held e, there) (omega (arith, h)) in
+    let pair : ℕ × ℕ = get_or (held_entries color) place (0, 0) in
+    let small = entry_small color (number_text (short_bits color) key) pair (short_pair color key place h there) in
+    let same : unpacked (get_or held place 0) ≡ pair = ap unpacked (packed_at color held place e within) ∙ unpacked_is pair (omega (arith, small)) in
+    let seen = short_zero color (held_entries color) key place (0, 0) refl h there in (
+      λ zero. seen.0 (ap (λ (e : ℕ × ℕ). e.1) (sym same) ∙ zero),
+      λ some. same ∙ short_held color (held_entries color) rest next key place (0, 0) refl sum is
+          (seen.1 (λ zero. some (ap (λ (e : ℕ × ℕ). e.1) same ∙ zero))) h there,
+    )

@@ -267,6 +267,12 @@ written_on row places width index at place old mid now color done all wide some 
     let step = change_on row places width index at place all wide some h before is in
     next_written row old mid now at place color done step.0 step.3 wrote
 
+-- two texts are written at once: the second one after the first
+pub both_written : (old now : Bits) (first second : List Bool) → Appends (first ++ second) old now
+    → Appends second (record old { bits = old.bits ++ first }) now
+both_written old now first second wrote =
+    wrote ∙ ap (λ (x : List Bool). record old { bits = x }) (sym (append_assoc old.bits first second))
+
 -- the last run is written, after the last changing position
 pub last_written : (row : List Color) (places : List ℕ) (width index at : ℕ) (old mid now : Bits) (color : Color)
     → WritesTo row old mid at color → AreChanges row places → length row ≡ width → 0 < index → length places ≤ index

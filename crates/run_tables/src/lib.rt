@@ -4,6 +4,8 @@
 
 mod fault;
 pub mod laws;
+mod pair_table;
+mod pair_words;
 mod read_table;
 mod reader;
 mod row_reader;

@@ -2,21 +2,47 @@
 //! the run and the length of the code word that begins them, or 0 and 0.
 
 ghost use Rattle.run_tables.specs.Numbers.{number_text};
-ghost use Rattle.run_tables.specs.ReadTables.{entry_for, held_entries, long_zeros};
-ghost use Rattle.std.specs.Prelude.{◌≡◌, ◌<◌, ◌-◌, ◌^◌};
+ghost use Rattle.run_tables.specs.ReadTables.{entry_for, held_entries, long_zeros, packed, unpacked};
+ghost use Rattle.std.specs.Prelude.{◌≡◌, ◌≤◌, ◌<◌, ◌-◌, ◌^◌, IfNone, IfSome, map};
 
 use raster::Color;
 
 /// A list of entries, each written as a run in pixels and the length of its code word in bits.
 macro_rules! entries {
     ($($run:literal $length:literal),* $(,)?) => {
-        [$(($run, $length)),*]
+        [$($run + $length * 0x1_0000),*]
     };
+}
+
+/// An entry: a run in pixels in the lowest 16 bits, and above them the length of its code word in bits; or 0.
+#[derive(Clone, Copy)]
+pub(crate) struct TableEntry {
+    packed: u32,
+}
+
+impl TableEntry {
+    /// The run.
+    #[inline(always)]
+    pub(crate) fn run(self) -> u32
+        ensures is { result ≡ (unpacked self.packed).0 }
+        ensures below { result < 2 ^ 16 }
+    {
+        self.packed & 0xFFFF
+    }
+
+    /// The length of its code word.
+    #[inline(always)]
+    pub(crate) fn bits(self) -> u32
+        ensures is { result ≡ (unpacked self.packed).1 }
+        ensures below { result < 2 ^ 16 }
+    {
+        self.packed >> 16
+    }
 }
 
 /// White: by the 6 bits after seven 0 bits, followed by the entries by the first 9 bits, if the first seven
 /// aren't all 0.
-const WHITE_ENTRIES: [(u16, u8); 576] = entries![
+const WHITE_ENTRIES: [u32; 576] = entries![
     0 0, 0 0, 0 0, 0 0, 0 0, 0 0, 0 0, 0 0, 0 0, 0 0, 0 0, 0 0, 0 0, 0 0, 0 0, 0 0, 0 0, 0 0, 0 0,
     0 0, 0 0, 0 0, 0 0, 0 0, 0 0, 0 0, 0 0, 0 0, 0 0, 0 0, 0 0, 0 0, 1792 11, 1792 11, 1792 11,
     1792 11, 1984 12, 1984 12, 2048 12, 2048 12, 2112 12, 2112 12, 2176 12, 2176 12, 2240 12,
@@ -57,7 +83,7 @@ const WHITE_ENTRIES: [(u16, u8); 576] = entries![
 
 /// Black: by the 9 bits after four 0 bits, followed by the entries by the first 6 bits, if the first four
 /// aren't all 0.
-const BLACK_ENTRIES: [(u16, u8); 576] = entries![
+const BLACK_ENTRIES: [u32; 576] = entries![
     0 0, 0 0, 0 0, 0 0, 0 0, 0 0, 0 0, 0 0, 0 0, 0 0, 0 0, 0 0, 0 0, 0 0, 0 0, 0 0, 0 0, 0 0, 0 0,
     0 0, 0 0, 0 0, 0 0, 0 0, 0 0, 0 0, 0 0, 0 0, 0 0, 0 0, 0 0, 0 0, 1792 11, 1792 11, 1792 11,
     1792 11, 1984 12, 1984 12, 2048 12, 2048 12, 2112 12, 2112 12, 2176 12, 2176 12, 2240 12,
@@ -101,8 +127,8 @@ const BLACK_ENTRIES: [(u16, u8); 576] = entries![
 
 /// The entries of a color: first by 13 bits that begin with 0 bits, seven for white, four for black, and then
 /// by the first bits, nine for white, six for black.
-fn entries(color: Color) -> &'static [(u16, u8)]
-    ensures { result.now ≡ held_entries color }
+fn entries(color: Color) -> &'static [u32]
+    ensures { result.now ≡ map packed (held_entries color) }
 {
     match color {
         Color::White => &WHITE_ENTRIES,
@@ -112,30 +138,36 @@ fn entries(color: Color) -> &'static [(u16, u8)]
 
 /// The run and the length of the code word of a color that begins 13 bits whose first seven (white) or four
 /// (black) are 0; or 0 and 0. Most code words begin otherwise.
-#[cold]
-#[inline(never)]
-fn long_entry(color: Color, next: u32) -> (u16, u8)
+#[inline(always)]
+fn long_entry(color: Color, next: u32) -> TableEntry
     requires { next < 2 ^ (13 - long_zeros color) }
-    ensures { result ≡ entry_for color (number_text 13 next) }
+    ensures { unpacked result.packed ≡ entry_for color (number_text 13 next) }
 {
     let held = entries(color);
-    held[next as usize]
+    TableEntry {
+        packed: held[next as usize],
+    }
 }
 
-/// The run and the length of the code word of a color that begins 13 bits, or 0 and 0. The entries by the first
-/// bits are 0 and 0 only where the 13 bits begin with the 0 bits of the others.
+/// The run and the length of the code word of a color that begins 13 bits; none if no code word does. The entries
+/// by the first bits are 0 and 0 only where the 13 bits begin with the 0 bits of the others.
 #[inline(always)]
-pub(crate) fn entry(color: Color, next: u32) -> (u16, u8)
+pub(crate) fn entry(color: Color, next: u32) -> Option<TableEntry>
     requires { next < 2 ^ 13 }
-    ensures { result ≡ entry_for color (number_text 13 next) }
+    ensures some { IfSome result (λ code. unpacked code.packed ≡ entry_for color (number_text 13 next)) }
+    ensures length { IfSome result (λ code. 0 < (unpacked code.packed).1) }
+    ensures most { IfSome result (λ code. (unpacked code.packed).1 ≤ 13) }
+    ensures none { IfNone result ((entry_for color (number_text 13 next)).1 ≡ 0) }
 {
     let held = entries(color);
-    let short = match color {
-        Color::White => held[64 + (next >> 4) as usize],
-        Color::Black => held[512 + (next >> 7) as usize],
+    let at = match color {
+        Color::White => 64 + (next >> 4) as usize,
+        Color::Black => 512 + (next >> 7) as usize,
     };
-    if short.1 == 0 {
-        return long_entry(color, next);
+    let short = TableEntry { packed: held[at] };
+    if short.bits() == 0 {
+        let long = long_entry(color, next);
+        return if long.bits() == 0 { None } else { Some(long) };
     }
-    short
+    Some(short)
 }

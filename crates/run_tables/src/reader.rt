@@ -6,7 +6,7 @@ ghost use Rattle.run_tables.specs.CodeReading.{PicksCode, ReadsCode, ReadsRun, R
 ghost use Rattle.run_tables.specs.CodeReading.{kind_among, runs_among};
 ghost use Rattle.run_tables.specs.Codes.{code_word, text};
 ghost use Rattle.run_tables.specs.Numbers.{AreFirst, IsFirst64, first_bits, number_text};
-ghost use Rattle.run_tables.specs.ReadTables.{entry_for};
+ghost use Rattle.run_tables.specs.ReadTables.{entry_for, unpacked};
 ghost use Rattle.run_tables.specs.Reading.{rest_of};
 ghost use Rattle.run_tables.specs.Texts.{begins, is_cut, pick};
 ghost use Rattle.std.specs.Bool.{OnFalse, OnTrue};
@@ -14,7 +14,7 @@ ghost use Rattle.std.specs.Prelude.{None, Ok, OnSome, Some, IfNone, IfSome, if�
 ghost use Rattle.std.specs.Prelude.{◌*◌, ◌+◌, ◌^◌, ◌/◌, ◌<◌, ◌≡◌, ◌≤◌};
 
 use crate::fault::{CodeFault, CodeFaultKind};
-use crate::read_table::entry;
+use crate::read_table::{TableEntry, entry};
 use crate::table::code_at;
 use crate::window::Window;
 use raster::Color;
@@ -52,15 +52,15 @@ pub enum RunCode {
     Terminating(u32),
 }
 
-/// The run and the length of the code word of a color that begins the 64 bits of a number, or 0 and 0.
+/// The run and the length of the code word of a color that begins the 64 bits of a number; none if no code word
+/// does.
 #[inline(always)]
-pub(crate) fn code_in(color: Color, word: u64) -> (u32, u32)
-    ensures code { result ≡ entry_for color (number_text 13 (word / 2 ^ 51)) }
-    ensures run { result.0 < 2 ^ 16 }
-    ensures length { result.1 ≤ 13 }
+pub(crate) fn code_in(color: Color, word: u64) -> Option<TableEntry>
+    ensures code { IfSome result (λ code. unpacked code.packed ≡ entry_for color (number_text 13 (word / 2 ^ 51))) }
+    ensures some { IfSome result (λ code. 0 < (unpacked code.packed).1) }
+    ensures length { IfSome result (λ code. (unpacked code.packed).1 ≤ 13) }
 {
-    let (run, length) = entry(color, (word >> 51) as u32);
-    (run as u32, length as u32)
+    entry(color, (word >> 51) as u32)
 }
 
 /// Reads the bits of octets one after the other, in either order.
@@ -200,7 +200,7 @@ impl<'a> BitReader<'a> {
     /// Goes on by `count` bits, at most 64.
     #[inline(always)]
     #[tactic(auto, using(raster::proofs::PackedLemmas::views))]
-    pub(crate) fn step(&mut self, count: u32)
+    pub fn step(&mut self, count: u32)
         requires few { count ≤ 64 }
         requires fits { self.old.place + count ≤ length self.old.bits }
         ensures { self.new ≡ record self.old { place = self.old.place + count } }
@@ -262,15 +262,15 @@ impl<'a> BitReader<'a> {
         ensures fits { IfSome result (λ code. self.now.place + code.1 ≤ length self.now.bits) }
         ensures none { IfNone result (pick (code_word color) (runs_among among) (rest_of self.now) ≡ None) }
     {
-        let (run, length) = entry(color, self.next_13());
-        if length == 0 {
+        let Some(code) = entry(color, self.next_13()) else {
             return None;
-        }
-        let fits = self.has(length as u32);
+        };
+        let (run, length) = (code.run(), code.bits());
+        let fits = self.has(length);
         if !fits {
             return None;
         }
-        let code = (run as u32, length as usize);
+        let code = (run, length as usize);
         match among {
             Among::AllCodes => Some(code),
             // after a make-up code only a terminating code is valid: seven 0 bits there are `BadCode`, at a run's
@@ -384,7 +384,7 @@ impl<'a> BitReader<'a> {
         window.pass(flag);
         // a color that is known as the code is made takes one table, without a choice at each code
         let runs = match color {
-            Color::White => window.two_runs(Color::White, Color::Black, room)?,
+            Color::White => window.white_and_black(room)?,
             Color::Black => window.two_runs(Color::Black, Color::White, room)?,
         };
         *self = window.into_reader();

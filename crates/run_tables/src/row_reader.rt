@@ -154,6 +154,14 @@ impl<'a> BitReader<'a> {
     {
         let mut room = left;
         while room > 0 {
+            if let Some(pair) = window.pair(room) {
+                let white = pair.white();
+                let black = pair.black();
+                painter.push_run(white);
+                painter.push_run(black);
+                room -= white + black;
+                continue;
+            }
             let Some(white) = window.run(Color::White, room) else {
                 return false;
             };

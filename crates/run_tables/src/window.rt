@@ -2,12 +2,14 @@
 
 ghost use Rattle.raster.specs.Pixels.{other};
 ghost use Rattle.run_tables.specs.CodeReading.{ReadsRunWithin, ReadsTwoRuns};
+ghost use Rattle.run_tables.specs.ReadTables.{pair_black, pair_white};
 ghost use Rattle.run_tables.specs.Reading.{Reading, rest_of};
 ghost use Rattle.run_tables.specs.Windows.{IsWindow, passed};
 ghost use Rattle.run_tables.specs.declared.fault.CodeFaultKind.{CodeFaultKind};
 ghost use Rattle.std.specs.Bool.{OnTrue};
-ghost use Rattle.std.specs.Prelude.{◌≡◌, ◌≤◌, ◌+◌, IfNone, IfSome, Ok};
+ghost use Rattle.std.specs.Prelude.{◌≡◌, ◌≤◌, ◌<◌, ◌+◌, IfNone, IfSome, Ok};
 
+use crate::pair_table::{RunPair, pair_in};
 use crate::reader::{BitReader, code_in};
 use raster::Color;
 
@@ -102,8 +104,10 @@ impl<'a> Window<'a> {
         if !first {
             return None;
         }
-        let (high, bits) = code_in(color, self.word);
-        if bits == 0 || high > room {
+        let first = code_in(color, self.word)?;
+        let high = first.run();
+        let bits = first.bits();
+        if high > room {
             return None;
         }
         if high < 64 {
@@ -114,12 +118,52 @@ impl<'a> Window<'a> {
         if !both {
             return None;
         }
-        let (low, more) = code_in(color, self.word << bits);
-        if more == 0 || low >= 64 || high + low > room {
+        let second = code_in(color, self.word << bits)?;
+        let low = second.run();
+        let more = second.bits();
+        if low >= 64 || high + low > room {
             return None;
         }
         self.pass(bits + more);
         Some(high + low)
+    }
+
+    /// The next white run and the black one after it, if both are below 64 pixels, their code words have at most 12
+    /// bits together, and they are of at most `room` pixels together. Else none, and the window is at the same
+    /// place.
+    #[inline(always)]
+    pub(crate) fn pair(&mut self, room: u32) -> Option<RunPair>
+        requires { IsWindow self.old.reader self.old.used self.old.word }
+        ensures window { IsWindow self.new.reader self.new.used self.new.word }
+        ensures reads { IfSome result (λ pair. (past : CodeFaultKind) → ReadsTwoRuns Color.White room past
+            (passed self.old.reader self.old.used) (passed self.new.reader self.new.used) (pair_white pair.packed) (pair_black pair.packed)) }
+        ensures some { IfSome result (λ pair. 0 < pair_black pair.packed) }
+        ensures most { IfSome result (λ pair. pair_white pair.packed + pair_black pair.packed ≤ room) }
+        ensures none { IfNone result (passed self.new.reader self.new.used ≡ passed self.old.reader self.old.used) }
+    {
+        let held = self.holds(13);
+        if !held {
+            return None;
+        }
+        let pair = pair_in(self.word, room)?;
+        self.pass(pair.bits());
+        Some(pair)
+    }
+
+    /// The next white run and the black one after it, together of at most `room` pixels: by one entry, or as
+    /// `two_runs`.
+    #[inline(always)]
+    pub(crate) fn white_and_black(&mut self, room: u32) -> Option<(u32, u32)>
+        requires { IsWindow self.old.reader self.old.used self.old.word }
+        ensures window { IsWindow self.new.reader self.new.used self.new.word }
+        ensures some { IfSome result (λ runs. (past : CodeFaultKind) → ReadsTwoRuns Color.White room past
+            (passed self.old.reader self.old.used) (passed self.new.reader self.new.used) runs.0 runs.1) }
+        ensures most { IfSome result (λ runs. runs.0 + runs.1 ≤ room) }
+    {
+        if let Some(pair) = self.pair(room) {
+            return Some((pair.white(), pair.black()));
+        }
+        self.two_runs(Color::White, Color::Black, room)
     }
 
     /// The next run of a color and that of the other one after it, together of at most `room` pixels, as `run`.

@@ -11,6 +11,7 @@ ghost use Rattle.raster.specs.declared.row.Color.{Color};
 ghost use Rattle.std.specs.Prelude.{ℕ, List, ◌≡◌, ◌≤◌, ◌<◌, ◌+◌, ◌-◌, ◌*◌, ◌++◌, ◌∷◌, [], length};
 ghost use Rattle.std.specs.Prelude.{slice_index_or, take, IfOk, OnOk, OnErr};
 
+use crate::pair_words::pair_word;
 use crate::write_table::run_word;
 use raster::packed::{Order, word_at, word_octets};
 use raster::{Color, Row, RowRef};
@@ -296,6 +297,23 @@ impl BitWriter {
         self.push_bits(value, count)
     }
 
+    /// Appends the code words of a black run and the white one after it, each of up to 2,623 pixels: at once where both are below
+    /// 64. After an error those of the first may be appended.
+    #[inline(always)]
+    fn write_two(&mut self, black: u32, white: u32) -> Result<(), AllocError>
+        requires black { black ≤ 2623 }
+        requires white { white ≤ 2623 }
+        ensures ok { OnOk result (Appends (run_words Color.Black black ++ run_words Color.White white) self.old self.new) }
+        ensures err { OnErr result (KeepsBits self.old self.new) }
+    {
+        if black < 64 && white < 64 {
+            let both = pair_word(black, white);
+            return self.push_bits(both.value(), both.length());
+        }
+        self.write_run(Color::Black, black)?;
+        self.write_run(Color::White, white)
+    }
+
     /// Appends an EOL: eleven 0 bits and a 1 (ITU-T T.4, 4.1.2). Errs if memory is refused, which changes
     /// nothing.
     pub fn write_eol(&mut self) -> Result<(), AllocError>
@@ -320,9 +338,9 @@ impl BitWriter {
         let mut index = 1;
         while index < last {
             let black = places[index];
-            self.write_run(Color::Black, black - at)?;
-            at = places[index + 1];
-            self.write_run(Color::White, at - black)?;
+            let next = places[index + 1];
+            self.write_two(black - at, next - black)?;
+            at = next;
             index += 2;
         }
         if index < places.len() {
