@@ -109,7 +109,7 @@ passed_one x passed bits is few sees =
       zeros = (drop (passed.at + bits) x, refl);
     }
 
--- so many 0 bits come after them
+-- a number of 0 bits come after them
 pub passed_left : (x : List Bool) (passed : EolsBefore) (left : ℕ) → AreEolsPassed x passed → AreZerosBefore x passed.at left
     → AreEolsPassed x (record { at = passed.at; count = passed.count; zeros = left })
 passed_left x passed left is come = record { few = is.few; eols = is.eols; zeros = come }

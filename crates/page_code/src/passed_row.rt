@@ -49,7 +49,7 @@ impl PassedRow {
         }
     }
 
-    /// What is known after an EOL of so many 0 bits.
+    /// What is known after an EOL that begins with this number of 0 bits.
     pub(crate) fn eols_after(&self, zeros: u128) -> EolsBefore
         ensures { (width count : ℕ) (all : List Bool) → IsPassedRow width count all self.now → AreEolsPassed (drop (zeros + 1) all) result }
     {

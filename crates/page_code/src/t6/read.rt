@@ -219,9 +219,6 @@ fn quick_step(
     ensures steps { IfSome result (λ step. StepsBy held.now word (line_of list.old.items front) (line_of list.new.items step.0) step.1) }
     ensures none { IfNone result (list.new.items ≡ list.old.items) }
 {
-    if word >> 63 == 1 {
-        return Some((under_b1(held, list, width, front), 1));
-    }
     if word >> 61 == 0b011 {
         let next = right_of_b1(held, list, width, front)?;
         return Some((next, 3));
@@ -266,6 +263,12 @@ pub(crate) fn quick_modes(
     let mut word = reader.peek_57();
     let mut used: u32 = 0;
     while used <= 50 && front.from <= width {
+        if word >> 63 == 1 {
+            front = under_b1(held, list, width, front);
+            word = word << 1;
+            used += 1;
+            continue;
+        }
         let Some((next, count)) = quick_step(word, held, list, width, front) else {
             break;
         };
@@ -273,7 +276,7 @@ pub(crate) fn quick_modes(
         word = word << count;
         used += count;
     }
-    reader.skip(used as usize);
+    reader.step(used);
     (front, used)
 }
 
