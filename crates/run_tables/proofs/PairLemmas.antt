@@ -163,7 +163,7 @@ pair_held held next e h =
 pub words_held : (held : List ℕ) (black white place : ℕ) → map packed_text held ≡ pair_words → list_all is_short held ≡ true
     → black < 64 → white < 64 → place ≡ 64 * black + white
     → (place < length held) × (packed_text (slice_index_or held place 0) ≡ code_word Black black ++ code_word White white)
-    × (slice_index_or held place 0 / 16777216 ≤ 21)
+    × (slice_index_or held place 0 / 2 ^ 24 ≤ 21)
 unfolding pair_words
 words_held held black white place e short hb hw there =
     let f : ℕ → List Bool = λ key. code_word Black (key / 64) ++ code_word White (key % 64) in

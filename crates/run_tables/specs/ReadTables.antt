@@ -63,12 +63,14 @@ pair_of bits = pair_packed (entry_of (codes_of White) bits) (entry_of (codes_of 
 unfoldable pub pairs : List ℕ
 pairs = map (λ key. pair_of (number_text 12 key)) (range_with_len 0 (2 ^ 12))
 
--- the white run, the black run and the length of such a number
+-- the white run of such a number
 abbrev pub pair_white : ℕ → ℕ
 pair_white packed = packed % 256
 
+-- the black run of such a number
 abbrev pub pair_black : ℕ → ℕ
 pair_black packed = packed / 256 % 256
 
+-- the length of the two code words of such a number
 abbrev pub pair_bits : ℕ → ℕ
 pair_bits packed = packed / 65536

@@ -19,11 +19,11 @@ is_small word = nat_lt word.0 (2 ^ word.1)
 
 -- the bits that a number writes whose lowest 24 bits are their value and whose higher ones their number
 abbrev pub packed_text : ℕ → List Bool
-packed_text packed = number_text (packed / 16777216) (packed % 16777216)
+packed_text packed = number_text (packed / 2 ^ 24) (packed % 2 ^ 24)
 
 -- the number is one of at most 21 bits
 abbrev pub is_short : ℕ → Bool
-is_short packed = nat_lt (packed / 16777216) 22
+is_short packed = nat_lt (packed / 2 ^ 24) 22
 
 -- the code words of a black run and the white one after it, each below 64, by 64 times the first and the second
 unfoldable pub pair_words : List (List Bool)

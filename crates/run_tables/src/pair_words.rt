@@ -1,12 +1,11 @@
 //! The code words of a black run and the white one after it as one number (ITU-T T.4, 4.1.1, table 2): in text most runs are below 64
 //! pixels.
 
-ghost use Rattle.raster.specs.Words.{number_bits};
 ghost use Rattle.raster.specs.declared.row.Color.TheVariants.{Black, White};
 ghost use Rattle.run_tables.specs.Codes.{code_word};
 ghost use Rattle.run_tables.specs.WriteTables.{is_short, packed_text, pair_words};
 ghost use Rattle.std.specs.List.{list_all};
-ghost use Rattle.std.specs.Prelude.{true, ◌≡◌, ◌≤◌, ◌<◌, ◌/◌, ◌%◌, ◌++◌, map};
+ghost use Rattle.std.specs.Prelude.{true, ◌≡◌, ◌≤◌, ◌<◌, ◌/◌, ◌%◌, ◌^◌, ◌++◌, map};
 
 /// By 64 times the black run and the white one: the bits of both code words, the first the most significant, in the lowest 24 bits, and
 /// above them how many they are.
@@ -535,7 +534,7 @@ impl PairWord {
     /// Their bits.
     #[inline(always)]
     pub(crate) fn value(self) -> u32
-        ensures { result ≡ self.packed % 16777216 }
+        ensures { result ≡ self.packed % 2 ^ 24 }
     {
         self.packed & 0xFF_FFFF
     }
@@ -543,7 +542,7 @@ impl PairWord {
     /// How many they are.
     #[inline(always)]
     pub(crate) fn length(self) -> u32
-        ensures { result ≡ self.packed / 16777216 }
+        ensures { result ≡ self.packed / 2 ^ 24 }
     {
         self.packed >> 24
     }
@@ -563,7 +562,7 @@ pub(crate) fn pair_word(black: u32, white: u32) -> PairWord
     requires black { black < 64 }
     requires white { white < 64 }
     ensures words { packed_text result.packed ≡ code_word Black black ++ code_word White white }
-    ensures short { result.packed / 16777216 ≤ 21 }
+    ensures short { result.packed / 2 ^ 24 ≤ 21 }
 {
     let held = words();
     PairWord {

@@ -7,15 +7,16 @@ ghost use Rattle.page_code.specs.TwoDimensions.Fronts.{mode_word};
 ghost use Rattle.page_code.specs.TwoDimensions.Modes.{horizontal_word};
 ghost use Rattle.page_code.specs.TwoDimensions.Writing.{reference_at, row_at};
 ghost use Rattle.raster.specs.Pixels.{IsWidth, max_width, other};
+ghost use Rattle.raster.specs.Words.{number_bits};
 ghost use Rattle.run_tables.specs.Codes.{run_words};
 ghost use Rattle.run_tables.specs.Written.{Appends, KeepsBits};
-ghost use Rattle.std.specs.Prelude.{ℕ, List, ◌≡◌, ◌≤◌, ◌<◌, ◌+◌, ◌++◌, All, IfOk, length, slice_index_or, take, OnErr, OnOk};
+ghost use Rattle.std.specs.Prelude.{ℕ, List, ◌≡◌, ◌≤◌, ◌<◌, ◌+◌, ◌^◌, ◌++◌, All, IfOk, length, slice_index_or, take, OnErr, OnOk};
 
 use crate::t6::changes::put_held;
 use crate::t6::front::{Front, b1_at, index_after};
 use crate::t6::mode::{EOFB, ModeCode, Shift};
 use raster::{Color, Page, Row, RowRef, Rows};
-use run_tables::BitWriter;
+use run_tables::{BitWriter, run_word};
 use std::alloc::{AllocError, Global};
 use std::mem;
 
@@ -78,7 +79,19 @@ fn same_places(reference: &[u32], at: usize, row: &[u32], turns: usize, width: u
     32
 }
 
-/// Appends horizontal mode and its two runs.
+/// The flag of horizontal mode and the code words of its first run as one number, and their length in bits.
+#[inline(always)]
+fn flag_and_run(color: Color, run: u32) -> (u32, u32)
+    requires { run ≤ max_width }
+    ensures words { number_bits result.1 result.0 ≡ horizontal_word ++ run_words color run }
+    ensures short { result.1 ≤ 29 }
+    ensures below { result.0 < 2 ^ result.1 }
+{
+    let (word, length) = run_word(color, run);
+    ((0b001 << length) + word, 3 + length)
+}
+
+/// Appends horizontal mode and its two runs, as one number where it has at most 32 bits.
 #[inline(always)]
 fn push_horizontal(
     writer: &mut BitWriter,
@@ -91,9 +104,14 @@ fn push_horizontal(
     ensures ok { OnOk result (Appends (horizontal_word ++ (run_words color a0a1 ++ run_words (other color) a1a2)) writer.old writer.new) }
     ensures err { OnErr result (KeepsBits writer.old writer.new) }
 {
-    push_mode(writer, ModeCode::Horizontal)?;
-    writer.write_run(color, a0a1)?;
-    writer.write_run(color.other(), a1a2)
+    let (first, first_length) = flag_and_run(color, a0a1);
+    let (second, second_length) = run_word(color.other(), a1a2);
+    let length = first_length + second_length;
+    if length > 32 {
+        writer.push_bits(first, first_length)?;
+        return writer.push_bits(second, second_length);
+    }
+    writer.push_bits((first << second_length) + second, length)
 }
 
 /// Appends the next prescribed mode, or as many V0 as come next, up to 32. Returns the front after them.
