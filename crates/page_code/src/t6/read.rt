@@ -219,6 +219,9 @@ fn quick_step(
     ensures steps { IfSome result (λ step. StepsBy held.now word (line_of list.old.items front) (line_of list.new.items step.0) step.1) }
     ensures none { IfNone result (list.new.items ≡ list.old.items) }
 {
+    if word >> 63 == 1 {
+        return Some((under_b1(held, list, width, front), 1));
+    }
     if word >> 61 == 0b011 {
         let next = right_of_b1(held, list, width, front)?;
         return Some((next, 3));
@@ -263,12 +266,6 @@ pub(crate) fn quick_modes(
     let mut word = reader.peek_57();
     let mut used: u32 = 0;
     while used <= 50 && front.from <= width {
-        if word >> 63 == 1 {
-            front = under_b1(held, list, width, front);
-            word = word << 1;
-            used += 1;
-            continue;
-        }
         let Some((next, count)) = quick_step(word, held, list, width, front) else {
             break;
         };

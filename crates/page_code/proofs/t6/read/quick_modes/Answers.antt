@@ -1,13 +1,11 @@
 use Rattle.std.proofs.Common.{◌≡◌, arith, length-drop, refl}
-use Rattle.page_code.specs.declared.t6.mode.ModeCode.TheVariants.{Vertical}
-use Rattle.page_code.specs.declared.t6.mode.Shift.TheVariants.{V0}
-use Rattle.page_code.specs.TwoDimensions.Lines.{StepsBy, line_of}
-use Rattle.page_code.proofs.TwoDimensions.QuickModes.{along_none, along_step, count_size, lengths, v0_seen, word_after}
+use Rattle.page_code.specs.TwoDimensions.Lines.{line_of}
+use Rattle.page_code.proofs.TwoDimensions.QuickModes.{along_none, along_step, count_size, lengths, word_after}
 use Rattle.page_code.proofs.t6.read.quick_modes.Goals as goal
 use Rattle.page_code.proofs.t6.read.quick_modes.Goals.{
   then-loop-used-test+else-front-width,
   else-loop-used-test,
-  then-loop-used-test+then-front-width+else-word-eq1+in_default,
+  then-loop-used-test+then-front-width+in_default,
 }
 
 pub loop-used-init : goal.loop-used-init
@@ -26,31 +24,6 @@ loop-used-init c = record {
 
 pub quick_step-requires-clause-fits : goal.quick_step-requires-clause-fits
 quick_step-requires-clause-fits c = c.loop-used.invariant.fits
-
-pub loop-used-preserved-then-word-eq1 : goal.loop-used-preserved-then-word-eq1
-loop-used-preserved-then-word-eq1 c =
-    let before = line_of c.loop-used.list.items c.loop-used.front in
-    let next = line_of c.under_b1-front.new.list.items c.under_b1-front.result in
-    let steps : StepsBy c.args.held.now c.loop-used.word before next 1 = record {
-      code = Vertical V0;
-      begun = λ x first long. v0_seen c.loop-used.word x c.if-word-eq1.true first long;
-      count_is = refl;
-      leads = c.under_b1-front.ensures.leads;
-    } in
-    record {
-      fits = c.under_b1-front.ensures.fits;
-      few = omega (arith, c.loop-used-test.true);
-      same = refl;
-      word = word_after c.args.held.now c.args.reader.now c.loop-used.used c.loop-used.word 1 before next c.loop-used-test.true
-          c.loop-used.invariant.word steps;
-      along = λ reference is.
-          let both = lengths c.args.held.now c.loop-used.list.items c.args.width c.loop-used.front reference c.loop-used.invariant.fits is
-          in
-          along_step reference c.args.held.now c.args.reader.now c.loop-used.used c.loop-used.word 1
-          (line_of c.args.list.now.items c.args.start) before next is c.loop-used-test.true c.requires.enough c.loop-used.invariant.word
-          (omega (arith, both.0, both.1, c.if-front-width.true, c.requires.fits.wide)) steps (c.loop-used.invariant.along reference is);
-      still = λ none. absurd (omega (arith, none));
-    }
 
 pub loop-used-preserved : goal.loop-used-preserved
 loop-used-preserved c =
@@ -90,7 +63,7 @@ returns-clause-fits c =
     let same : c.loop-used-test.list.items ≡ c.loop-used.list.items = elim c.loop-used-test.branch [
       | then-loop-used-test+else-front-width w ↦ rw w.list-is refl
       | else-loop-used-test w ↦ rw w.list-is refl
-      | then-loop-used-test+then-front-width+else-word-eq1+in_default w ↦ rw w.list-is w.in_default.ensures.none
+      | then-loop-used-test+then-front-width+in_default w ↦ rw w.list-is w.in_default.ensures.none
     ] in
     rw same c.loop-used.invariant.fits
 
@@ -99,6 +72,6 @@ returns-clause-along c reference is =
     let same : c.loop-used-test.list.items ≡ c.loop-used.list.items = elim c.loop-used-test.branch [
       | then-loop-used-test+else-front-width w ↦ rw w.list-is refl
       | else-loop-used-test w ↦ rw w.list-is refl
-      | then-loop-used-test+then-front-width+else-word-eq1+in_default w ↦ rw w.list-is w.in_default.ensures.none
+      | then-loop-used-test+then-front-width+in_default w ↦ rw w.list-is w.in_default.ensures.none
     ] in
     rw (same, c.step.ensures) (c.loop-used.invariant.along reference is)

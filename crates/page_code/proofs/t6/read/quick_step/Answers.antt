@@ -1,9 +1,17 @@
 use Rattle.std.proofs.Common.{arith, refl}
 use Rattle.page_code.specs.declared.t6.mode.ModeCode.TheVariants.{Pass, Vertical}
-use Rattle.page_code.specs.declared.t6.mode.Shift.TheVariants.{VL1, VR1}
+use Rattle.page_code.specs.declared.t6.mode.Shift.TheVariants.{V0, VL1, VR1}
 use Rattle.page_code.proofs.TwoDimensions.ModeTable.{found_seen, mode_some}
-use Rattle.page_code.proofs.TwoDimensions.QuickModes.{vl1_seen, vr1_seen}
+use Rattle.page_code.proofs.TwoDimensions.QuickModes.{v0_seen, vl1_seen, vr1_seen}
 use Rattle.page_code.proofs.t6.read.quick_step.Goals as goal
+
+pub returns-then-word-eq1-clause-steps : goal.returns-then-word-eq1-clause-steps
+returns-then-word-eq1-clause-steps c = record {
+  code = Vertical V0;
+  begun = λ x first long. v0_seen c.args.word x c.if-word-eq1.true first long;
+  count_is = refl;
+  leads = c.under_b1.ensures.leads;
+}
 
 pub returns-in-Pass-clause-steps : goal.returns-in-Pass-clause-steps
 returns-in-Pass-clause-steps c = record {
