@@ -14,8 +14,8 @@ use Rattle.raster.proofs.RowLemmas.{other_from_ne}
 use Rattle.raster.proofs.TurningLemmas.{changes-turning, length-turning}
 use Rattle.page_code.specs.declared.t6.front.Front.{Front}
 use Rattle.page_code.specs.TwoDimensions.Changes.{AreHeld}
-use Rattle.page_code.specs.TwoDimensions.Lines.{AreLeftOf, EndsWith, FitsLists}
-use Rattle.page_code.proofs.TwoDimensions.Lines.{ends_held, few_left}
+use Rattle.page_code.specs.TwoDimensions.Lines.{AreApart, AreLeftOf, EndsWith, FitsLists}
+use Rattle.page_code.proofs.TwoDimensions.Lines.{apart_held, ends_held, few_left}
 
 -- ---- a row from its changing elements
 
@@ -124,6 +124,7 @@ pub begin_fits : (row : List Color) (held list : List ℕ) (width : ℕ) → IsW
 begin_fits row held list width wide is long room = record {
   wide = wide;
   ended = subst (EndsWith held) long (ends_held row held is);
+  apart = subst (AreApart held) long (apart_held row held is);
   turns = omega arith;
   line = record {
     rising = λ i j before h. absurd (omega arith);
@@ -147,6 +148,7 @@ runs_fit held list next width front after a0a1 a1a2 fits same left from low at e
     record {
       wide = fits.wide;
       ended = fits.ended;
+      apart = fits.apart;
       turns = omega (arith, same, few, count, fits.room, fits.low, most);
       line = left;
       room = omega (arith, same, fits.room);

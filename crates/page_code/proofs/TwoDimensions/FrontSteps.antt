@@ -118,6 +118,7 @@ module _ (held list : List ℕ) (width : ℕ) (front : Front) (fits : FitsLists 
       record {
         wide = fits.wide;
         ended = fits.ended;
+        apart = fits.apart;
         turns = omega (arith, count, room);
         line = rw (take_more_set list front.turns a1 room) (left_turned places front.from a1 fits.line right);
         room = omega (arith, count, fits.room);
@@ -173,6 +174,7 @@ module _ (held list : List ℕ) (width : ℕ) (front : Front) (fits : FitsLists 
       record {
         wide = fits.wide;
         ended = fits.ended;
+        apart = fits.apart;
         turns = fits.turns;
         line = left_later places front.from (b2 + 1) fits.line (omega (arith, up, found.reached));
         room = fits.room;

@@ -36,7 +36,7 @@ use Rattle.page_code.specs.declared.t6.a0.A0.{A0}
 use Rattle.page_code.specs.declared.t6.front.Front.{Front}
 use Rattle.page_code.specs.TwoDimensions.Changes.{AreHeld, IsFirstHeld}
 use Rattle.page_code.specs.TwoDimensions.Changes.{turned as turned_at}
-use Rattle.page_code.specs.TwoDimensions.Lines.{AreLeftOf, EndsWith, IsFoundAt, TurnsAt, line_before, line_of}
+use Rattle.page_code.specs.TwoDimensions.Lines.{AreApart, AreLeftOf, EndsWith, IsFoundAt, TurnsAt, line_before, line_of}
 use Rattle.page_code.specs.TwoDimensions.Modes.{runs_added}
 use Rattle.page_code.specs.TwoDimensions.Positions.{CodingLine, IsFirstTo, a0_of, right_of_a0}
 
@@ -231,6 +231,19 @@ ends_held row held is = record {
   ];
   ends = λ k low h. at_held row held is k 0 h ∙ get_or_past is.places k (length row) (omega (arith, count_held row held is));
 }
+
+-- places of such a list to the left of its width differ
+pub apart_held : (row : List Color) (held : List ℕ) → AreHeld row held → AreApart held (length row)
+apart_held row held is i j up h less =
+    let within : j < length is.places = real_held row held is j h less in
+    omega (
+      arith,
+      is.changes.rising i j up within,
+      at_held row held is i 0 (omega arith),
+      at_held row held is j 0 h,
+      get_or_default is.places i (length row) 0 (omega arith),
+      get_or_default is.places j (length row) 0 within,
+    )
 
 turned_before : (at : ℕ) → 0 < at → turned_at (at - 1) ≡ other (turned_at at)
 turned_before zero some = absurd (omega arith)

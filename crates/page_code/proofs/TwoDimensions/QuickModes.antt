@@ -1,7 +1,8 @@
 -- Modes that are read one after the other from the next bits.
 use Rattle.std.proofs.Common.{ℕ, ◌≡◌, ◌+◌, ◌-◌, ◌*◌, ◌/◌, ◌%◌, ◌^◌, ◌<◌, ◌≤◌, ◌∷◌, [], Bool, false, true, List, length, drop, take}
 use Rattle.std.proofs.lemmas.List.{drop-drop}
-use Rattle.std.proofs.Common.{arith, refl, sym, ap, ◌∙◌, length-drop}
+use Rattle.std.proofs.Common.{arith, cond, inl, inr, nat_eq, refl, sym, ap, ◌∙◌, length-drop}
+use Rattle.std.proofs.lemmas.Bool.{cases_eq, eq-eqb, ne_eqb}
 use Rattle.std.specs.Prelude.{Err, Ok}
 use Rattle.raster.specs.declared.row.Color.{Color}
 use Rattle.run_tables.specs.declared.fault.CodeFault.{CodeFault}
@@ -15,7 +16,7 @@ use Rattle.page_code.specs.declared.t6.mode.Shift.TheVariants.{V0, VL1, VR1}
 use Rattle.page_code.specs.TwoDimensions.Changes.{AreHeld}
 use Rattle.page_code.specs.TwoDimensions.Fronts.{PageSoFar, PageState, mode_ended, mode_word}
 use Rattle.page_code.specs.TwoDimensions.Fronts.PageState.{inside}
-use Rattle.page_code.specs.TwoDimensions.Lines.{FitsLists, StepsBy, line_of}
+use Rattle.page_code.specs.TwoDimensions.Lines.{FitsLists, StepsBy, beside, line_of}
 use Rattle.page_code.specs.TwoDimensions.Positions.{CodingLine, line_begin}
 use Rattle.page_code.specs.TwoDimensions.Reading.{ReadsRow, StepsAlong, StepsOn, row_reading}
 use Rattle.page_code.proofs.TwoDimensions.Lines.{ends_held, length_line}
@@ -44,6 +45,21 @@ unfolding number_text
 vl1_seen word x two first long =
     let seen : first_bits 3 x ≡ number_text 3 2 = sym (front_first 3 61 7 x word refl (omega arith) first) ∙ ap (number_text 3) two in
     begins_unfilled (false ∷ true ∷ false ∷ []) x 3 (omega arith) (omega arith) (rw seen refl)
+
+-- a 0 and a 1 bit begin one of these two, and the third bit says which
+pub beside_seen : (word : ℕ) → word / 2 ^ 62 ≡ 1 → (x : List Bool) → AreFirst 7 x word → 7 ≤ length x
+    → begins (mode_word (Vertical (beside word))) x ≡ true
+beside_seen word one x first long = elim (cases_eq (word / 2 ^ 61) 3) [
+  | inl e ↦ rw (eq-eqb (word / 2 ^ 61) 3 e) (vr1_seen word x e first long)
+  | inr ne ↦ rw (ne_eqb (word / 2 ^ 61) 3 ne) (vl1_seen word x (omega (arith, one, ne)) first long)
+]
+
+pub beside_count : (word : ℕ) → 3 ≡ length (mode_word (Vertical (beside word)))
+beside_count word = count (nat_eq (word / 2 ^ 61) 3)
+  where
+    count : (right : Bool) → 3 ≡ length (mode_word (Vertical (cond right VR1 VL1)))
+    count true = refl
+    count false = refl
 
 -- the flag of horizontal mode
 pub horizontal_seen : (word : ℕ) (x : List Bool) → word / 2 ^ 61 ≡ 1 → AreFirst 7 x word → 7 ≤ length x

@@ -1,5 +1,5 @@
 -- The reference line and the coding line of a row that is read, as lists of the places where they change their color (ITU-T T.6, 2.2.1).
-use Rattle.std.specs.Prelude.{ℕ, ◌≡◌, ◌+◌, ◌-◌, ◌%◌, ◌<◌, ◌≤◌, ◌⊎◌, Bool, true, List, All, Err, length, take, nat_lt, slice_index_or}
+use Rattle.std.specs.Prelude.{ℕ, ◌≡◌, ◌+◌, ◌-◌, ◌/◌, ◌%◌, ◌^◌, ◌<◌, ◌≤◌, ◌⊎◌, Bool, true, List, All, Err, cond, length, take, nat_eq, nat_lt, slice_index_or}
 use Rattle.raster.specs.declared.row.Color.{Color}
 use Rattle.raster.specs.declared.row.Color.TheVariants.{White}
 use Rattle.raster.specs.Pixels.{IsWidth, other}
@@ -11,6 +11,7 @@ use Rattle.run_tables.specs.declared.fault.CodeFaultKind.TheVariants.{Backwards,
 use Rattle.page_code.specs.declared.t6.front.Front.{Front}
 use Rattle.page_code.specs.declared.t6.mode.ModeCode.{ModeCode}
 use Rattle.page_code.specs.declared.t6.mode.Shift.{Shift}
+use Rattle.page_code.specs.declared.t6.mode.Shift.TheVariants.{VL1, VR1}
 use Rattle.page_code.specs.TwoDimensions.Changes.{AreHeld}
 use Rattle.page_code.specs.TwoDimensions.Fronts.{PageSoFar, after_mode, mode_word}
 use Rattle.page_code.specs.TwoDimensions.Modes.{to_left, to_right}
@@ -41,6 +42,10 @@ pub record EndsWith (held : List ℕ) (width : ℕ) : Type 0 where
   pub rising : (i j : ℕ) → i ≤ j → j < length held → slice_index_or held i 0 ≤ slice_index_or held j 0
   pub ends : (k : ℕ) → length held ≤ k + 3 → k < length held → slice_index_or held k 0 ≡ width
 
+-- of a list of a line's places, those to the left of its width differ
+abbrev pub AreApart : List ℕ → ℕ → Type 0
+AreApart held width = (i j : ℕ) → i < j → j < length held → slice_index_or held j 0 < width → slice_index_or held i 0 < slice_index_or held j 0
+
 -- among every second place up to an index, the one before the index is to the left of a place
 abbrev pub IsSoughtFrom : List ℕ → ℕ → ℕ → Type 0
 IsSoughtFrom held from at = 2 ≤ at → slice_index_or held (at - 2) 0 < from
@@ -56,6 +61,7 @@ pub record IsFoundAt (held : List ℕ) (from at : ℕ) : Type 0 where
 pub record FitsLists (held list : List ℕ) (width : ℕ) (front : Front) : Type 0 where
   pub wide : IsWidth width
   pub ended : EndsWith held width
+  pub apart : AreApart held width
   pub turns : front.turns ≤ length list
   pub line : AreLeftOf (take front.turns list) front.from
   pub room : width + 4 ≤ length list
@@ -79,6 +85,10 @@ abbrev pub RefusesA1 : ℕ → Shift → ℕ → ℕ → CodeFaultKind → Type 
 RefusesA1 b1 shift from width kind =
     ((b1 + to_right shift < from + to_left shift) × (kind ≡ Backwards)) ⊎
     ((from + to_left shift ≤ b1 + to_right shift) × (width + to_left shift < b1 + to_right shift) × (kind ≡ PastEnd))
+
+-- the mode whose code a number begins with, if it begins with the bits 01 (T.6, table 1)
+abbrev pub beside : ℕ → Shift
+beside word = cond (nat_eq (word / 2 ^ 61) 3) VR1 VL1
 
 -- a mode code that begins with a number's first seven bits leads on, and has `count` bits
 pub record StepsBy (held : List ℕ) (word : ℕ) (line next : CodingLine) (count : ℕ) : Type 0 where

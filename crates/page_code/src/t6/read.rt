@@ -20,7 +20,7 @@ ghost use Rattle.std.specs.Prelude.{◌≡◌, ◌≤◌, ◌<◌, ◌+◌, [], 
 pub(crate) mod one_row;
 
 use crate::page::{Progress, push_white};
-use crate::t6::front::{Front, left_of_b1, right_of_b1, to_a1, under_b1, under_b2};
+use crate::t6::front::{Front, beside_b1, to_a1, under_b1, under_b2};
 use crate::t6::lines::Lines;
 use crate::t6::mode::{EOFB, EOFB_NUMBER, ModeCode, Shift};
 use crate::t6::mode_table::mode_of;
@@ -222,12 +222,8 @@ fn quick_step(
     if word >> 63 == 1 {
         return Some((under_b1(held, list, width, front), 1));
     }
-    if word >> 61 == 0b011 {
-        let next = right_of_b1(held, list, width, front)?;
-        return Some((next, 3));
-    }
-    if word >> 61 == 0b010 {
-        let next = left_of_b1(held, list, width, front)?;
+    if word >> 62 == 0b01 {
+        let next = beside_b1(held, list, width, front, word)?;
         return Some((next, 3));
     }
     if word >> 61 == 0b001 {

@@ -1,6 +1,6 @@
 use Rattle.std.proofs.Common.{arith}
 use Rattle.std.proofs.lemmas.Result.{err_from_is_err_and}
-use Rattle.page_code.proofs.TwoDimensions.FrontSteps.{room, vertical_fits, vertical_front, vertical_refused}
+use Rattle.page_code.proofs.TwoDimensions.FrontSteps.{b1_most, room, vertical_fits, vertical_front, vertical_refused}
 use Rattle.page_code.proofs.t6.front.to_a1.Goals as goal
 
 pub returns-in_err-a1-clause-refuses : goal.returns-in_err-a1-clause-refuses
@@ -25,3 +25,11 @@ pub returns-clause-leads : goal.returns-clause-leads
 returns-clause-leads c = vertical_front c.args.held.now c.args.list.now.items c.args.width c.args.front c.requires.fits c.requires.short
     c.b1_at-at.result c.b1_at-at.ensures.found c.b1_at-at.ensures.even c.args.shift c.in_ok-a1.a1 c.in_ok-a1.ensures.a1.0
     c.in_ok-a1.ensures.a1.1 c.in_ok-a1.ensures.a1.2
+
+pub a1_of-requires-clause-b1 : goal.a1_of-requires-clause-b1
+a1_of-requires-clause-b1 c = omega (
+  arith,
+  b1_most c.args.held.now c.args.list.now.items c.args.width c.args.front c.requires.fits c.requires.short c.b1_at-at.result
+      c.b1_at-at.ensures.found c.b1_at-at.ensures.even,
+  c.requires.width,
+)

@@ -1,8 +1,9 @@
 use Rattle.std.proofs.Common.{arith, refl}
+use Rattle.page_code.specs.TwoDimensions.Lines.{beside}
 use Rattle.page_code.specs.declared.t6.mode.ModeCode.TheVariants.{Pass, Vertical}
-use Rattle.page_code.specs.declared.t6.mode.Shift.TheVariants.{V0, VL1, VR1}
+use Rattle.page_code.specs.declared.t6.mode.Shift.TheVariants.{V0}
 use Rattle.page_code.proofs.TwoDimensions.ModeTable.{found_seen, mode_some}
-use Rattle.page_code.proofs.TwoDimensions.QuickModes.{v0_seen, vl1_seen, vr1_seen}
+use Rattle.page_code.proofs.TwoDimensions.QuickModes.{beside_count, beside_seen, v0_seen}
 use Rattle.page_code.proofs.t6.read.quick_step.Goals as goal
 
 pub returns-then-word-eq1-clause-steps : goal.returns-then-word-eq1-clause-steps
@@ -22,20 +23,12 @@ returns-in-Pass-clause-steps c = record {
   leads = c.under_b2.ensures.leads;
 }
 
-pub returns-then-word-eq3-clause-steps : goal.returns-then-word-eq3-clause-steps
-returns-then-word-eq3-clause-steps c = record {
-  code = Vertical VR1;
-  begun = λ x first long. vr1_seen c.args.word x c.if-word-eq3.true first long;
-  count_is = refl;
+pub returns-then-word-eq1-2-clause-steps : goal.returns-then-word-eq1-2-clause-steps
+returns-then-word-eq1-2-clause-steps c = record {
+  code = Vertical (beside c.args.word);
+  begun = beside_seen c.args.word c.if-word-eq1-2.true;
+  count_is = beside_count c.args.word;
   leads = c.in_ok-next.ensures.leads;
-}
-
-pub returns-then-word-eq2-clause-steps : goal.returns-then-word-eq2-clause-steps
-returns-then-word-eq2-clause-steps c = record {
-  code = Vertical VL1;
-  begun = λ x first long. vl1_seen c.args.word x c.if-word-eq2.true first long;
-  count_is = refl;
-  leads = c.in_ok-next-2.ensures.leads;
 }
 
 pub returns-in-Ok-clause-steps : goal.returns-in-Ok-clause-steps
