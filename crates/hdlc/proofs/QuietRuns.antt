@@ -2,11 +2,10 @@
 use Rattle.std.proofs.Common.{◌≡◌, ℕ, zero, suc, ◌+◌, ◌-◌, ◌*◌, ◌/◌, ◌%◌, ◌^◌, ◌<◌, ◌≤◌, Bool, true, false, not, ◌&&◌, List, [], ◌∷◌, ◌++◌}
 use Rattle.std.proofs.Common.{length, take, drop, cond, refl, ap, sym, ◌∙◌, arith, nat_eq}
 use Rattle.std.proofs.Common.{bit_and, append_assoc, Option, Some, None, get_or}
-use Rattle.std.proofs.Common.{w64, subst}
-use Rattle.std.proofs.Math.Seq.{drop-cons}
-use Rattle.std.specs.Int.{from_le_bytes}
+use Rattle.std.proofs.Common.{subst}
+use Rattle.std.proofs.Math.Seq.{drop-cons, take-add}
 use Rattle.std.specs.Prelude.{is_some}
-use Rattle.std.proofs.lemmas.List.{take_more, take_all}
+use Rattle.std.proofs.lemmas.List.{take_more, take_all, take-append-drop}
 use Rattle.std.proofs.lemmas.Nat.{and_shr, shr-shr}
 use Rattle.std.proofs.lemmas.Bool.{and_parts}
 use Rattle.hdlc.specs.declared.flag_finder.FlagFinder.{FlagFinder}
@@ -99,26 +98,24 @@ number_octets o os fits =
     ap number (bits_of-cons o os) ∙ (number-append (octet_bits o) (bits_of LsbFirst os) 8 refl
     ∙ (ap (λ n. n + number (bits_of LsbFirst os) * 256) (number-octet_bits o fits) ∙ ap (λ n. o + n) swap))
 
-pub word_calm : (last a b c d e f g h n : ℕ) → last < 256 → a < 256 → b < 256 → c < 256 → d < 256 → e < 256 → f < 256 → g < 256 → h < 256
-    → n ≡ from_le_bytes w64 (a ∷ b ∷ c ∷ d ∷ e ∷ f ∷ g ∷ h ∷ []) → sixes (n % 0x100000000000000 * 256 + last) ≡ 0
-    → end_no_flag last (a ∷ b ∷ c ∷ d ∷ e ∷ f ∷ g ∷ []) ≡ true
-word_calm last a b c d e f g h n small la lb lc ld le lf lg lh is six =
-    let octets : List ℕ = a ∷ b ∷ c ∷ d ∷ e ∷ f ∷ g ∷ [] in
+pub eight_calm : (a b c d e f g h n : ℕ) → a < 256 → b < 256 → c < 256 → d < 256 → e < 256 → f < 256 → g < 256 → h < 256
+    → n ≡ a + 256 * (b + 256 * (c + 256 * (d + 256 * (e + 256 * (f + 256 * (g + 256 * h)))))) → sixes n ≡ 0
+    → end_no_flag a (b ∷ c ∷ d ∷ e ∷ f ∷ g ∷ h ∷ []) ≡ true
+eight_calm a b c d e f g h n la lb lc ld le lf lg lh is six =
+    let octets : List ℕ = b ∷ c ∷ d ∷ e ∷ f ∷ g ∷ h ∷ [] in
     let bits : List Bool = bits_of LsbFirst octets in
-    let value : n ≡ a + 256 * (b + 256 * (c + 256 * (d + 256 * (e + 256 * (f + 256 * (g + 256 * h)))))) = is ∙ omega arith in
-    let cut : n % 0x100000000000000 ≡ a + 256 * (b + 256 * (c + 256 * (d + 256 * (e + 256 * (f + 256 * g))))) = omega arith in
     let n0 : number (bits_of LsbFirst []) ≡ 0 = ap number (bits_in-none LsbFirst []) in
-    let n1 : number (bits_of LsbFirst (g ∷ [])) ≡ g = number_octets g [] lg ∙ omega arith in
-    let n2 : number (bits_of LsbFirst (f ∷ g ∷ [])) ≡ f + 256 * g = number_octets f (g ∷ []) lf ∙ ap (λ m. f + 256 * m) n1 in
-    let n3 = number_octets e (f ∷ g ∷ []) le ∙ ap (λ m. e + 256 * m) n2 in
-    let n4 = number_octets d (e ∷ f ∷ g ∷ []) ld ∙ ap (λ m. d + 256 * m) n3 in
-    let n5 = number_octets c (d ∷ e ∷ f ∷ g ∷ []) lc ∙ ap (λ m. c + 256 * m) n4 in
-    let n6 = number_octets b (c ∷ d ∷ e ∷ f ∷ g ∷ []) lb ∙ ap (λ m. b + 256 * m) n5 in
-    let n7 : number bits ≡ a + 256 * (b + 256 * (c + 256 * (d + 256 * (e + 256 * (f + 256 * g))))) =
-    number_octets a (b ∷ c ∷ d ∷ e ∷ f ∷ g ∷ []) la ∙ ap (λ m. a + 256 * m) n6 in
-    let same : n % 0x100000000000000 * 256 + last ≡ last + 256 * number bits = omega arith in
-    sym (end_split octets last small (la, (lb, (lc, (ld, (le, (lf, (lg, tt)))))))) ∙ (sym (shifted_test bits last small)
-    ∙ (ap (no_flag_below (length bits)) (sym same) ∙ calm (length bits) (n % 0x100000000000000 * 256 + last) six))
+    let n1 : number (bits_of LsbFirst (h ∷ [])) ≡ h = number_octets h [] lh ∙ omega arith in
+    let n2 : number (bits_of LsbFirst (g ∷ h ∷ [])) ≡ g + 256 * h = number_octets g (h ∷ []) lg ∙ ap (λ m. g + 256 * m) n1 in
+    let n3 = number_octets f (g ∷ h ∷ []) lf ∙ ap (λ m. f + 256 * m) n2 in
+    let n4 = number_octets e (f ∷ g ∷ h ∷ []) le ∙ ap (λ m. e + 256 * m) n3 in
+    let n5 = number_octets d (e ∷ f ∷ g ∷ h ∷ []) ld ∙ ap (λ m. d + 256 * m) n4 in
+    let n6 = number_octets c (d ∷ e ∷ f ∷ g ∷ h ∷ []) lc ∙ ap (λ m. c + 256 * m) n5 in
+    let n7 : number bits ≡ b + 256 * (c + 256 * (d + 256 * (e + 256 * (f + 256 * (g + 256 * h))))) =
+    number_octets b (c ∷ d ∷ e ∷ f ∷ g ∷ h ∷ []) lb ∙ ap (λ m. b + 256 * m) n6 in
+    let same : n ≡ a + 256 * number bits = is ∙ ap (λ m. a + 256 * m) (sym n7) in
+    sym (end_split octets a la (lb, (lc, (ld, (le, (lf, (lg, (lh, tt)))))))) ∙ (sym (shifted_test bits a la)
+    ∙ (ap (no_flag_below (length bits)) (sym same) ∙ calm (length bits) n six))
 
 pub take_next : (os : List ℕ) (at next n : ℕ) → at < length os → next ≡ at + 1 → take (suc n) (drop at os) ≡ get_or os at 0 ∷ take n
     (drop next os)
@@ -165,6 +162,19 @@ last_of_take xs n w least most =
     let back : n - 1 + 1 ≡ n = omega arith in
     sym (ap (λ k. last_octet w (take k xs)) (sym back)
     ∙ (ap (last_octet w) (take_more xs (n - 1) 0 (omega arith)) ∙ last-push (take (n - 1) xs) w (get_or xs (n - 1) 0)))
+
+-- octets at the end, some of them a second time
+pub end_overlap : (xs : List ℕ) (m k w : ℕ) → 0 < m → m + k ≤ length xs → end_no_flag w (take (m + k) xs) ≡ true
+    → end_no_flag (get_or xs (m - 1) 0) (drop m xs) ≡ true → end_no_flag w xs ≡ true
+end_overlap xs m k w least most front back =
+    let more : List ℕ = take k (drop m xs) in
+    let both : (end_no_flag w (take m xs) && end_no_flag (last_octet w (take m xs)) more) ≡ true =
+    sym (ap (end_no_flag w) (take-add m k xs) ∙ end-append (take m xs) more w) ∙ front in
+    let first : end_no_flag w (take m xs) ≡ true =
+    (and_parts (end_no_flag w (take m xs)) (end_no_flag (last_octet w (take m xs)) more) both).0 in
+    ap (end_no_flag w) (sym (take-append-drop m xs)) ∙ (end-append (take m xs) (drop m xs) w
+    ∙ (ap (λ t. t && end_no_flag (last_octet w (take m xs)) (drop m xs)) first
+    ∙ (ap (λ o. end_no_flag o (drop m xs)) (sym (last_of_take xs m w least (omega arith))) ∙ back)))
 
 -- ---- the gap after them
 

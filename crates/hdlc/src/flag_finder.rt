@@ -11,7 +11,7 @@ ghost use Rattle.hdlc.specs.EightBits.{ends_no_flag, end_no_flag, repeated};
 ghost use Rattle.hdlc.specs.declared.counts.Class.{Class as AnyClass};
 ghost use Rattle.hdlc.specs.declared.counts.Counts.{Counts as AnyCounts};
 ghost use Rattle.std.specs.Prelude.{ℕ, ◌≡◌, ◌+◌, ◌/◌, ◌%◌, ◌<◌, ◌≤◌, ◌++◌, ◌∷◌, ◌&&◌, []};
-ghost use Rattle.std.specs.Prelude.{List, Bool, true, false, cond, min, nat_lt, length, take, drop, replicate, IfOk, OnOk};
+ghost use Rattle.std.specs.Prelude.{List, Bool, true, false, cond, min, nat_lt, length, slice_index, take, drop, replicate, IfOk, OnOk};
 
 use crate::counts::{Class, Counts};
 use crate::gap::{Gap, bit_at};
@@ -73,13 +73,13 @@ fn ends_no_flag(window: u8, octet: u8) -> bool
         & (both / 256 % 256 != 0x7E)
 }
 
-/// Whether seven octets from a place on, after these last eight bits, have no six 1 bits in a row that end in
-/// them or directly before, so that no flag ends in them; one more octet must follow them.
-fn have_no_flag(last: u8, octets: &[u8], at: usize) -> bool
+/// Whether eight octets from a place on have no six 1 bits in a row, so that no flag ends in the seven after the
+/// first.
+fn are_calm(octets: &[u8], at: usize) -> bool
     requires { at + 8 ≤ length octets.now }
-    ensures { result ≡ true → end_no_flag last (take 7 (drop at octets.now)) ≡ true }
+    ensures { result ≡ true → end_no_flag (slice_index octets.now at) (take 7 (drop (at + 1) octets.now)) ≡ true }
 {
-    let next = u64::from_le_bytes([
+    let all = u64::from_le_bytes([
         octets[at],
         octets[at + 1],
         octets[at + 2],
@@ -89,46 +89,49 @@ fn have_no_flag(last: u8, octets: &[u8], at: usize) -> bool
         octets[at + 6],
         octets[at + 7],
     ]);
-    let all = next % 0x0100_0000_0000_0000 * 256 + u64::from(last);
     let pairs = all & (all / 2);
     let fours = pairs & (pairs / 4);
     fours & (pairs / 16) == 0
 }
 
-/// The number of octets from a place on, in sevens, in which no flag ends, after these last eight bits.
-fn quiet_sevens(last: u8, octets: &[u8], at: usize) -> usize
-    requires { at ≤ length octets.now }
-    ensures within { at + result ≤ length octets.now }
-    ensures quiet { end_no_flag last (take result (drop at octets.now)) ≡ true }
+/// The number of octets from the front, the first with some sevens after it or all, in which no flag ends, after
+/// any last eight bits after which none ends in the first.
+fn quiet_sevens(octets: &[u8]) -> usize
+    requires { 0 < length octets.now }
+    ensures within { result ≤ length octets.now }
+    ensures quiet { (last : ℕ) → ends_no_flag last (bits_of LsbFirst (slice_index octets.now 0 ∷ [])) ≡ true
+        → end_no_flag last (take result octets.now) ≡ true }
 {
-    let rest = &octets[at..];
-    let mut count = 0;
-    let mut window = last;
-    while rest.len() - count >= 8 {
-        if !have_no_flag(window, rest, count) {
+    let mut count = 1;
+    while octets.len() - count >= 7 {
+        if !are_calm(octets, count - 1) {
             return count;
         }
-        window = rest[count + 6];
         count += 7;
+    }
+    if octets.len() < 8 {
+        return count;
+    }
+    if count == octets.len() {
+        return count;
+    }
+    if are_calm(octets, octets.len() - 8) {
+        return octets.len(); // the last seven, some of them a second time
     }
     count
 }
 
-/// The number of octets from a place on, some sevens, one or none, in which no flag ends, after these last
-/// eight bits.
+/// The number of octets from a place on, one with some sevens after it, all or none, in which no flag ends, after
+/// these last eight bits.
 fn quiet_step(last: u8, octets: &[u8], at: usize) -> usize
     requires { at < length octets.now }
     ensures within { at + result ≤ length octets.now }
     ensures quiet { end_no_flag last (take result (drop at octets.now)) ≡ true }
 {
-    let count = quiet_sevens(last, octets, at);
-    if count != 0 {
-        return count;
+    if !ends_no_flag(last, octets[at]) {
+        return 0;
     }
-    if ends_no_flag(last, octets[at]) {
-        return 1;
-    }
-    0
+    quiet_sevens(&octets[at..])
 }
 
 /// The number of octets from the front in which no flag ends, after these last eight bits.

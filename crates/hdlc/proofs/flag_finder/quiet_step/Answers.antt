@@ -1,7 +1,0 @@
-use Rattle.std.proofs.Common.{sym, ◌∙◌, arith}
-use Rattle.hdlc.proofs.QuietRuns.{one_quiet}
-use Rattle.hdlc.proofs.flag_finder.quiet_step.Goals as goal
-
-pub returns-then-ends_no_flag-clause-quiet : goal.returns-then-ends_no_flag-clause-quiet
-returns-then-ends_no_flag-clause-quiet c =
-    one_quiet c.args.octets.now c.args.at c.args.last (omega arith) (sym c.ends_no_flag.ensures ∙ c.if-ends_no_flag.true)
