@@ -109,9 +109,9 @@ completed_is a bits eight o x old fill e is =
     ∙ (ap (λ n. n / 2 ^ (8 - length bits % 8) % 256) both ∙ (ap (λ s. (o * 256 + a.window) / 2 ^ s % 256) shift ∙ sym is))
 
 -- the register of the last eight bits, with up to eight more
-pub window_more : (bits more : List Bool) (v old w : ℕ) → old ≡ number (recent false bits) → length more ≤ 8 → number more ≡ v
+pub window_more : (bits more : List Bool) (v old w : ℕ) → old ≡ number (recent false bits) → number more ≡ v
     → w ≡ (v * 256 + old) / 2 ^ length more % 256 → w ≡ number (recent false (bits ++ more))
-window_more bits more v old w was few e is =
+window_more bits more v old w was e is =
     let eight : length (recent false bits) ≡ 8 = length-recent false bits in
     let size : length (recent false bits ++ more) ≡ 8 + length more = length-append (recent false bits) more ∙ omega arith in
     let left : List Bool = drop (length more) (recent false bits ++ more) in
@@ -125,7 +125,7 @@ window_more bits more v old w was few e is =
 
 window_is : (a : OctetBuffer) (bits more : List Bool) (v w : ℕ) → Assembles a bits → length more ≤ 8 → number more ≡ v
     → w ≡ (v * 256 + a.window) / 2 ^ length more % 256 → w ≡ number (recent false (bits ++ more))
-window_is a bits more v w old few e is = window_more bits more v a.window w old.window few e is
+window_is a bits more v w old few e is = window_more bits more v a.window w old.window e is
 
 -- no octet is whole
 pub bits_kept : (a new : OctetBuffer) (bits more : List Bool) (v : ℕ) → Assembles a bits → length more ≤ 8 → number more ≡ v

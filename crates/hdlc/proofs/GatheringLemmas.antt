@@ -227,6 +227,9 @@ take_four os at h =
     (take_next os (at + 2) (at + 3) 1 (omega arith) (omega arith) ∙ ap (λ r. g (at + 2) ∷ r)
     (take_next os (at + 3) (at + 4) 0 (omega arith) (omega arith))))
 
+pub four_size : (os : List ℕ) (at : ℕ) → at + 4 ≤ length os → length (bits_of LsbFirst (take 4 (drop at os))) ≡ 32
+four_size os at h = rw (take_four os at h) (length-bits_in LsbFirst _ 32)
+
 pub four_joined : (gap : List Bool) (a b c d : ℕ)
     → (((gap ++ bits_of LsbFirst (a ∷ [])) ++ bits_of LsbFirst (b ∷ [])) ++ bits_of LsbFirst (c ∷ [])) ++ bits_of LsbFirst (d ∷ [])
     ≡ gap ++ bits_of LsbFirst (a ∷ b ∷ c ∷ d ∷ [])
@@ -245,18 +248,17 @@ pub moved_word : (p b v : ℕ) → p < 32 → b < 2 ^ p → v < 4294967296 → (
 moved_word p b v few fits small =
     cut64 b (v * 2 ^ p) (2 ^ (p + 32)) (joined_fits p 32 b v fits small) (pow_mono {j = 63} (omega arith))
 
-pub with_octet : (a : OctetBuffer) (g h : Gathering) (gap eight : List Bool) → Gathers a g gap → g.bits < 2 ^ g.part → g.last < 256
-    → length (unstuffed_from (min 5 (g.row / 256)) eight) ≤ 8
-    → h.bits ≡ g.bits + number (unstuffed_from (min 5 (g.row / 256)) eight) * 2 ^ g.part
-    → h.part ≡ g.part + length (unstuffed_from (min 5 (g.row / 256)) eight) → h.last ≡ g.last
-    → h.row ≡ min 6 (ones_at_end (g.row / 256) eight) * 256 → h.aborted ≡ (g.aborted || six_from (min 5 (g.row / 256)) eight)
-    → Gathers a h (gap ++ eight)
-with_octet a g h gap eight old fits small few bits part last row aborted =
+pub with_bits : (a : OctetBuffer) (g h : Gathering) (gap come : List Bool) → Gathers a g gap → g.bits < 2 ^ g.part → g.last < 256
+    → h.bits ≡ g.bits + number (unstuffed_from (min 5 (g.row / 256)) come) * 2 ^ g.part
+    → h.part ≡ g.part + length (unstuffed_from (min 5 (g.row / 256)) come) → h.last ≡ g.last
+    → h.row ≡ min 6 (ones_at_end (g.row / 256) come) * 256 → h.aborted ≡ (g.aborted || six_from (min 5 (g.row / 256)) come)
+    → Gathers a h (gap ++ come)
+with_bits a g h gap come old fits small bits part last row aborted =
     let n : ℕ = g.row / 256 in
     let is : n ≡ min 6 (ones gap) = omega (arith, old.row) in
     let five : min 5 n ≡ min 5 (ones gap) = omega arith in
-    let more : List Bool = unstuffed_from (min 5 n) eight in
-    let run : unstuffed (gap ++ eight) ≡ unstuffed gap ++ more = unstuffed_run gap eight (min 5 n) five in
+    let more : List Bool = unstuffed_from (min 5 n) come in
+    let run : unstuffed (gap ++ come) ≡ unstuffed gap ++ more = unstuffed_run gap come (min 5 n) five in
     let size : length (old.back ++ more) ≡ length old.back + length more = length-append old.back more in
     record {
       front = old.front;
@@ -266,14 +268,14 @@ with_octet a g h gap eight old fits small few bits part last row aborted =
       part = omega (arith, old.part);
       bits = number-append old.back more g.part old.part ∙ (ap (λ m. m + number more * 2 ^ g.part) old.bits ∙ sym bits);
       window =
-          window_more (unstuffed gap) more (number more) ((g.bits * 256 + g.last) / 2 ^ g.part % 256) _ old.window few refl
+          window_more (unstuffed gap) more (number more) ((g.bits * 256 + g.last) / 2 ^ g.part % 256) _ old.window refl
           (ap (λ m. (m * 256 + h.last) / 2 ^ h.part % 256) bits
           ∙ (ap (λ m. ((g.bits + number more * 2 ^ g.part) * 256 + m) / 2 ^ h.part % 256) last
           ∙ (ap (λ k. ((g.bits + number more * 2 ^ g.part) * 256 + g.last) / 2 ^ k % 256) part
           ∙ register_kept g.part (length more) g.bits (number more) g.last fits small)))
           ∙ ap (λ xs. number (recent false xs)) (sym run);
-      row = row ∙ ap (λ m. m * 256) (end_same n (ones gap) eight (omega arith) ∙ ap (min 6) (sym (ones_run gap eight)));
-      aborted = aborted ∙ (ap (λ x. x || six_from (min 5 n) eight) old.aborted ∙ sym (six_run gap eight (min 5 n) five));
+      row = row ∙ ap (λ m. m * 256) (end_same n (ones gap) come (omega arith) ∙ ap (min 6) (sym (ones_run gap come)));
+      aborted = aborted ∙ (ap (λ x. x || six_from (min 5 n) come) old.aborted ∙ sym (six_run gap come (min 5 n) five));
     }
 
 -- ---- the beginning and the end

@@ -26,3 +26,4 @@ pub mod Examples
 pub mod OneRuns
 pub mod GatheringLemmas
 pub mod PlainOctets
+pub mod OneStuffed

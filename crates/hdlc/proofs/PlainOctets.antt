@@ -1,7 +1,8 @@
 -- Octets with no stuffed bits, four at a time.
 use Rattle.std.proofs.Common.{◌≡◌, ℕ, zero, suc, ◌+◌, ◌-◌, ◌*◌, ◌/◌, ◌%◌, ◌^◌, ◌<◌, ◌≤◌, Bool, true, false, not, ◌&&◌, ◌||◌, List, [], ◌∷◌}
 use Rattle.std.proofs.Common.{◌++◌, length, cond, min, refl, ap, sym, ◌∙◌, arith, nat_lt, bit_and, subst}
-use Rattle.std.proofs.lemmas.Nat.{and_shr, shr-shr, pow-add}
+use Rattle.std.proofs.Math.Pow.{pow_mono}
+use Rattle.std.proofs.lemmas.Nat.{and_shr, and_le_r, mul-le, shr-shr, pow-add}
 use Rattle.std.proofs.lemmas.Nat.Bits.{bit_at_and}
 use Rattle.std.proofs.lemmas.Bool.{and_parts, lt-ltb, ltb-true}
 use Rattle.std.specs.Int.{bit_at}
@@ -12,30 +13,30 @@ use Rattle.raster.proofs.OctetBits.{octet_bits, bits_of-cons}
 use Rattle.raster.proofs.OctetLemmas.{number-octet_bits}
 use Rattle.hdlc.specs.declared.gathering.Gathering.{Gathering}
 use Rattle.hdlc.specs.declared.octet_buffer.OctetBuffer.{OctetBuffer}
-use Rattle.hdlc.specs.EightBits.{run_after, unstuffed_from, six_from, ones_at_end, plain}
+use Rattle.hdlc.specs.EightBits.{run_after, unstuffed_from, six_from, ones_at_end, plain, fives}
 use Rattle.hdlc.specs.Gathers.{Gathers}
 use Rattle.hdlc.proofs.BitPlaces.{bits_of-one}
-use Rattle.hdlc.proofs.GatheringLemmas.{with_octet, four_joined}
+use Rattle.hdlc.proofs.GatheringLemmas.{with_bits, four_joined}
 use Rattle.hdlc.proofs.PendingLemmas.{joined_fits}
 use Rattle.hdlc.proofs.QuietRuns.{number_octets}
 
 -- ---- what plain bits are
 
-less_if : (n : ℕ) → nat_lt n 5 ≡ true → n < 5
+pub less_if : (n : ℕ) → nat_lt n 5 ≡ true → n < 5
 less_if n h = ltb-true n 5 h
 
-plain_less : (n : ℕ) (bits : List Bool) → plain n bits ≡ true → n < 5
+pub plain_less : (n : ℕ) (bits : List Bool) → plain n bits ≡ true → n < 5
 plain_less n [] h = less_if n h
 plain_less n (b ∷ bits) h = less_if n (and_parts (nat_lt n 5) (plain (cond b (1 + n) 0) bits) h).0
 
 plain_rest : (n : ℕ) (b : Bool) (bits : List Bool) → plain n (b ∷ bits) ≡ true → plain (cond b (1 + n) 0) bits ≡ true
 plain_rest n b bits h = (and_parts (nat_lt n 5) (plain (cond b (1 + n) 0) bits) h).1
 
-run_is : (n : ℕ) (b : Bool) → n < 5 → run_after n b ≡ cond b (1 + n) 0
+pub run_is : (n : ℕ) (b : Bool) → n < 5 → run_after n b ≡ cond b (1 + n) 0
 run_is n true h = omega arith
 run_is n false h = refl
 
-plain_end : (bits : List Bool) (n : ℕ) → plain n bits ≡ true → ones_at_end n bits < 5
+pub plain_end : (bits : List Bool) (n : ℕ) → plain n bits ≡ true → ones_at_end n bits < 5
 plain_end [] n h = less_if n h
 plain_end (b ∷ bits) n h = plain_end bits (cond b (1 + n) 0) (plain_rest n b bits h)
 
@@ -47,7 +48,7 @@ plain_same (b ∷ bits) n h =
     ∙ ap (λ xs. b ∷ xs) (ap (λ r. unstuffed_from r bits) (run_is n b few)
     ∙ plain_same bits (cond b (1 + n) 0) (plain_rest n b bits h))
 
-plain_calm : (bits : List Bool) (n : ℕ) → plain n bits ≡ true → six_from n bits ≡ false
+pub plain_calm : (bits : List Bool) (n : ℕ) → plain n bits ≡ true → six_from n bits ≡ false
 plain_calm [] n h = refl
 plain_calm (b ∷ bits) n h =
     let few : n < 5 = plain_less n (b ∷ bits) h in
@@ -75,7 +76,7 @@ end_more [] m n h = h
 end_more (true ∷ bits) m n h = end_more bits (1 + m) (1 + n) (omega arith)
 end_more (false ∷ bits) m n h = omega arith
 
-end_alone : (bits : List Bool) (n : ℕ) → ones_at_end n bits < n + length bits → ones_at_end n bits ≡ ones_at_end 0 bits
+pub end_alone : (bits : List Bool) (n : ℕ) → ones_at_end n bits < n + length bits → ones_at_end n bits ≡ ones_at_end 0 bits
 end_alone [] n h = absurd (omega arith)
 end_alone (true ∷ bits) n h =
     let one : ones_at_end (1 + n) bits ≡ ones_at_end 0 bits = end_alone bits (1 + n) (omega arith) in
@@ -88,10 +89,7 @@ plain_alone bits n h fine = end_alone bits n (omega (arith, plain_end bits n fin
 
 -- ---- the test, by a number
 
-abbrev pub fives : ℕ → ℕ
-fives x = bit_and (bit_and (bit_and x (x / 2)) (bit_and x (x / 2) / 4)) (x / 16)
-
-fives_half : (x : ℕ) → fives (x / 2) ≡ fives x / 2
+pub fives_half : (x : ℕ) → fives (x / 2) ≡ fives x / 2
 fives_half x =
     let pairs : ℕ = bit_and x (x / 2) in
     let half : bit_and (x / 2) (x / 2 / 2) ≡ pairs / 2 = sym (and_shr x (x / 2) 1) in
@@ -108,7 +106,7 @@ fives_down (suc k) x h =
     let power : 1 + k ≡ suc k = omega arith in
     sym (ap fives (shr-shr x 1 k ∙ ap (λ n. x / 2 ^ n) power)) ∙ fives_down k (x / 2) (fives_half x ∙ ap (λ n. n / 2) h)
 
-five_low : (x : ℕ) → x % 32 ≡ 31 → fives x % 2 ≡ 1
+pub five_low : (x : ℕ) → x % 32 ≡ 31 → fives x % 2 ≡ 1
 five_low x h =
     let pairs : ℕ = bit_and x (x / 2) in
     let p0 : bit_at pairs 0 ≡ 1 = bit_at_and x (x / 2) 0 ∙ (rw (bit x 0 (omega arith), bit (x / 2) 0 (omega arith)) refl) in
@@ -136,7 +134,7 @@ low_few m (suc (suc (suc (suc (suc (suc zero)))))) h e =
     absurd (omega arith)
 low_few m (suc (suc (suc (suc (suc (suc (suc n))))))) h e = absurd (omega arith)
 
-up : (m n : ℕ) → n < 5 → (1 + 2 * m + 1) * 2 ^ n - 1 ≡ (m + 1) * 2 ^ (1 + n) - 1
+pub up : (m n : ℕ) → n < 5 → (1 + 2 * m + 1) * 2 ^ n - 1 ≡ (m + 1) * 2 ^ (1 + n) - 1
 up m zero h = omega arith
 up m (suc zero) h = omega arith
 up m (suc (suc zero)) h = omega arith
@@ -144,7 +142,7 @@ up m (suc (suc (suc zero))) h = omega arith
 up m (suc (suc (suc (suc zero)))) h = omega arith
 up m (suc (suc (suc (suc (suc n))))) h = absurd (omega arith)
 
-down : (m n : ℕ) → n < 5 → ((0 + 2 * m + 1) * 2 ^ n - 1) / 2 ^ (1 + n) ≡ (m + 1) * 2 ^ 0 - 1
+pub down : (m n : ℕ) → n < 5 → ((0 + 2 * m + 1) * 2 ^ n - 1) / 2 ^ (1 + n) ≡ (m + 1) * 2 ^ 0 - 1
 down m zero h = omega arith
 down m (suc zero) h = omega arith
 down m (suc (suc zero)) h = omega arith
@@ -181,9 +179,16 @@ all_fits (suc (suc (suc (suc (suc zero))))) word h small = (omega arith, omega a
 all_fits (suc (suc (suc (suc (suc (suc zero)))))) word h small = (omega arith, omega arith)
 all_fits (suc (suc (suc (suc (suc (suc (suc n))))))) word h small = absurd (omega arith)
 
+pub fives_few : (n word : ℕ) → n ≤ 6 → word < 2 ^ 32 → fives ((word + 1) * 2 ^ n % 2 ^ 64 - 1) < 2 ^ 34
+fives_few n word h small =
+    let x : ℕ = (word + 1) * 2 ^ n % 2 ^ 64 - 1 in
+    let most : (word + 1) * 2 ^ n ≤ 2 ^ 32 * 2 ^ 6 = mul-le (word + 1) (2 ^ n) (2 ^ 32) (2 ^ 6) (omega arith) (pow_mono {i = n} {j = 6} h) in
+    let few : fives x ≤ x / 16 = and_le_r (bit_and (bit_and x (x / 2)) (bit_and x (x / 2) / 4)) (x / 16) in
+    omega arith
+
 -- ---- plain octets come to an open gap
 
-or_false : (x : Bool) → (x || false) ≡ x
+pub or_false : (x : Bool) → (x || false) ≡ x
 or_false true = refl
 or_false false = refl
 
@@ -199,7 +204,7 @@ plain_octet a g h gap o old fits small fine calm bits part last row aborted =
     let none : six_from (min 5 n) eight ≡ false = ap (λ m. six_from m eight) few ∙ plain_calm eight n calm in
     let end : ones_at_end n eight < 5 = plain_end eight n calm in
     let top : min 6 (ones_at_end n eight) ≡ ones_at_end n eight = omega arith in
-    rw (bits_of-one o) (with_octet a g h gap eight old fits small (rw same (omega arith))
+    rw (bits_of-one o) (with_bits a g h gap eight old fits small
     (bits ∙ ap (λ m. g.bits + m * 2 ^ g.part) (sym (ap number same ∙ number-octet_bits o fine)))
     (part ∙ ap (λ xs. g.part + length xs) (sym same)) last (row ∙ ap (λ m. m * 256) (sym top))
     (aborted ∙ sym (ap (λ t. g.aborted || t) none ∙ or_false g.aborted)))

@@ -1,7 +1,7 @@
 -- Eight bits that come at once: whether one of them ends a flag, and what they are without the stuffed ones. The clauses of private
 -- functions name this.
-use Rattle.std.specs.Prelude.{ℕ, ◌+◌, ◌*◌, ◌/◌, ◌%◌, Bool, true, false, not, ◌&&◌, ◌||◌, List, [], ◌∷◌, ◌++◌}
-use Rattle.std.specs.Prelude.{cond, nat_eq, nat_lt, length, map, min}
+use Rattle.std.specs.Prelude.{ℕ, zero, suc, ◌≡◌, ◌+◌, ◌*◌, ◌/◌, ◌%◌, ◌^◌, Bool, true, false, not, ◌&&◌, ◌||◌, List, [], ◌∷◌, ◌++◌}
+use Rattle.std.specs.Prelude.{bit_and, cond, nat_eq, nat_lt, length, map, min}
 use Rattle.std.specs.Int.{bit_at}
 use Rattle.std.specs.List.{range_with_len}
 use Rattle.raster.specs.Octets.{number}
@@ -37,6 +37,22 @@ six_from ones (b ∷ bits) = (not (nat_lt ones 5) && b) || six_from (run_after o
 abbrev pub plain : ℕ → List Bool → Bool
 plain ones [] = nat_lt ones 5
 plain ones (b ∷ bits) = nat_lt ones 5 && plain (cond b (1 + ones) 0) bits
+
+-- of a number's bits, the places where five 1 bits in a row begin
+abbrev pub fives : ℕ → ℕ
+fives x = bit_and (bit_and (bit_and x (x / 2)) (bit_and x (x / 2) / 4)) (x / 16)
+
+-- whether of these bits the one at a place is stuffed and no other, nor the bit after them, if they come after `ones` 1 bits in a row
+abbrev pub stuffed_alone : ℕ → List Bool → ℕ → Bool
+stuffed_alone ones [] place = false
+stuffed_alone ones (b ∷ bits) zero = nat_eq ones 5 && (not b && plain 0 bits)
+stuffed_alone ones (b ∷ bits) (suc place) = nat_lt ones 5 && stuffed_alone (cond b (1 + ones) 0) bits place
+
+-- the same for the bit whose place's power of two this is
+pub record IsStuffedAlone (ones : ℕ) (bits : List Bool) (power : ℕ) : Type 0 where
+  pub place : ℕ
+  pub is : power ≡ 2 ^ place
+  pub alone : stuffed_alone ones bits place ≡ true
 
 -- how many 1 bits in a row there are at the end, if these bits come after `ones` of them
 abbrev pub ones_at_end : ℕ → List Bool → ℕ

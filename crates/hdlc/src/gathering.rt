@@ -1,12 +1,13 @@
 //! The bits of an open gap while octets come four at a time.
 
-ghost use Rattle.hdlc.specs.EightBits.{plain};
+ghost use Rattle.hdlc.specs.EightBits.{fives, plain, IsStuffedAlone};
+ghost use Rattle.raster.specs.Octets.{number};
 ghost use Rattle.hdlc.specs.Gathers.{Gathers, IsGathering};
 ghost use Rattle.hdlc.specs.Pending.{window_of, IsPending};
 ghost use Rattle.hdlc.specs.declared.octet_buffer.OctetBuffer.{OctetBuffer as AnyBuffer};
 ghost use Rattle.raster.specs.Packed.{bits_of};
 ghost use Rattle.raster.specs.declared.packed.Order.TheVariants.{LsbFirst};
-ghost use Rattle.std.specs.Prelude.{◌≡◌, ◌≤◌, ◌<◌, ◌+◌, ◌*◌, ◌/◌, ◌%◌, ◌^◌, ◌++◌, ◌∷◌, [], List, Bool, true, length, take, drop};
+ghost use Rattle.std.specs.Prelude.{◌≡◌, ◌≤◌, ◌<◌, ◌+◌, ◌-◌, ◌*◌, ◌/◌, ◌%◌, ◌^◌, ◌++◌, ◌∷◌, [], List, Bool, true, length, take, drop};
 
 use crate::octet_buffer::{OctetBuffer, Pending};
 use crate::unstuffing::unstuffed;
@@ -46,17 +47,20 @@ impl Gathering {
         }
     }
 
-    /// Whether no bit of four octets from a place on is stuffed, nor the bit after them.
-    fn is_plain(self, octets: &[u8], at: usize) -> bool
+    /// Where five 1 bits in a row begin in the 1 bits before four octets from a place on, and in their bits after
+    /// these.
+    fn fives(self, octets: &[u8], at: usize) -> u64
         requires within { at + 4 ≤ length octets.now }
         requires sound { IsGathering self }
-        ensures { result ≡ true → plain (self.row / 256) (bits_of LsbFirst (take 4 (drop at octets.now))) ≡ true }
+        ensures few { result < 2 ^ 34 }
+        ensures is { result
+            ≡ fives ((number (bits_of LsbFirst (take 4 (drop at octets.now))) + 1) * 2 ^ (self.row / 256) - 1) }
     {
         let word = u32::from_le_bytes([octets[at], octets[at + 1], octets[at + 2], octets[at + 3]]);
-        let all = ((u64::from(word) + 1) << (self.row / 256)) - 1; // the 1 bits before them, and their bits
+        let all = ((u64::from(word) + 1) << (self.row / 256)) - 1;
         let pairs = all & (all / 2);
         let fours = pairs & (pairs / 4);
-        fours & (all / 16) == 0
+        fours & (all / 16)
     }
 
     /// With the bits of four octets from a place on, none of which is stuffed.
@@ -76,6 +80,50 @@ impl Gathering {
             part: self.part + 32,
             last: self.last,
             row: unstuffed(0, octets[at + 3]).row, // they have a 0 bit: what came before them doesn't matter
+            aborted: self.aborted,
+        }
+    }
+
+    /// 2 to the place of the only stuffed bit of 32 bits, by where five 1 bits in a row begin in the 1 bits before
+    /// them, and in them after these; 0 if there are more, or if the bit after them is stuffed.
+    fn stuffed_alone(self, starts: u64) -> u64
+        requires least { 0 < starts }
+        requires few { starts < 2 ^ 34 }
+        requires sound { IsGathering self }
+        ensures { (bits : List Bool) → length bits ≡ 32
+            → starts ≡ fives ((number bits + 1) * 2 ^ (self.row / 256) - 1) → 0 < result
+            → IsStuffedAlone (self.row / 256) bits result }
+    {
+        if starts & (starts - 1) != 0 {
+            return 0;
+        }
+        let power = (starts * 32) >> (self.row / 256);
+        if power >= 0x0001_0000_0000 {
+            return 0;
+        }
+        power
+    }
+
+    /// With the bits of four octets from a place on, one of which is stuffed; `power` is 2 to its place.
+    fn with_others(self, octets: &[u8], at: usize, power: u64) -> Gathering
+        requires within { at + 4 ≤ length octets.now }
+        requires few { self.part < 32 }
+        requires sound { IsGathering self }
+        requires stuffed { IsStuffedAlone (self.row / 256) (bits_of LsbFirst (take 4 (drop at octets.now))) power }
+        ensures few { result.part ≡ self.part + 31 }
+        ensures sound { IsGathering result }
+        ensures gathers { (buffer : AnyBuffer) (gap : List Bool) → Gathers buffer self gap
+            → Gathers buffer result (gap ++ bits_of LsbFirst (take 4 (drop at octets.now))) }
+    {
+        let word = u32::from_le_bytes([octets[at], octets[at + 1], octets[at + 2], octets[at + 3]]);
+        let all = u64::from(word);
+        let before = all & (power - 1);
+        let others = (all + before) / 2; // those before it stay, those after it come one place lower
+        Gathering {
+            bits: self.bits.wrapping_add(others << self.part),
+            part: self.part + 31,
+            last: self.last,
+            row: unstuffed(0, octets[at + 3]).row, // a 0 is stuffed: what came before them doesn't matter
             aborted: self.aborted,
         }
     }
@@ -118,6 +166,21 @@ fn settled(buffer: &mut OctetBuffer, state: Gathering) -> Gathering
     }
 }
 
+/// Takes the bits of four octets from a place on, one octet after the other.
+fn gather_each(buffer: &mut OctetBuffer, state: Gathering, octets: &[u8], at: usize) -> Gathering
+    requires within { at + 4 ≤ length octets.now }
+    requires few { state.part < 32 }
+    requires sound { IsGathering state }
+    ensures few { result.part < 32 }
+    ensures sound { IsGathering result }
+    ensures gathers { (gap : List Bool) → Gathers buffer.old state gap
+        → Gathers buffer.new result (gap ++ bits_of LsbFirst (take 4 (drop at octets.now))) }
+{
+    let two = state.with(octets[at]).with(octets[at + 1]);
+    let four = two.with(octets[at + 2]).with(octets[at + 3]);
+    settled(buffer, four)
+}
+
 /// Takes the bits of four octets from a place on.
 pub fn gather_four(
     buffer: &mut OctetBuffer,
@@ -133,12 +196,15 @@ pub fn gather_four(
     ensures gathers { (gap : List Bool) → Gathers buffer.old state gap
         → Gathers buffer.new result (gap ++ bits_of LsbFirst (take 4 (drop at octets.now))) }
 {
-    if state.is_plain(octets, at) {
+    let fives = state.fives(octets, at);
+    if fives == 0 {
         return settled(buffer, state.with_plain(octets, at));
     }
-    let two = state.with(octets[at]).with(octets[at + 1]);
-    let four = two.with(octets[at + 2]).with(octets[at + 3]);
-    settled(buffer, four)
+    let power = state.stuffed_alone(fives);
+    if power != 0 {
+        return settled(buffer, state.with_others(octets, at, power));
+    }
+    gather_each(buffer, state, octets, at)
 }
 
 /// With the bits of up to three octets more, the least significant of each first.

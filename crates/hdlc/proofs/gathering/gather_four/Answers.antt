@@ -1,24 +1,16 @@
-use Rattle.std.proofs.Common.{◌+◌, ◌++◌, ◌∷◌, [], ℕ, get_or, ap, sym, ◌∙◌, subst}
+use Rattle.std.proofs.Common.{◌/◌, List, Bool, take, drop, sym, ◌∙◌, arith}
 use Rattle.raster.specs.Packed.{bits_of}
 use Rattle.raster.specs.declared.packed.Order.TheVariants.{LsbFirst}
-use Rattle.hdlc.specs.Gathers.{Gathers}
-use Rattle.hdlc.proofs.GatheringLemmas.{four_joined, take_four}
+use Rattle.hdlc.proofs.GatheringLemmas.{four_size}
+use Rattle.hdlc.proofs.PlainOctets.{plain_if}
 use Rattle.hdlc.proofs.gathering.gather_four.Goals as goal
 
-pub returns-then-is_plain-clause-gathers : goal.returns-then-is_plain-clause-gathers
-returns-then-is_plain-clause-gathers c gap old = c.settled.ensures.gathers _ (c.with_plain.ensures.gathers c.args.buffer.now gap old)
+pub with_plain-requires-clause-plain : goal.with_plain-requires-clause-plain
+with_plain-requires-clause-plain c =
+    plain_if (bits_of LsbFirst (take 4 (drop c.args.at c.args.octets.now))) (c.args.state.row / 256) (omega (arith, c.requires.sound.most))
+    (sym c.fives-fives.ensures.is ∙ c.if-fives-eq0.true)
 
-pub returns-clause-gathers : goal.returns-clause-gathers
-returns-clause-gathers c gap old =
-    let o : ℕ → ℕ = λ k. get_or c.args.octets.now k 0 in
-    let at : ℕ = c.args.at in
-    let one = c.with.ensures.gathers c.args.buffer.now gap old in
-    let two = c.with-two.ensures.gathers c.args.buffer.now (gap ++ bits_of LsbFirst (o at ∷ [])) one in
-    let three = c.with-2.ensures.gathers c.args.buffer.now
-    ((gap ++ bits_of LsbFirst (o at ∷ [])) ++ bits_of LsbFirst (o (at + 1) ∷ [])) two in
-    let four = c.with-four.ensures.gathers c.args.buffer.now
-    (((gap ++ bits_of LsbFirst (o at ∷ [])) ++ bits_of LsbFirst (o (at + 1) ∷ [])) ++ bits_of LsbFirst (o (at + 2) ∷ [])) three in
-    subst (Gathers c.settled-2.new.buffer c.settled-2.result)
-    (four_joined gap (o at) (o (at + 1)) (o (at + 2)) (o (at + 3))
-    ∙ ap (λ xs. gap ++ bits_of LsbFirst xs) (sym (take_four c.args.octets.now at c.requires.within)))
-    (c.settled-2.ensures.gathers _ four)
+pub with_others-requires-clause-stuffed : goal.with_others-requires-clause-stuffed
+with_others-requires-clause-stuffed c =
+    c.stuffed_alone-power.ensures (bits_of LsbFirst (take 4 (drop c.args.at c.args.octets.now)))
+    (four_size c.args.octets.now c.args.at c.requires.within) c.fives-fives.ensures.is (omega arith)

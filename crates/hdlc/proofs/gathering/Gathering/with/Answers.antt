@@ -3,7 +3,7 @@ use Rattle.raster.specs.Octets.{number}
 use Rattle.raster.specs.Packed.{bits_of}
 use Rattle.raster.specs.declared.packed.Order.TheVariants.{LsbFirst}
 use Rattle.hdlc.specs.EightBits.{unstuffed_from}
-use Rattle.hdlc.proofs.GatheringLemmas.{left_few, moved_wide, with_octet}
+use Rattle.hdlc.proofs.GatheringLemmas.{left_few, moved_wide, with_bits}
 use Rattle.hdlc.proofs.PendingLemmas.{joined_fits}
 use Rattle.hdlc.proofs.UnstuffedLemmas.{number_fits}
 use Rattle.hdlc.proofs.gathering.Gathering.with.Goals as goal
@@ -39,7 +39,7 @@ returns-clause-gathers c buffer gap old =
     let eight : List Bool = bits_of LsbFirst (c.args.octet ∷ []) in
     let more : List Bool = unstuffed_from n eight in
     let small : number more < 2 ^ length more = number_fits more (length more) (omega arith) in
-    with_octet buffer c.args.self _ gap eight old c.requires.sound.fits (omega arith) (left_few n c.args.octet)
+    with_bits buffer c.args.self _ gap eight old c.requires.sound.fits (omega arith)
     (ap (λ v. (b + v * 2 ^ p % 18446744073709551616) % 18446744073709551616) (c.from.ensures ∙ c.unstuffed-left.ensures.number)
     ∙ moved_wide p (length more) b (number more) c.requires.few (left_few n c.args.octet) c.requires.sound.fits small)
     (ap (λ k. p + k) c.unstuffed-left.ensures.count) refl c.unstuffed-left.ensures.row
