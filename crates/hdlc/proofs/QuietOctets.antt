@@ -191,24 +191,29 @@ abbrev pub no_flag_below : ℕ → ℕ → Bool
 no_flag_below zero both = true
 no_flag_below (suc n) both = not (nat_eq (both / 2 % 256) 126) && no_flag_below n (both / 2)
 
-pub shifted_test : (bits : List Bool) (w : ℕ) → w < 256 → no_flag_below (length bits) (w + 256 * number bits) ≡ ends_no_flag w bits
-shifted_test [] w h = refl
-shifted_test (b ∷ bits) w h = go b (shifted_test bits)
+pub shifted_front : (bits more : List Bool) (w : ℕ) → w < 256
+    → no_flag_below (length bits) (w + 256 * number (bits ++ more)) ≡ ends_no_flag w bits
+shifted_front [] more w h = refl
+shifted_front (b ∷ bits) more w h = go b (shifted_front bits more)
   where
-    go : (b : Bool) → ((w : ℕ) → w < 256 → no_flag_below (length bits) (w + 256 * number bits) ≡ ends_no_flag w bits)
-        → no_flag_below (suc (length bits)) (w + 256 * (cond b 1 0 + 2 * number bits)) ≡ ends_no_flag w (b ∷ bits)
+    go : (b : Bool) → ((w : ℕ) → w < 256 → no_flag_below (length bits) (w + 256 * number (bits ++ more)) ≡ ends_no_flag w bits)
+        → no_flag_below (suc (length bits)) (w + 256 * (cond b 1 0 + 2 * number (bits ++ more))) ≡ ends_no_flag w (b ∷ bits)
     go true rest =
-        let next : (w + 256 * (1 + 2 * number bits)) / 2 ≡ (w / 2 + 128) + 256 * number bits = omega arith in
-        let low : ((w / 2 + 128) + 256 * number bits) % 256 ≡ w / 2 + 128 = omega arith in
+        let next : (w + 256 * (1 + 2 * number (bits ++ more))) / 2 ≡ (w / 2 + 128) + 256 * number (bits ++ more) = omega arith in
+        let low : ((w / 2 + 128) + 256 * number (bits ++ more)) % 256 ≡ w / 2 + 128 = omega arith in
         ap (λ n. not (nat_eq (n % 256) 126) && no_flag_below (length bits) n) next ∙
-        (ap (λ n. not (nat_eq n 126) && no_flag_below (length bits) ((w / 2 + 128) + 256 * number bits)) low ∙
+        (ap (λ n. not (nat_eq n 126) && no_flag_below (length bits) ((w / 2 + 128) + 256 * number (bits ++ more))) low ∙
         ap (λ t. not (nat_eq (w / 2 + 128) 126) && t) (rest (w / 2 + 128) (omega arith)))
     go false rest =
-        let next : (w + 256 * (0 + 2 * number bits)) / 2 ≡ (w / 2 + 0) + 256 * number bits = omega arith in
-        let low : ((w / 2 + 0) + 256 * number bits) % 256 ≡ w / 2 + 0 = omega arith in
+        let next : (w + 256 * (0 + 2 * number (bits ++ more))) / 2 ≡ (w / 2 + 0) + 256 * number (bits ++ more) = omega arith in
+        let low : ((w / 2 + 0) + 256 * number (bits ++ more)) % 256 ≡ w / 2 + 0 = omega arith in
         ap (λ n. not (nat_eq (n % 256) 126) && no_flag_below (length bits) n) next ∙
-        (ap (λ n. not (nat_eq n 126) && no_flag_below (length bits) ((w / 2 + 0) + 256 * number bits)) low ∙
+        (ap (λ n. not (nat_eq n 126) && no_flag_below (length bits) ((w / 2 + 0) + 256 * number (bits ++ more))) low ∙
         ap (λ t. not (nat_eq (w / 2 + 0) 126) && t) (rest (w / 2 + 0) (omega arith)))
+
+pub shifted_test : (bits : List Bool) (w : ℕ) → w < 256 → no_flag_below (length bits) (w + 256 * number bits) ≡ ends_no_flag w bits
+shifted_test bits w h =
+    ap (λ xs. no_flag_below (length bits) (w + 256 * number xs)) (sym (append-nil bits)) ∙ shifted_front bits [] w h
 
 -- the eight comparisons of a number of sixteen bits
 abbrev pub differs : ℕ → Bool
@@ -244,7 +249,7 @@ six_at x k a b c d e f =
     let four : bit_at (bit_and pairs (pairs / 4)) k ≡ 1 = bit_at_and pairs (pairs / 4) k ∙ (rw (p0, p2) refl) in
     bit_at_and (bit_and pairs (pairs / 4)) (pairs / 16) k ∙ (rw (four, p4) refl)
 
-pub none_1 : (x : ℕ) → sixes x / 4 % 256 ≡ 0 → differs (x / 2) ≡ true
+pub none_1 : (x : ℕ) → sixes x / 4 % 2 ≡ 0 → differs (x / 2) ≡ true
 none_1 x h = elim (cases_eq (x / 2 % 256) 126) [
   | inl e ↦
       let six : sixes x / 4 % 2 ≡ 1 =
@@ -318,7 +323,7 @@ none_8 x h = elim (cases_eq (x / 256 % 256) 126) [
 
 pub no_six : (x : ℕ) → sixes x / 4 % 256 ≡ 0 → no_flag_in x ≡ true
 no_six x h =
-    rw (none_1 x h, none_2 x h, none_3 x h, none_4 x h, none_5 x h, none_6 x h, none_7 x h, none_8 x h) refl
+    rw (none_1 x (omega arith), none_2 x h, none_3 x h, none_4 x h, none_5 x h, none_6 x h, none_7 x h, none_8 x h) refl
 
 -- the same in the order of the code
 pub no_flag_left : (x : ℕ) → (((((((differs (x / 2) && differs (x / 4)) && differs (x / 8)) && differs (x / 16)) && differs (x / 32))

@@ -5,8 +5,10 @@ use Rattle.std.proofs.Common.{bit_and, append_assoc, Option, Some, None, get_or}
 use Rattle.std.proofs.Common.{subst}
 use Rattle.std.proofs.Math.Seq.{drop-cons, take-add}
 use Rattle.std.specs.Prelude.{is_some}
-use Rattle.std.proofs.lemmas.List.{take_more, take_all, take-append-drop}
+use Rattle.std.proofs.lemmas.List.{length-take, take_more, take_all, take-append-drop}
+use Rattle.std.specs.Int.{bit_at}
 use Rattle.std.proofs.lemmas.Nat.{and_shr, shr-shr}
+use Rattle.std.proofs.lemmas.Nat.Bits.{bit_at-suc}
 use Rattle.std.proofs.lemmas.Bool.{and_parts}
 use Rattle.hdlc.specs.declared.flag_finder.FlagFinder.{FlagFinder}
 use Rattle.raster.specs.Octets.{number, AreOctets}
@@ -14,7 +16,7 @@ use Rattle.raster.specs.Packed.{bits_of}
 use Rattle.raster.specs.declared.packed.Order.TheVariants.{LsbFirst}
 use Rattle.raster.proofs.OctetBits.{octet_bits, bits_of-cons}
 use Rattle.raster.proofs.OctetLemmas.{bits_of-append, octet_bits-number, number-octet_bits}
-use Rattle.raster.proofs.PackedLemmas.{bits_in-none}
+use Rattle.raster.proofs.PackedLemmas.{bits_in-none, length-bits_in}
 use Rattle.hdlc.specs.OpenGap.{begun, held, recent, unclosed, unclosed_after, last_flag, held_after}
 use Rattle.hdlc.specs.Collects.{Collects}
 use Rattle.hdlc.specs.DeframerParts.{Cuts}
@@ -23,7 +25,7 @@ use Rattle.hdlc.proofs.BitPlaces.{bits_of-one, octets-none}
 use Rattle.hdlc.proofs.Flags.{length-recent}
 use Rattle.hdlc.proofs.UnstuffedLemmas.{number-append, number_fits}
 use Rattle.hdlc.proofs.AssemblingOctets.{recent_after}
-use Rattle.hdlc.proofs.QuietOctets.{sixes, none_1, no_flag_below, shifted_test, and_assoc, Unflagged, unflagged, next_held, next_full}
+use Rattle.hdlc.proofs.QuietOctets.{sixes, none_1, no_flag_below, shifted_front, and_assoc, Unflagged, unflagged, next_held, next_full}
 use Rattle.hdlc.proofs.QuietOctets.{next_empty, begun_if_full}
 
 -- ---- no six 1 bits in a row in a number of any size
@@ -37,12 +39,13 @@ sixes_half x =
     rw (half, four, sixteen) (ap (λ n. bit_and n (pairs / 16 / 2)) (sym (and_shr pairs (pairs / 4) 1))
     ∙ sym (and_shr (bit_and pairs (pairs / 4)) (pairs / 16) 1))
 
-calm : (n x : ℕ) → sixes x ≡ 0 → no_flag_below n x ≡ true
-calm zero x h = refl
-calm (suc n) x h =
-    let one : not (nat_eq (x / 2 % 256) 126) ≡ true = none_1 x (ap (λ s. s / 4 % 256) h) in
-    let half : sixes (x / 2) ≡ 0 = sixes_half x ∙ ap (λ s. s / 2) h in
-    ap (λ t. t && no_flag_below n (x / 2)) one ∙ calm n (x / 2) half
+calm : (n x : ℕ) → ((i : ℕ) → i < n → bit_at (sixes x) (i + 2) ≡ 0) → no_flag_below n x ≡ true
+calm zero x none = refl
+calm (suc n) x none =
+    let one : not (nat_eq (x / 2 % 256) 126) ≡ true = none_1 x (none 0 (omega arith)) in
+    ap (λ t. t && no_flag_below n (x / 2)) one ∙ calm n (x / 2) (λ i less.
+    let next : suc (i + 2) ≡ i + 1 + 2 = omega arith in
+    ap (λ s. bit_at s (i + 2)) (sixes_half x) ∙ (sym (bit_at-suc (sixes x) (i + 2)) ∙ (ap (bit_at (sixes x)) next ∙ none (i + 1) (omega arith))))
 
 -- ---- octets one after the other
 
@@ -98,24 +101,35 @@ number_octets o os fits =
     ap number (bits_of-cons o os) ∙ (number-append (octet_bits o) (bits_of LsbFirst os) 8 refl
     ∙ (ap (λ n. n + number (bits_of LsbFirst os) * 256) (number-octet_bits o fits) ∙ ap (λ n. o + n) swap))
 
-pub eight_calm : (a b c d e f g h n : ℕ) → a < 256 → b < 256 → c < 256 → d < 256 → e < 256 → f < 256 → g < 256 → h < 256
-    → n ≡ a + 256 * (b + 256 * (c + 256 * (d + 256 * (e + 256 * (f + 256 * (g + 256 * h)))))) → sixes n ≡ 0
-    → end_no_flag a (b ∷ c ∷ d ∷ e ∷ f ∷ g ∷ h ∷ []) ≡ true
-eight_calm a b c d e f g h n la lb lc ld le lf lg lh is six =
-    let octets : List ℕ = b ∷ c ∷ d ∷ e ∷ f ∷ g ∷ h ∷ [] in
-    let bits : List Bool = bits_of LsbFirst octets in
-    let n0 : number (bits_of LsbFirst []) ≡ 0 = ap number (bits_in-none LsbFirst []) in
-    let n1 : number (bits_of LsbFirst (h ∷ [])) ≡ h = number_octets h [] lh ∙ omega arith in
-    let n2 : number (bits_of LsbFirst (g ∷ h ∷ [])) ≡ g + 256 * h = number_octets g (h ∷ []) lg ∙ ap (λ m. g + 256 * m) n1 in
-    let n3 = number_octets f (g ∷ h ∷ []) lf ∙ ap (λ m. f + 256 * m) n2 in
-    let n4 = number_octets e (f ∷ g ∷ h ∷ []) le ∙ ap (λ m. e + 256 * m) n3 in
-    let n5 = number_octets d (e ∷ f ∷ g ∷ h ∷ []) ld ∙ ap (λ m. d + 256 * m) n4 in
-    let n6 = number_octets c (d ∷ e ∷ f ∷ g ∷ h ∷ []) lc ∙ ap (λ m. c + 256 * m) n5 in
-    let n7 : number bits ≡ b + 256 * (c + 256 * (d + 256 * (e + 256 * (f + 256 * (g + 256 * h))))) =
-    number_octets b (c ∷ d ∷ e ∷ f ∷ g ∷ h ∷ []) lb ∙ ap (λ m. b + 256 * m) n6 in
-    let same : n ≡ a + 256 * number bits = is ∙ ap (λ m. a + 256 * m) (sym n7) in
-    sym (end_split octets a la (lb, (lc, (ld, (le, (lf, (lg, (lh, tt)))))))) ∙ (sym (shifted_test bits a la)
-    ∙ (ap (no_flag_below (length bits)) (sym same) ∙ calm (length bits) n six))
+pub number_seven : (a b c d e f g : ℕ) → a < 256 → b < 256 → c < 256 → d < 256 → e < 256 → f < 256 → g < 256
+    → number (bits_of LsbFirst (a ∷ b ∷ c ∷ d ∷ e ∷ f ∷ g ∷ [])) ≡ a + 256 * (b + 256 * (c + 256 * (d + 256 * (e + 256 * (f + 256 * g)))))
+number_seven a b c d e f g la lb lc ld le lf lg =
+    let n1 : number (bits_of LsbFirst (g ∷ [])) ≡ g = number_octets g [] lg ∙ (ap (λ bs. g + 256 * number bs) (bits_in-none LsbFirst []) ∙ omega arith) in
+    let n2 = number_octets f (g ∷ []) lf ∙ ap (λ m. f + 256 * m) n1 in
+    let n3 = number_octets e (f ∷ g ∷ []) le ∙ ap (λ m. e + 256 * m) n2 in
+    let n4 = number_octets d (e ∷ f ∷ g ∷ []) ld ∙ ap (λ m. d + 256 * m) n3 in
+    let n5 = number_octets c (d ∷ e ∷ f ∷ g ∷ []) lc ∙ ap (λ m. c + 256 * m) n4 in
+    let n6 = number_octets b (c ∷ d ∷ e ∷ f ∷ g ∷ []) lb ∙ ap (λ m. b + 256 * m) n5 in
+    number_octets a (b ∷ c ∷ d ∷ e ∷ f ∷ g ∷ []) la ∙ ap (λ m. a + 256 * m) n6
+
+fit_front : (xs ys : List ℕ) → AreOctets (xs ++ ys) → AreOctets xs
+fit_front [] ys fit = tt
+fit_front (x ∷ xs) ys fit = (fit.0, fit_front xs ys fit.1)
+
+-- octets before six 1 bits in a row have ended
+pub calm_front : (a n k : ℕ) (os : List ℕ) → a < 256 → AreOctets os → n ≡ a + 256 * number (bits_of LsbFirst os)
+    → ((i : ℕ) → i < 8 * k → bit_at (sixes n) (i + 2) ≡ 0) → end_no_flag a (take k os) ≡ true
+calm_front a n k os small fit is none =
+    let xs : List ℕ = take k os in
+    let bits : List Bool = bits_of LsbFirst xs in
+    let more : List Bool = bits_of LsbFirst (drop k os) in
+    let split : bits_of LsbFirst os ≡ bits ++ more = ap (bits_of LsbFirst) (sym (take-append-drop k os)) ∙ bits_of-append LsbFirst xs (drop k os) in
+    let count : length xs ≤ k = omega (arith, length-take k os) in
+    let size : length bits ≡ 8 * length xs = length-bits_in LsbFirst xs (8 * length xs) in
+    let fine : AreOctets xs = fit_front xs (drop k os) (subst AreOctets (sym (take-append-drop k os)) fit) in
+    let same : n ≡ a + 256 * number (bits ++ more) = is ∙ ap (λ bs. a + 256 * number bs) split in
+    sym (end_split xs a small fine) ∙ (sym (shifted_front bits more a small) ∙ (ap (no_flag_below (length bits)) (sym same)
+    ∙ calm (length bits) n (λ i less. none i (omega arith))))
 
 pub take_next : (os : List ℕ) (at next n : ℕ) → at < length os → next ≡ at + 1 → take (suc n) (drop at os) ≡ get_or os at 0 ∷ take n
     (drop next os)
@@ -162,6 +176,16 @@ last_of_take xs n w least most =
     let back : n - 1 + 1 ≡ n = omega arith in
     sym (ap (λ k. last_octet w (take k xs)) (sym back)
     ∙ (ap (last_octet w) (take_more xs (n - 1) 0 (omega arith)) ∙ last-push (take (n - 1) xs) w (get_or xs (n - 1) 0)))
+
+-- octets more
+pub quiet_more : (xs : List ℕ) (n k w : ℕ) → 0 < n → n ≤ length xs → end_no_flag w (take n xs) ≡ true
+    → end_no_flag (get_or xs (n - 1) 0) (take k (drop (n - 1 + 1) xs)) ≡ true → end_no_flag w (take (n + k) xs) ≡ true
+quiet_more xs n k w least most quiet more =
+    let back : n - 1 + 1 ≡ n = omega arith in
+    ap (end_no_flag w) (take-add n k xs) ∙ (end-append (take n xs) (take k (drop n xs)) w
+    ∙ (ap (λ t. t && end_no_flag (last_octet w (take n xs)) (take k (drop n xs))) quiet
+    ∙ (ap (λ o. end_no_flag o (take k (drop n xs))) (sym (last_of_take xs n w least most))
+    ∙ (ap (λ m. end_no_flag (get_or xs (n - 1) 0) (take k (drop m xs))) (sym back) ∙ more))))
 
 -- octets at the end, some of them a second time
 pub end_overlap : (xs : List ℕ) (m k w : ℕ) → 0 < m → m + k ≤ length xs → end_no_flag w (take (m + k) xs) ≡ true
@@ -266,10 +290,6 @@ no_flag_comes finder bits octets come = end_split octets finder.window (window_s
 all_unflagged : (finder : FlagFinder) (bits : List Bool) (octets : List ℕ) → Comes finder bits octets → Unflagged bits (bits_of LsbFirst octets)
 all_unflagged finder bits octets come =
     unflagged bits (bits_of LsbFirst octets) (rw (← come.cuts.window) (no_flag_comes finder bits octets come))
-
-fit_front : (xs ys : List ℕ) → AreOctets (xs ++ ys) → AreOctets xs
-fit_front [] ys fit = tt
-fit_front (x ∷ xs) ys fit = (fit.0, fit_front xs ys fit.1)
 
 fit_last : (xs : List ℕ) (o : ℕ) → AreOctets (xs ++ o ∷ []) → o < 256
 fit_last [] o fit = fit.0

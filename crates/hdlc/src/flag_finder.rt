@@ -73,11 +73,12 @@ fn ends_no_flag(window: u8, octet: u8) -> bool
         & (both / 256 % 256 != 0x7E)
 }
 
-/// Whether eight octets from a place on have no six 1 bits in a row, so that no flag ends in the seven after the
-/// first.
-fn are_calm(octets: &[u8], at: usize) -> bool
+/// How many octets after the first of eight from a place on, up to seven, come before six 1 bits in a row have
+/// ended, so that no flag ends in them.
+fn calm_octets(octets: &[u8], at: usize) -> usize
     requires { at + 8 ≤ length octets.now }
-    ensures { result ≡ true → end_no_flag (slice_index octets.now at) (take 7 (drop (at + 1) octets.now)) ≡ true }
+    ensures most { result ≤ 7 }
+    ensures quiet { end_no_flag (slice_index octets.now at) (take result (drop (at + 1) octets.now)) ≡ true }
 {
     let all = u64::from_le_bytes([
         octets[at],
@@ -91,38 +92,40 @@ fn are_calm(octets: &[u8], at: usize) -> bool
     ]);
     let pairs = all & (all / 2);
     let fours = pairs & (pairs / 4);
-    fours & (pairs / 16) == 0
+    let sixes = fours & (pairs / 16);
+    if sixes == 0 {
+        return 7;
+    }
+    (sixes.trailing_zeros().saturating_sub(2) / 8) as usize // the bit after the six is in the next octet
 }
 
-/// The number of octets from the front, the first with some sevens after it or all, in which no flag ends, after
-/// any last eight bits after which none ends in the first.
-fn quiet_sevens(octets: &[u8]) -> usize
-    requires { 0 < length octets.now }
+/// The number of octets from the front, the first with some after it, in which no flag ends, after any last eight
+/// bits after which none ends in the first.
+fn quiet_after(octets: &[u8]) -> usize
+    requires { 8 ≤ length octets.now }
     ensures within { result ≤ length octets.now }
     ensures quiet { (last : ℕ) → ends_no_flag last (bits_of LsbFirst (slice_index octets.now 0 ∷ [])) ≡ true
         → end_no_flag last (take result octets.now) ≡ true }
 {
     let mut count = 1;
     while octets.len() - count >= 7 {
-        if !are_calm(octets, count - 1) {
+        let calm = calm_octets(octets, count - 1);
+        count += calm;
+        if calm != 7 {
             return count;
         }
-        count += 7;
-    }
-    if octets.len() < 8 {
-        return count;
     }
     if count == octets.len() {
         return count;
     }
-    if are_calm(octets, octets.len() - 8) {
+    if calm_octets(octets, octets.len() - 8) == 7 {
         return octets.len(); // the last seven, some of them a second time
     }
     count
 }
 
-/// The number of octets from a place on, one with some sevens after it, all or none, in which no flag ends, after
-/// these last eight bits.
+/// The number of octets from a place on, one with some after it or none, in which no flag ends, after these last
+/// eight bits.
 fn quiet_step(last: u8, octets: &[u8], at: usize) -> usize
     requires { at < length octets.now }
     ensures within { at + result ≤ length octets.now }
@@ -131,7 +134,10 @@ fn quiet_step(last: u8, octets: &[u8], at: usize) -> usize
     if !ends_no_flag(last, octets[at]) {
         return 0;
     }
-    quiet_sevens(&octets[at..])
+    if octets.len() - at < 8 {
+        return 1;
+    }
+    quiet_after(&octets[at..])
 }
 
 /// The number of octets from the front in which no flag ends, after these last eight bits.

@@ -2,7 +2,7 @@ use Rattle.std.proofs.Common.{◌≡◌, ◌≤◌, ◌<◌, ◌-◌, ◌∷◌,
 use Rattle.raster.specs.Packed.{bits_of}
 use Rattle.raster.specs.declared.packed.Order.TheVariants.{LsbFirst}
 use Rattle.hdlc.specs.EightBits.{ends_no_flag, end_no_flag}
-use Rattle.hdlc.proofs.flag_finder.quiet_sevens.Given as goal
+use Rattle.hdlc.proofs.flag_finder.quiet_after.Given as goal
 
 abbrev pub invariant-loop-count : goal.invariant-loop-count
 invariant-loop-count l = record {
