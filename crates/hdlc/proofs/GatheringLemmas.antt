@@ -227,9 +227,6 @@ take_four os at h =
     (take_next os (at + 2) (at + 3) 1 (omega arith) (omega arith) ∙ ap (λ r. g (at + 2) ∷ r)
     (take_next os (at + 3) (at + 4) 0 (omega arith) (omega arith))))
 
-pub four_size : (os : List ℕ) (at : ℕ) → at + 4 ≤ length os → length (bits_of LsbFirst (take 4 (drop at os))) ≡ 32
-four_size os at h = rw (take_four os at h) (length-bits_in LsbFirst _ 32)
-
 pub four_joined : (gap : List Bool) (a b c d : ℕ)
     → (((gap ++ bits_of LsbFirst (a ∷ [])) ++ bits_of LsbFirst (b ∷ [])) ++ bits_of LsbFirst (c ∷ [])) ++ bits_of LsbFirst (d ∷ [])
     ≡ gap ++ bits_of LsbFirst (a ∷ b ∷ c ∷ d ∷ [])

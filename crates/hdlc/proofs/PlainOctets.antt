@@ -13,7 +13,7 @@ use Rattle.raster.proofs.OctetBits.{octet_bits, bits_of-cons}
 use Rattle.raster.proofs.OctetLemmas.{number-octet_bits}
 use Rattle.hdlc.specs.declared.gathering.Gathering.{Gathering}
 use Rattle.hdlc.specs.declared.octet_buffer.OctetBuffer.{OctetBuffer}
-use Rattle.hdlc.specs.EightBits.{run_after, unstuffed_from, six_from, ones_at_end, plain, fives}
+use Rattle.hdlc.specs.EightBits.{run_after, unstuffed_from, six_from, ones_at_end, plain, fives, four}
 use Rattle.hdlc.specs.Gathers.{Gathers}
 use Rattle.hdlc.proofs.BitPlaces.{bits_of-one}
 use Rattle.hdlc.proofs.GatheringLemmas.{with_bits, four_joined}
@@ -166,6 +166,20 @@ number_four a b c d la lb lc ld =
     number_octets a (b ∷ c ∷ d ∷ []) la ∙ ap (λ m. a + 256 * m)
     (number_octets b (c ∷ d ∷ []) lb ∙ ap (λ m. b + 256 * m)
     (number_octets c (d ∷ []) lc ∙ ap (λ m. c + 256 * m) (ap number (bits_of-one d) ∙ number-octet_bits d ld)))
+
+pub number_word : (word : ℕ) → word < 4294967296 → number (bits_of LsbFirst (four word)) ≡ word
+number_word word small =
+    number_four (word % 256) (word / 256 % 256) (word / 65536 % 256) (word / 16777216) (omega arith) (omega arith) (omega arith) (omega arith)
+    ∙ omega arith
+
+pub four_of : (a b c d word : ℕ) → a < 256 → b < 256 → c < 256 → d < 256 → word ≡ a + 256 * (b + 256 * (c + 256 * d))
+    → four word ≡ a ∷ b ∷ c ∷ d ∷ []
+four_of a b c d word la lb lc ld value =
+    let e1 : word % 256 ≡ a = omega arith in
+    let e2 : word / 256 % 256 ≡ b = omega arith in
+    let e3 : word / 65536 % 256 ≡ c = omega arith in
+    let e4 : word / 16777216 ≡ d = omega arith in
+    rw (e1, e2, e3, e4) refl
 
 -- the 1 bits before, and 32 bits: nothing is lost
 pub all_fits : (n word : ℕ) → n ≤ 6 → word < 4294967296

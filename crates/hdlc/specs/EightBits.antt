@@ -38,6 +38,10 @@ abbrev pub plain : ℕ → List Bool → Bool
 plain ones [] = nat_lt ones 5
 plain ones (b ∷ bits) = nat_lt ones 5 && plain (cond b (1 + ones) 0) bits
 
+-- the four octets of a number of 32 bits, the lowest first
+abbrev pub four : ℕ → List ℕ
+four word = word % 256 ∷ word / 256 % 256 ∷ word / 65536 % 256 ∷ word / 16777216 ∷ []
+
 -- of a number's bits, the places where five 1 bits in a row begin
 abbrev pub fives : ℕ → ℕ
 fives x = bit_and (bit_and (bit_and x (x / 2)) (bit_and x (x / 2) / 4)) (x / 16)

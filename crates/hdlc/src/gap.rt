@@ -125,14 +125,33 @@ impl Gap {
         }
     }
 
+    /// Takes the bits of an octet and of the octets after it, the least significant of each first, octet by octet.
+    fn push_each(&mut self, first: u8, octets: &[u8])
+        ensures { (gap : List Bool) → Collects self.old gap → Collects self.new (gap ++ bits_of LsbFirst (first ∷ octets.now)) }
+    {
+        self.push_octet(first);
+        for octet in octets {
+            self.push_octet(*octet);
+        }
+    }
+
     /// Takes the bits of an octet and of the octets after it, the least significant of each first.
     pub fn push_run(&mut self, first: u8, octets: &[u8])
         ensures { (gap : List Bool) → Collects self.old gap → Collects self.new (gap ++ bits_of LsbFirst (first ∷ octets.now)) }
     {
-        let mut state = self.gathering().with(first);
-        let mut at = 0;
-        while octets.len() - at >= 4 {
-            state = gather_four(&mut self.unstuffed, state, octets, at);
+        if octets.len() < 3 {
+            self.push_each(first, octets);
+            return;
+        }
+        let mut state = self.gathering();
+        let mut word = u32::from_le_bytes([first, octets[0], octets[1], octets[2]]);
+        let mut at = 3;
+        loop {
+            state = gather_four(&mut self.unstuffed, state, word);
+            if octets.len() - at < 4 {
+                break;
+            }
+            word = u32::from_le_bytes([octets[at], octets[at + 1], octets[at + 2], octets[at + 3]]);
             at += 4;
         }
         let all = gather_few(state, &octets[at..]);

@@ -1,6 +1,6 @@
 //! The bits of an open gap while octets come four at a time.
 
-ghost use Rattle.hdlc.specs.EightBits.{fives, plain, IsStuffedAlone};
+ghost use Rattle.hdlc.specs.EightBits.{fives, four, plain, IsStuffedAlone};
 ghost use Rattle.raster.specs.Octets.{number};
 ghost use Rattle.hdlc.specs.Gathers.{Gathers, IsGathering};
 ghost use Rattle.hdlc.specs.Pending.{window_of, IsPending};
@@ -47,39 +47,33 @@ impl Gathering {
         }
     }
 
-    /// Where five 1 bits in a row begin in the 1 bits before four octets from a place on, and in their bits after
-    /// these.
-    fn fives(self, octets: &[u8], at: usize) -> u64
-        requires within { at + 4 ≤ length octets.now }
+    /// Where five 1 bits in a row begin in the 1 bits before 32 bits, and in these after them.
+    fn fives(self, word: u32) -> u64
         requires sound { IsGathering self }
         ensures few { result < 2 ^ 34 }
-        ensures is { result
-            ≡ fives ((number (bits_of LsbFirst (take 4 (drop at octets.now))) + 1) * 2 ^ (self.row / 256) - 1) }
+        ensures is { result ≡ fives ((number (bits_of LsbFirst (four word)) + 1) * 2 ^ (self.row / 256) - 1) }
     {
-        let word = u32::from_le_bytes([octets[at], octets[at + 1], octets[at + 2], octets[at + 3]]);
         let all = ((u64::from(word) + 1) << (self.row / 256)) - 1;
         let pairs = all & (all / 2);
         let fours = pairs & (pairs / 4);
         fours & (all / 16)
     }
 
-    /// With the bits of four octets from a place on, none of which is stuffed.
-    fn with_plain(self, octets: &[u8], at: usize) -> Gathering
-        requires within { at + 4 ≤ length octets.now }
+    /// With 32 bits more, none of which is stuffed.
+    fn with_plain(self, word: u32) -> Gathering
         requires few { self.part < 32 }
         requires sound { IsGathering self }
-        requires plain { plain (self.row / 256) (bits_of LsbFirst (take 4 (drop at octets.now))) ≡ true }
+        requires plain { plain (self.row / 256) (bits_of LsbFirst (four word)) ≡ true }
         ensures few { result.part ≡ self.part + 32 }
         ensures sound { IsGathering result }
         ensures gathers { (buffer : AnyBuffer) (gap : List Bool) → Gathers buffer self gap
-            → Gathers buffer result (gap ++ bits_of LsbFirst (take 4 (drop at octets.now))) }
+            → Gathers buffer result (gap ++ bits_of LsbFirst (four word)) }
     {
-        let word = u32::from_le_bytes([octets[at], octets[at + 1], octets[at + 2], octets[at + 3]]);
         Gathering {
             bits: self.bits.wrapping_add(u64::from(word) << self.part),
             part: self.part + 32,
             last: self.last,
-            row: unstuffed(0, octets[at + 3]).row, // they have a 0 bit: what came before them doesn't matter
+            row: unstuffed(0, (word / 16777216) as u8).row, // they have a 0 bit: what came before them doesn't matter
             aborted: self.aborted,
         }
     }
@@ -104,18 +98,16 @@ impl Gathering {
         power
     }
 
-    /// With the bits of four octets from a place on, one of which is stuffed; `power` is 2 to its place.
-    fn with_others(self, octets: &[u8], at: usize, power: u64) -> Gathering
-        requires within { at + 4 ≤ length octets.now }
+    /// With 32 bits more, one of which is stuffed; `power` is 2 to its place.
+    fn with_others(self, word: u32, power: u64) -> Gathering
         requires few { self.part < 32 }
         requires sound { IsGathering self }
-        requires stuffed { IsStuffedAlone (self.row / 256) (bits_of LsbFirst (take 4 (drop at octets.now))) power }
+        requires stuffed { IsStuffedAlone (self.row / 256) (bits_of LsbFirst (four word)) power }
         ensures few { result.part ≡ self.part + 31 }
         ensures sound { IsGathering result }
         ensures gathers { (buffer : AnyBuffer) (gap : List Bool) → Gathers buffer self gap
-            → Gathers buffer result (gap ++ bits_of LsbFirst (take 4 (drop at octets.now))) }
+            → Gathers buffer result (gap ++ bits_of LsbFirst (four word)) }
     {
-        let word = u32::from_le_bytes([octets[at], octets[at + 1], octets[at + 2], octets[at + 3]]);
         let all = u64::from(word);
         let before = all & (power - 1);
         let others = (all + before) / 2; // those before it stay, those after it come one place lower
@@ -123,7 +115,7 @@ impl Gathering {
             bits: self.bits.wrapping_add(others << self.part),
             part: self.part + 31,
             last: self.last,
-            row: unstuffed(0, octets[at + 3]).row, // a 0 is stuffed: what came before them doesn't matter
+            row: unstuffed(0, (word / 16777216) as u8).row, // a 0 is stuffed: what came before them doesn't matter
             aborted: self.aborted,
         }
     }
@@ -166,45 +158,39 @@ fn settled(buffer: &mut OctetBuffer, state: Gathering) -> Gathering
     }
 }
 
-/// Takes the bits of four octets from a place on, one octet after the other.
-fn gather_each(buffer: &mut OctetBuffer, state: Gathering, octets: &[u8], at: usize) -> Gathering
-    requires within { at + 4 ≤ length octets.now }
+/// Takes 32 bits, one octet of them after the other.
+fn gather_each(buffer: &mut OctetBuffer, state: Gathering, word: u32) -> Gathering
     requires few { state.part < 32 }
     requires sound { IsGathering state }
     ensures few { result.part < 32 }
     ensures sound { IsGathering result }
     ensures gathers { (gap : List Bool) → Gathers buffer.old state gap
-        → Gathers buffer.new result (gap ++ bits_of LsbFirst (take 4 (drop at octets.now))) }
+        → Gathers buffer.new result (gap ++ bits_of LsbFirst (four word)) }
 {
-    let two = state.with(octets[at]).with(octets[at + 1]);
-    let four = two.with(octets[at + 2]).with(octets[at + 3]);
-    settled(buffer, four)
+    let one = state.with((word % 256) as u8);
+    let two = one.with((word / 256 % 256) as u8);
+    let three = two.with((word / 65536 % 256) as u8);
+    settled(buffer, three.with((word / 16777216) as u8))
 }
 
-/// Takes the bits of four octets from a place on.
-pub fn gather_four(
-    buffer: &mut OctetBuffer,
-    state: Gathering,
-    octets: &[u8],
-    at: usize,
-) -> Gathering
-    requires within { at + 4 ≤ length octets.now }
+/// Takes 32 bits, the least significant first.
+pub fn gather_four(buffer: &mut OctetBuffer, state: Gathering, word: u32) -> Gathering
     requires few { state.part < 32 }
     requires sound { IsGathering state }
     ensures few { result.part < 32 }
     ensures sound { IsGathering result }
     ensures gathers { (gap : List Bool) → Gathers buffer.old state gap
-        → Gathers buffer.new result (gap ++ bits_of LsbFirst (take 4 (drop at octets.now))) }
+        → Gathers buffer.new result (gap ++ bits_of LsbFirst (four word)) }
 {
-    let fives = state.fives(octets, at);
+    let fives = state.fives(word);
     if fives == 0 {
-        return settled(buffer, state.with_plain(octets, at));
+        return settled(buffer, state.with_plain(word));
     }
     let power = state.stuffed_alone(fives);
     if power != 0 {
-        return settled(buffer, state.with_others(octets, at, power));
+        return settled(buffer, state.with_others(word, power));
     }
-    gather_each(buffer, state, octets, at)
+    gather_each(buffer, state, word)
 }
 
 /// With the bits of up to three octets more, the least significant of each first.
