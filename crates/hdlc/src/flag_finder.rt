@@ -14,7 +14,7 @@ ghost use Rattle.std.specs.Prelude.{ℕ, ◌≡◌, ◌+◌, ◌/◌, ◌%◌, �
 ghost use Rattle.std.specs.Prelude.{List, Bool, true, false, cond, min, nat_lt, length, slice_index, take, drop, replicate, IfOk, OnOk};
 
 use crate::counts::{Class, Counts};
-use crate::gap::{Gap, bit_at};
+use crate::gap::{Gap, bit_at, one_more};
 use crate::octet_buffer::shifted;
 use std::alloc::{AllocError, Global};
 use std::collections::VecDeque;
@@ -36,11 +36,7 @@ pub struct FlagFinder {
 fn held_after(begun: bool, held: u8) -> u8
     ensures { held ≤ 8 → result ≡ cond begun (min 8 (held + 1)) 0 }
 {
-    if begun {
-        held.saturating_add(1).min(8)
-    } else {
-        0
-    }
+    if begun { one_more(held, 8) } else { 0 }
 }
 
 /// The last eight bits after flags alone, by how many bits came after the last flag.

@@ -24,15 +24,18 @@ fn checked(octets: &[u8]) -> bool
     LittleEndian::read_u16(sent) == fcs(covered)
 }
 
+/// A count with one more, up to so many.
+pub fn one_more(count: u8, most: u8) -> u8
+    ensures { result ≡ min most (count + 1) }
+{
+    if count < most { count + 1 } else { most }
+}
+
 /// How many 1 bits in a row there are after one bit more, counted up to six.
 fn ones_after(ones: u8, bit: bool) -> u8
     ensures { ones ≤ 6 → result ≡ cond bit (min 6 (ones + 1)) 0 }
 {
-    if bit {
-        ones.saturating_add(1).min(6)
-    } else {
-        0
-    }
+    if bit { one_more(ones, 6) } else { 0 }
 }
 
 /// The bit at a place of an octet, from the least significant.
@@ -86,7 +89,7 @@ impl Gap {
         ensures { (gap : List Bool) → Collects self.old gap → Collects self.new (gap ++ bit ∷ []) }
     {
         let stuffed = self.ones >= 5; // after five 1 bits or more: only an aborted gap has more
-        self.seen = self.seen.saturating_add(1).min(8);
+        self.seen = one_more(self.seen, 8);
         self.ones = ones_after(self.ones, bit);
         self.aborted |= self.ones == 6;
         if stuffed {
