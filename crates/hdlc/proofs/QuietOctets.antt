@@ -5,7 +5,7 @@ use Rattle.std.proofs.Common.{Some, None}
 use Rattle.std.proofs.Common.{get_or}
 use Rattle.std.proofs.Math.Seq.{drop-cons}
 use Rattle.std.specs.Prelude.{is_some}
-use Rattle.std.proofs.lemmas.List.{append-nil, drop-append-le, length-append, take_at, take-append-drop, drop_all, length-take-le}
+use Rattle.std.proofs.lemmas.List.{append-nil, drop-append-le, drop-drop, length-append, length-take, take_at, take-append-drop, drop_all, length-take-le}
 use Rattle.std.specs.Int.{bit_at}
 use Rattle.std.proofs.lemmas.Nat.{and_shr}
 use Rattle.std.proofs.lemmas.Nat.Bits.{bit_at_and}
@@ -62,6 +62,14 @@ unflagged bits (b ∷ more) h =
 
 -- ---- where the last flag stays
 
+-- the bits from a place on are at the end of the last eight
+drop_recent : (fill : Bool) (bits : List Bool) (k h : ℕ) → length bits ≡ k + h → h ≤ 8 → drop k bits ≡ drop (8 - h) (recent fill bits)
+unfolding recent
+drop_recent fill bits k h size most =
+    let long : List Bool = fill ∷ fill ∷ fill ∷ fill ∷ fill ∷ fill ∷ fill ∷ fill ∷ bits in
+    let place : length bits + (8 - h) ≡ 8 + k = omega arith in
+    sym (drop-drop (8 - h) (length bits) long ∙ (ap (λ j. drop j long) place ∙ sym (drop-drop k 8 long)))
+
 module _ (bits eight : List Bool) (size : length eight ≡ 8) where
   all_size : length (bits ++ eight) ≡ length bits + 8
   all_size = length-append bits eight ∙ ap (λ n. length bits + n) size
@@ -99,6 +107,19 @@ module _ (bits eight : List Bool) (size : length eight ≡ 8) where
       let cut : length (take (length bits - 8) bits) ≤ p + 8 = rw (length-take-le (length bits - 8) bits (omega arith)) (omega arith) in
       ap (drop (p + 8)) front ∙ (drop_all (p + 8) bits few ∙ sym (drop_all (p + 8) (take (length bits - 8) bits) cut))
 
+  unclosed_few : (o : Option ℕ) → last_flag bits ≡ o → held_after bits o < 8
+      → unclosed_after (bits ++ eight) o ≡ unclosed_after bits o ++ drop (8 - held_after bits o) (recent true bits)
+  unclosed_few None e h =
+      let all : length (recent true bits) ≤ 8 = rw (length-recent true bits) (omega arith) in
+      sym (drop_all 8 (recent true bits) all)
+  unclosed_few (Some p) e h =
+      let within : p + 8 ≤ length bits = last_flag_within bits p e in
+      let cut : length (take (length bits - 8) bits) ≤ p + 8 = rw (length-take (length bits - 8) bits) (omega arith) in
+      let n : ℕ = held_after bits (Some p) in
+      let size_ : length bits ≡ p + 8 + n = omega arith in
+      ap (drop (p + 8)) front ∙ (drop_recent true bits (p + 8) n size_ (omega arith)
+      ∙ ap (λ xs. xs ++ drop (8 - n) (recent true bits)) (sym (drop_all (p + 8) (take (length bits - 8) bits) cut)))
+
   same_begun : Unflagged bits eight → begun (bits ++ eight) ≡ begun bits
   same_begun u = ap is_some u.last
 
@@ -107,6 +128,9 @@ module _ (bits eight : List Bool) (size : length eight ≡ 8) where
 
   pub next_full : Unflagged bits eight → held bits ≡ 8 → unclosed (bits ++ eight) ≡ unclosed bits ++ recent true bits
   next_full u h = ap (unclosed_after (bits ++ eight)) u.last ∙ unclosed_full (last_flag bits) refl h
+
+  pub next_few : Unflagged bits eight → held bits < 8 → unclosed (bits ++ eight) ≡ unclosed bits ++ drop (8 - held bits) (recent true bits)
+  next_few u h = ap (unclosed_after (bits ++ eight)) u.last ∙ unclosed_few (last_flag bits) refl h
 
   pub next_empty : Unflagged bits eight → held bits ≡ 0 → unclosed (bits ++ eight) ≡ unclosed bits
   next_empty u h = ap (unclosed_after (bits ++ eight)) u.last ∙ unclosed_empty (last_flag bits) refl h
@@ -138,6 +162,26 @@ cuts_full finder new bits octet small cuts quiet full new_begun new_held new_win
       held = new_held ∙ sym (next_held bits eight refl u ∙ (rw (begun_if_full bits h) refl));
       window = new_window ∙ (sym (number-octet_bits octet small) ∙ ap number (sym (recent_after true bits eight refl)));
       gap = rw (next_full bits eight refl u h, ← left) gap;
+    })
+
+-- what came after the flag does
+pub cuts_few : (finder new : FlagFinder) (bits : List Bool) (octet start : ℕ) → octet < 256 → Cuts finder bits
+    → ends_no_flag finder.window (bits_of LsbFirst (octet ∷ [])) ≡ true → finder.begun ≡ true → finder.held < 8 → start ≡ 8 - finder.held
+    → new.begun ≡ finder.begun → new.held ≡ 8 → new.window ≡ octet
+    → Collects new.gap (unclosed bits ++ drop start (bits_of LsbFirst (finder.window ∷ []))) → Cuts new (bits ++ bits_of LsbFirst (octet ∷ []))
+cuts_few finder new bits octet start small cuts quiet yes_ few at new_begun new_held new_window gap =
+    let eight : List Bool = octet_bits octet in
+    let is : bits_of LsbFirst (octet ∷ []) ≡ eight = bits_of-one octet in
+    let u : Unflagged bits eight = quiet_from finder bits eight cuts (ap (ends_no_flag finder.window) (sym is) ∙ quiet) in
+    let h : held bits < 8 = rw (← cuts.held) few in
+    let left : bits_of LsbFirst (finder.window ∷ []) ≡ recent true bits =
+    bits_of-one finder.window ∙ (ap octet_bits cuts.window ∙ octet_bits-number (recent true bits) (length-recent true bits)) in
+    let place : start ≡ 8 - held bits = at ∙ ap (λ n. 8 - n) cuts.held in
+    rw is (record {
+      begun = new_begun ∙ (cuts.begun ∙ sym (same_begun bits eight refl u));
+      held = new_held ∙ sym (next_held bits eight refl u ∙ (rw (sym cuts.begun ∙ yes_) refl));
+      window = new_window ∙ (sym (number-octet_bits octet small) ∙ ap number (sym (recent_after true bits eight refl)));
+      gap = rw (next_few bits eight refl u h, ← left, ← place) gap;
     })
 
 -- none of what was in the register does

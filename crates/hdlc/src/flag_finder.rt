@@ -388,6 +388,29 @@ impl FlagFinder {
         self.take_unless_flags(piece)
     }
 
+    /// Takes an octet if no flag ends in it, when fewer than eight bits came after the last flag, and returns
+    /// whether it did; else nothing changed.
+    fn take_behind_flag(&mut self, octet: u8) -> bool
+        ensures taken { result ≡ true → (counts : AnyCounts) (queue : List (List ℕ)) (bits : List Bool) (handed : ℕ)
+            → PartsAfter self.old counts queue bits handed
+            → PartsAfter self.new counts queue (bits ++ bits_of LsbFirst (octet ∷ [])) handed }
+        ensures left { result ≡ false → self.new ≡ self.old }
+    {
+        if !self.begun {
+            return false;
+        }
+        if self.held >= 8 {
+            return false;
+        }
+        if !ends_no_flag(self.window, octet) {
+            return false;
+        }
+        self.gap.push_from(self.window, u32::from(8 - self.held));
+        self.window = octet;
+        self.held = 8;
+        true
+    }
+
     /// Takes octets from the front that change no count and bring no content, and returns how many.
     fn take_front(&mut self, octets: &[u8]) -> usize
         ensures within { result ≤ length octets.now }
@@ -462,6 +485,7 @@ fn take_bit(
 }
 
 /// Takes the eight bits of an octet, the least significant first, bit by bit.
+#[inline(never)] // few octets end a flag
 fn take_each(
     finder: &mut FlagFinder,
     counts: &mut Counts,
@@ -500,6 +524,9 @@ pub fn take_octets(
     let count = finder.take_front(octets);
     if count != 0 {
         return Ok(count);
+    }
+    if finder.take_behind_flag(octets[0]) {
+        return Ok(1);
     }
     take_each(finder, counts, queue, alloc, octets[0])?;
     Ok(1)

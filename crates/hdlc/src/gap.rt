@@ -6,7 +6,7 @@ ghost use Rattle.raster.specs.Packed.{bits_of, bit_in};
 ghost use Rattle.raster.specs.declared.packed.Order.TheVariants.{LsbFirst};
 ghost use Rattle.hdlc.specs.Gaps.{class_of, checks, content};
 ghost use Rattle.hdlc.specs.declared.counts.Class.TheVariants.{Good};
-ghost use Rattle.std.specs.Prelude.{◌≡◌, ◌<◌, ◌≤◌, ◌+◌, ◌%◌, ◌++◌, ◌∷◌, [], List, Bool, cond, min, length};
+ghost use Rattle.std.specs.Prelude.{◌≡◌, ◌<◌, ◌≤◌, ◌+◌, ◌%◌, ◌++◌, ◌∷◌, [], List, Bool, cond, drop, min, length};
 
 use crate::check_sequence::fcs;
 use crate::counts::Class;
@@ -96,6 +96,17 @@ impl Gap {
             return;
         }
         self.unstuffed.push(bit);
+    }
+
+    /// Takes the bits of an octet from a place on.
+    pub fn push_from(&mut self, octet: u8, start: u32)
+        requires { start ≤ 8 }
+        ensures { (gap : List Bool) → Collects self.old gap
+            → Collects self.new (gap ++ drop start (bits_of LsbFirst (octet ∷ []))) }
+    {
+        for place in start..8 {
+            self.push(bit_at(octet, place));
+        }
     }
 
     /// Takes the bits of an octet more, the least significant first.
