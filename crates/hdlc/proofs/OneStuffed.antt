@@ -15,12 +15,10 @@ use Rattle.hdlc.specs.declared.octet_buffer.OctetBuffer.{OctetBuffer}
 use Rattle.raster.specs.Packed.{bits_of}
 use Rattle.raster.specs.declared.packed.Order.TheVariants.{LsbFirst}
 use Rattle.raster.proofs.OctetBits.{octet_bits}
-use Rattle.raster.proofs.OctetLemmas.{bits_of-append}
 use Rattle.raster.proofs.PackedLemmas.{length-bits_in}
-use Rattle.hdlc.proofs.BitPlaces.{bits_of-one}
 use Rattle.hdlc.proofs.UnstuffedLemmas.{number_fits}
 use Rattle.hdlc.proofs.GatheringLemmas.{with_bits}
-use Rattle.hdlc.proofs.PlainOctets.{or_false, end_alone, less_if, run_is, plain_same, plain_calm, plain_end, plain_if, fives_half, five_low, up, down}
+use Rattle.hdlc.proofs.PlainOctets.{or_false, end_of_four, less_if, run_is, plain_same, plain_calm, plain_end, plain_if, fives_half, five_low, up, down}
 
 -- ---- what the others are
 
@@ -277,10 +275,6 @@ stuffed_if bits n five power most size is least fits one e room =
 
 -- ---- they come to an open gap
 
-end-more : (xs ys : List Bool) (n : ℕ) → ones_at_end n (xs ++ ys) ≡ ones_at_end (ones_at_end n xs) ys
-end-more [] ys n = refl
-end-more (x ∷ xs) ys n = end-more xs ys (cond x (1 + n) 0)
-
 half_is : (u n m : ℕ) → 2 * u ≡ n + m → (n + m) / 2 ≡ u
 half_is u n m h = omega arith
 
@@ -303,22 +297,15 @@ pub one_four : (a : OctetBuffer) (g h : Gathering) (gap : List Bool) (o1 o2 o3 o
     → Gathers a h (gap ++ bits_of LsbFirst (o1 ∷ o2 ∷ o3 ∷ o4 ∷ []))
 one_four a g h gap o1 o2 o3 o4 power word old fits small value stuffed more part last row aborted =
     let bits : List Bool = bits_of LsbFirst (o1 ∷ o2 ∷ o3 ∷ o4 ∷ []) in
-    let front : List Bool = bits_of LsbFirst (o1 ∷ o2 ∷ o3 ∷ []) in
-    let split : bits ≡ front ++ octet_bits o4 =
-    bits_of-append LsbFirst (o1 ∷ o2 ∷ o3 ∷ []) (o4 ∷ []) ∙ ap (λ r. front ++ r) (bits_of-one o4) in
     let n : ℕ = g.row / 256 in
     let left : Left n bits stuffed.place = one_left bits n stuffed.place stuffed.alone in
     let few : min 5 n ≡ n = omega (arith, left.few) in
     let size : length bits ≡ 32 = length-bits_in LsbFirst (o1 ∷ o2 ∷ o3 ∷ o4 ∷ []) 32 in
     let count : length (unstuffed_from n bits) ≡ 31 = omega (arith, left.size) in
-    let m : ℕ = ones_at_end n front in
-    let end : ones_at_end n bits ≡ ones_at_end m (octet_bits o4) = ap (ones_at_end n) split ∙ end-more front (octet_bits o4) n in
-    let short : ones_at_end m (octet_bits o4) < 5 = omega (arith, left.end) in
-    let eight : length (octet_bits o4) ≡ 8 = refl in
-    let alone : ones_at_end m (octet_bits o4) ≡ ones_at_end 0 (octet_bits o4) = end_alone (octet_bits o4) m (omega arith) in
+    let end : ones_at_end n bits ≡ ones_at_end 0 (octet_bits o4) = end_of_four n o1 o2 o3 o4 left.end in
     with_bits a g h gap bits old fits small
     (more ∙ ap (λ v. g.bits + v * 2 ^ g.part) ((others_are bits n power word size value stuffed).0
     ∙ ap (λ k. number (unstuffed_from k bits)) (sym few)))
     (part ∙ ap (λ k. g.part + k) (sym (ap (λ k. length (unstuffed_from k bits)) few ∙ count))) last
-    (row ∙ ap (λ k. min 6 k * 256) (sym (end ∙ alone)))
+    (row ∙ ap (λ k. min 6 k * 256) (sym end))
     (aborted ∙ sym (ap (λ t. g.aborted || t) (ap (λ k. six_from k bits) few ∙ left.calm) ∙ or_false g.aborted))

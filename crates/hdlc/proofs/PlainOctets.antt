@@ -1,23 +1,23 @@
 -- Octets with no stuffed bits, four at a time.
 use Rattle.std.proofs.Common.{◌≡◌, ℕ, zero, suc, ◌+◌, ◌-◌, ◌*◌, ◌/◌, ◌%◌, ◌^◌, ◌<◌, ◌≤◌, Bool, true, false, not, ◌&&◌, ◌||◌, List, [], ◌∷◌}
-use Rattle.std.proofs.Common.{◌++◌, length, cond, min, refl, ap, sym, ◌∙◌, arith, nat_lt, bit_and, subst}
+use Rattle.std.proofs.Common.{◌++◌, length, cond, min, refl, ap, sym, ◌∙◌, arith, nat_lt, bit_and}
 use Rattle.std.proofs.Math.Pow.{pow_mono}
-use Rattle.std.proofs.lemmas.Nat.{and_shr, and_le_r, mul-le, shr-shr, pow-add}
+use Rattle.std.proofs.lemmas.Nat.{and_shr, and_le_r, mul-le, shr-shr}
 use Rattle.std.proofs.lemmas.Nat.Bits.{bit_at_and}
 use Rattle.std.proofs.lemmas.Bool.{and_parts, lt-ltb, ltb-true}
 use Rattle.std.specs.Int.{bit_at}
 use Rattle.raster.specs.Octets.{number}
 use Rattle.raster.specs.Packed.{bits_of}
 use Rattle.raster.specs.declared.packed.Order.TheVariants.{LsbFirst}
-use Rattle.raster.proofs.OctetBits.{octet_bits, bits_of-cons}
-use Rattle.raster.proofs.OctetLemmas.{number-octet_bits}
+use Rattle.raster.proofs.OctetBits.{octet_bits}
+use Rattle.raster.proofs.OctetLemmas.{bits_of-append, number-octet_bits}
+use Rattle.raster.proofs.PackedLemmas.{length-bits_in}
 use Rattle.hdlc.specs.declared.gathering.Gathering.{Gathering}
 use Rattle.hdlc.specs.declared.octet_buffer.OctetBuffer.{OctetBuffer}
 use Rattle.hdlc.specs.EightBits.{run_after, unstuffed_from, six_from, ones_at_end, plain, fives, four}
 use Rattle.hdlc.specs.Gathers.{Gathers}
 use Rattle.hdlc.proofs.BitPlaces.{bits_of-one}
-use Rattle.hdlc.proofs.GatheringLemmas.{with_bits, four_joined}
-use Rattle.hdlc.proofs.PendingLemmas.{joined_fits}
+use Rattle.hdlc.proofs.GatheringLemmas.{with_bits}
 use Rattle.hdlc.proofs.QuietRuns.{number_octets}
 
 -- ---- what plain bits are
@@ -55,15 +55,6 @@ plain_calm (b ∷ bits) n h =
     ap (λ t. (not t && b) || six_from (run_after n b) bits) (lt-ltb n 5 few)
     ∙ (ap (λ r. six_from r bits) (run_is n b few) ∙ plain_calm bits (cond b (1 + n) 0) (plain_rest n b bits h))
 
-plain_front : (xs ys : List Bool) (n : ℕ) → plain n (xs ++ ys) ≡ true → plain n xs ≡ true
-plain_front [] ys n h = lt-ltb n 5 (plain_less n ys h)
-plain_front (x ∷ xs) ys n h =
-    rw (lt-ltb n 5 (plain_less n (x ∷ (xs ++ ys)) h)) (plain_front xs ys (cond x (1 + n) 0) (plain_rest n x (xs ++ ys) h))
-
-plain_back : (xs ys : List Bool) (n : ℕ) → plain n (xs ++ ys) ≡ true → plain (ones_at_end n xs) ys ≡ true
-plain_back [] ys n h = h
-plain_back (x ∷ xs) ys n h = plain_back xs ys (cond x (1 + n) 0) (plain_rest n x (xs ++ ys) h)
-
 -- ---- bits with a 0 end with as many 1 bits in a row, whatever came before them
 
 end_most : (bits : List Bool) (n : ℕ) → ones_at_end n bits ≤ n + length bits
@@ -76,7 +67,7 @@ end_more [] m n h = h
 end_more (true ∷ bits) m n h = end_more bits (1 + m) (1 + n) (omega arith)
 end_more (false ∷ bits) m n h = omega arith
 
-pub end_alone : (bits : List Bool) (n : ℕ) → ones_at_end n bits < n + length bits → ones_at_end n bits ≡ ones_at_end 0 bits
+end_alone : (bits : List Bool) (n : ℕ) → ones_at_end n bits < n + length bits → ones_at_end n bits ≡ ones_at_end 0 bits
 end_alone [] n h = absurd (omega arith)
 end_alone (true ∷ bits) n h =
     let one : ones_at_end (1 + n) bits ≡ ones_at_end 0 bits = end_alone bits (1 + n) (omega arith) in
@@ -84,8 +75,20 @@ end_alone (true ∷ bits) n h =
     one ∙ sym (end_alone bits 1 (omega (arith, end_most bits 0)))
 end_alone (false ∷ bits) n h = refl
 
-pub plain_alone : (bits : List Bool) (n : ℕ) → 5 ≤ length bits → plain n bits ≡ true → ones_at_end n bits ≡ ones_at_end 0 bits
-plain_alone bits n h fine = end_alone bits n (omega (arith, plain_end bits n fine))
+end-more : (xs ys : List Bool) (n : ℕ) → ones_at_end n (xs ++ ys) ≡ ones_at_end (ones_at_end n xs) ys
+end-more [] ys n = refl
+end-more (x ∷ xs) ys n = end-more xs ys (cond x (1 + n) 0)
+
+pub end_of_four : (n a b c d : ℕ) → ones_at_end n (bits_of LsbFirst (a ∷ b ∷ c ∷ d ∷ [])) < 5
+    → ones_at_end n (bits_of LsbFirst (a ∷ b ∷ c ∷ d ∷ [])) ≡ ones_at_end 0 (octet_bits d)
+end_of_four n a b c d short =
+    let front : List Bool = bits_of LsbFirst (a ∷ b ∷ c ∷ []) in
+    let split : bits_of LsbFirst (a ∷ b ∷ c ∷ d ∷ []) ≡ front ++ octet_bits d =
+    bits_of-append LsbFirst (a ∷ b ∷ c ∷ []) (d ∷ []) ∙ ap (λ r. front ++ r) (bits_of-one d) in
+    let end : ones_at_end n (bits_of LsbFirst (a ∷ b ∷ c ∷ d ∷ [])) ≡ ones_at_end (ones_at_end n front) (octet_bits d) =
+    ap (ones_at_end n) split ∙ end-more front (octet_bits d) n in
+    let eight : length (octet_bits d) ≡ 8 = refl in
+    end ∙ end_alone (octet_bits d) (ones_at_end n front) (omega arith)
 
 -- ---- the test, by a number
 
@@ -206,81 +209,21 @@ pub or_false : (x : Bool) → (x || false) ≡ x
 or_false true = refl
 or_false false = refl
 
-plain_octet : (a : OctetBuffer) (g h : Gathering) (gap : List Bool) (o : ℕ) → Gathers a g gap → g.bits < 2 ^ g.part → g.last < 256
-    → o < 256 → plain (g.row / 256) (octet_bits o) ≡ true → h.bits ≡ g.bits + o * 2 ^ g.part → h.part ≡ g.part + 8 → h.last ≡ g.last
-    → h.row ≡ ones_at_end (g.row / 256) (octet_bits o) * 256 → h.aborted ≡ g.aborted → Gathers a h (gap ++ bits_of LsbFirst (o ∷ []))
-plain_octet a g h gap o old fits small fine calm bits part last row aborted =
-    let n : ℕ = g.row / 256 in
-    let eight : List Bool = octet_bits o in
-    let less : n < 5 = plain_less n eight calm in
-    let few : min 5 n ≡ n = omega arith in
-    let same : unstuffed_from (min 5 n) eight ≡ eight = ap (λ m. unstuffed_from m eight) few ∙ plain_same eight n calm in
-    let none : six_from (min 5 n) eight ≡ false = ap (λ m. six_from m eight) few ∙ plain_calm eight n calm in
-    let end : ones_at_end n eight < 5 = plain_end eight n calm in
-    let top : min 6 (ones_at_end n eight) ≡ ones_at_end n eight = omega arith in
-    rw (bits_of-one o) (with_bits a g h gap eight old fits small
-    (bits ∙ ap (λ m. g.bits + m * 2 ^ g.part) (sym (ap number same ∙ number-octet_bits o fine)))
-    (part ∙ ap (λ xs. g.part + length xs) (sym same)) last (row ∙ ap (λ m. m * 256) (sym top))
-    (aborted ∙ sym (ap (λ t. g.aborted || t) none ∙ or_false g.aborted)))
-
-four_sum : (b q o1 o2 o3 o4 : ℕ) → b + (o1 + 256 * (o2 + 256 * (o3 + 256 * o4))) * q
-    ≡ b + o1 * q + o2 * (q * 256) + o3 * (q * 256 * 256) + o4 * (q * 256 * 256 * 256)
-four_sum b q o1 o2 o3 o4 = omega arith
-
 pub plain_four : (a : OctetBuffer) (g h : Gathering) (gap : List Bool) (o1 o2 o3 o4 word : ℕ) → Gathers a g gap → g.bits < 2 ^ g.part
     → g.last < 256 → o1 < 256 → o2 < 256 → o3 < 256 → o4 < 256 → word ≡ o1 + 256 * (o2 + 256 * (o3 + 256 * o4))
     → plain (g.row / 256) (bits_of LsbFirst (o1 ∷ o2 ∷ o3 ∷ o4 ∷ [])) ≡ true → h.bits ≡ g.bits + word * 2 ^ g.part → h.part ≡ g.part + 32
     → h.last ≡ g.last → h.row ≡ min 6 (ones_at_end 0 (octet_bits o4)) * 256 → h.aborted ≡ g.aborted
     → Gathers a h (gap ++ bits_of LsbFirst (o1 ∷ o2 ∷ o3 ∷ o4 ∷ []))
-plain_four a g h gap o1 o2 o3 o4 word old fits small l1 l2 l3 l4 value calm bits part last row aborted =
-    let p : ℕ = g.part in
-    let n0 : ℕ = g.row / 256 in
-    let a1 : List Bool = octet_bits o1 in
-    let a2 : List Bool = octet_bits o2 in
-    let a3 : List Bool = octet_bits o3 in
-    let a4 : List Bool = octet_bits o4 in
-    let split : bits_of LsbFirst (o1 ∷ o2 ∷ o3 ∷ o4 ∷ []) ≡ a1 ++ (a2 ++ (a3 ++ a4)) =
-    bits_of-cons o1 (o2 ∷ o3 ∷ o4 ∷ []) ∙ ap (λ r. a1 ++ r) (bits_of-cons o2 (o3 ∷ o4 ∷ []) ∙ ap (λ r. a2 ++ r)
-    (bits_of-cons o3 (o4 ∷ []) ∙ ap (λ r. a3 ++ r) (bits_of-one o4))) in
-    let c1 : plain n0 (a1 ++ (a2 ++ (a3 ++ a4))) ≡ true = ap (plain n0) (sym split) ∙ calm in
-    let n1 : ℕ = ones_at_end n0 a1 in
-    let c2 : plain n1 (a2 ++ (a3 ++ a4)) ≡ true = plain_back a1 (a2 ++ (a3 ++ a4)) n0 c1 in
-    let n2 : ℕ = ones_at_end n1 a2 in
-    let c3 : plain n2 (a3 ++ a4) ≡ true = plain_back a2 (a3 ++ a4) n1 c2 in
-    let n3 : ℕ = ones_at_end n2 a3 in
-    let c4 : plain n3 a4 ≡ true = plain_back a3 a4 n2 c3 in
-    let g1 : Gathering = record { bits = g.bits + o1 * 2 ^ p; part = p + 8; last = g.last; row = n1 * 256; aborted = g.aborted } in
-    let f1 : g1.bits < 2 ^ g1.part = joined_fits p 8 g.bits o1 fits l1 in
-    let r1 : n1 * 256 / 256 ≡ n1 = omega arith in
-    let s1 = plain_octet a g g1 gap o1 old fits small l1 (plain_front a1 (a2 ++ (a3 ++ a4)) n0 c1) refl refl refl refl refl in
-    let g2 : Gathering = record { bits = g1.bits + o2 * 2 ^ (p + 8); part = p + 8 + 8; last = g.last; row = n2 * 256; aborted = g.aborted } in
-    let f2 : g2.bits < 2 ^ g2.part = joined_fits (p + 8) 8 g1.bits o2 f1 l2 in
-    let r2 : n2 * 256 / 256 ≡ n2 = omega arith in
-    let s2 = plain_octet a g1 g2 (gap ++ bits_of LsbFirst (o1 ∷ [])) o2 s1 f1 small l2
-    (ap (λ n. plain n a2) r1 ∙ plain_front a2 (a3 ++ a4) n1 c2) refl refl refl (ap (λ n. ones_at_end n a2 * 256) (sym r1)) refl in
-    let g3 : Gathering = record {
-      bits = g2.bits + o3 * 2 ^ (p + 8 + 8);
-      part = p + 8 + 8 + 8;
-      last = g.last;
-      row = n3 * 256;
-      aborted = g.aborted;
-    } in
-    let f3 : g3.bits < 2 ^ g3.part = joined_fits (p + 8 + 8) 8 g2.bits o3 f2 l3 in
-    let r3 : n3 * 256 / 256 ≡ n3 = omega arith in
-    let s3 = plain_octet a g2 g3 ((gap ++ bits_of LsbFirst (o1 ∷ [])) ++ bits_of LsbFirst (o2 ∷ [])) o3 s2 f2 small l3
-    (ap (λ n. plain n a3) r2 ∙ plain_front a3 a4 n2 c3) refl refl refl (ap (λ n. ones_at_end n a3 * 256) (sym r2)) refl in
-    let q1 : 2 ^ (p + 8) ≡ 2 ^ p * 256 = pow-add 2 p 8 in
-    let q2 : 2 ^ (p + 8 + 8) ≡ 2 ^ p * 256 * 256 = pow-add 2 (p + 8) 8 ∙ ap (λ m. m * 256) q1 in
-    let q3 : 2 ^ (p + 8 + 8 + 8) ≡ 2 ^ p * 256 * 256 * 256 = pow-add 2 (p + 8 + 8) 8 ∙ ap (λ m. m * 256) q2 in
-    let sum : h.bits ≡ g3.bits + o4 * 2 ^ (p + 8 + 8 + 8) =
-    bits ∙ (ap (λ w. g.bits + w * 2 ^ p) value ∙ (four_sum g.bits (2 ^ p) o1 o2 o3 o4
-    ∙ sym (ap (λ m. g.bits + o1 * 2 ^ p + o2 * m + o3 * 2 ^ (p + 8 + 8) + o4 * 2 ^ (p + 8 + 8 + 8)) q1
-    ∙ (ap (λ m. g.bits + o1 * 2 ^ p + o2 * (2 ^ p * 256) + o3 * m + o4 * 2 ^ (p + 8 + 8 + 8)) q2
-    ∙ ap (λ m. g.bits + o1 * 2 ^ p + o2 * (2 ^ p * 256) + o3 * (2 ^ p * 256 * 256) + o4 * m) q3)))) in
-    let end : ones_at_end n3 a4 < 5 = plain_end a4 n3 c4 in
-    let alone : ones_at_end n3 a4 ≡ ones_at_end 0 a4 = plain_alone a4 n3 (omega arith) c4 in
-    let top : min 6 (ones_at_end 0 a4) ≡ ones_at_end n3 a4 = omega arith in
-    let s4 = plain_octet a g3 h (((gap ++ bits_of LsbFirst (o1 ∷ [])) ++ bits_of LsbFirst (o2 ∷ [])) ++ bits_of LsbFirst (o3 ∷ [])) o4 s3 f3
-    small l4 (ap (λ n. plain n a4) r3 ∙ c4) sum (part ∙ omega arith) last
-    (row ∙ (ap (λ m. m * 256) top ∙ ap (λ n. ones_at_end n a4 * 256) (sym r3))) aborted in
-    subst (Gathers a h) (four_joined gap o1 o2 o3 o4) s4
+plain_four a g h gap o1 o2 o3 o4 word old fits small l1 l2 l3 l4 value calm more part last row aborted =
+    let bits : List Bool = bits_of LsbFirst (o1 ∷ o2 ∷ o3 ∷ o4 ∷ []) in
+    let n : ℕ = g.row / 256 in
+    let less : n < 5 = plain_less n bits calm in
+    let few : min 5 n ≡ n = omega arith in
+    let same : unstuffed_from (min 5 n) bits ≡ bits = ap (λ k. unstuffed_from k bits) few ∙ plain_same bits n calm in
+    let is : word ≡ number (unstuffed_from (min 5 n) bits) = value ∙ sym (ap number same ∙ number_four o1 o2 o3 o4 l1 l2 l3 l4) in
+    let size : 32 ≡ length (unstuffed_from (min 5 n) bits) =
+    sym (ap length same ∙ length-bits_in LsbFirst (o1 ∷ o2 ∷ o3 ∷ o4 ∷ []) 32) in
+    let end : ones_at_end n bits ≡ ones_at_end 0 (octet_bits o4) = end_of_four n o1 o2 o3 o4 (plain_end bits n calm) in
+    with_bits a g h gap bits old fits small (more ∙ ap (λ v. g.bits + v * 2 ^ g.part) is) (part ∙ ap (λ k. g.part + k) size) last
+    (row ∙ ap (λ k. min 6 k * 256) (sym end))
+    (aborted ∙ sym (ap (λ t. g.aborted || t) (ap (λ k. six_from k bits) few ∙ plain_calm bits n calm) ∙ or_false g.aborted))
