@@ -75,27 +75,27 @@ impl Deframer {
             → IsAfter self.new (bits ++ bits_of LsbFirst piece.now) handed) }
         ensures err { OnErr result (self.new ≡ self.old) }
     {
-        let mut finder = self.finder.copy();
-        let mut counts = self.counts;
+        let finder = self.finder.copy();
+        let counts = self.counts;
         let before = self.queue.len();
         let mut at = 0;
         while at < piece.len() {
             match take_octets(
-                &mut finder,
-                &mut counts,
+                &mut self.finder,
+                &mut self.counts,
                 &mut self.queue,
                 self.alloc,
                 &piece[at..],
             ) {
                 Ok(count) => at += count,
                 Err(refused) => {
+                    self.finder = finder;
+                    self.counts = counts;
                     self.queue.truncate(before);
                     return Err(refused);
                 }
             }
         }
-        self.finder = finder;
-        self.counts = counts;
         Ok(())
     }
 
@@ -106,7 +106,7 @@ impl Deframer {
             → IsAfter self.new (bits ++ bits_of LsbFirst piece.now) handed) }
         ensures err { OnErr result (self.new ≡ self.old) }
     {
-        // a piece without a flag's end needs no copy; any other is taken on a copy of some 310 octets, so that a refusal leaves no trace
+        // a piece without a flag's end needs no copy; before any other some 310 octets are copied, so that a refusal leaves no trace
         if self.take_in_place(piece) {
             return Ok(());
         }

@@ -191,7 +191,7 @@ impl FlagFinder {
         }
     }
 
-    /// A copy, so that a refusal leaves the original as it was.
+    /// A copy, so that a refusal can be undone.
     pub fn copy(&self) -> Self
         ensures { result ≡ self.now }
     {

@@ -15,25 +15,23 @@ returns-in-Err-clause-err c =
     c.truncate.ensures.items
     ∙ grows_cut c.self.inside.queue.items _ c.len-before.result
     (grows_twice _ _ _ c.loop-at.invariant.keeps c.take_octets.ensures.keeps) (omega (arith, c.self.inside.queue.ok)) in
-    state_same _ _ (ap kept_in c.loop-at.invariant.finder) c.loop-at.invariant.counts (ap contents_of kept) ∙ c.self.view_is
+    state_same _ _ (ap kept_in c.copy-finder.ensures) refl (ap contents_of kept) ∙ c.self.view_is
 
 pub loop-at-init : goal.loop-at-init
 loop-at-init c = record {
   within = omega arith;
   taken = λ bits handed old.
-      rw (octets-none bits, c.copy-finder.ensures)
+      rw (octets-none bits)
       (parts_inside c.self.inside.finder c.self.inside.counts
       (contents_of c.self.inside.queue.items) bits handed c.args.self.now c.self.view_is old);
   keeps = record { rest = []; is = sym (append-nil c.self.inside.queue.items) };
-  finder = refl;
-  counts = refl;
 }
 
 pub returns-clause-ok : goal.returns-clause-ok
 returns-clause-ok c bits handed old =
     let past : length c.args.piece.now ≤ c.loop-at.at = omega arith in
     rw (← octets-all bits c.args.piece.now c.loop-at.at past)
-    (parts_seen c.loop-at.finder c.loop-at.counts _ _ handed (c.loop-at.invariant.taken bits handed old))
+    (parts_seen c.loop-at.self-inside.finder c.loop-at.self-inside.counts _ _ handed (c.loop-at.invariant.taken bits handed old))
 
 pub loop-at-preserved : goal.loop-at-preserved
 loop-at-preserved c =
@@ -49,6 +47,4 @@ loop-at-preserved c =
           (c.in-Ok.ensures.ok (bits ++ bits_of LsbFirst (take c.loop-at.at c.args.piece.now)) handed
           (c.loop-at.invariant.taken bits handed old));
       keeps = grows_twice _ _ _ c.loop-at.invariant.keeps c.take_octets.ensures.keeps;
-      finder = c.loop-at.invariant.finder;
-      counts = c.loop-at.invariant.counts;
     }

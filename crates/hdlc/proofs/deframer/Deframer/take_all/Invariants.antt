@@ -1,4 +1,4 @@
-use Rattle.std.proofs.Common.{◌≡◌, ◌≤◌, ◌-◌, ◌++◌, ℕ, List, Bool, take, length}
+use Rattle.std.proofs.Common.{◌≤◌, ◌-◌, ◌++◌, ℕ, List, Bool, take, length}
 use Rattle.raster.specs.Packed.{bits_of}
 use Rattle.raster.specs.declared.packed.Order.TheVariants.{LsbFirst}
 use Rattle.hdlc.specs.Contents.{contents_of}
@@ -10,10 +10,8 @@ abbrev pub invariant-loop-at : goal.invariant-loop-at
 invariant-loop-at l = record {
   within : l.at ≤ length l.piece;
   taken : (bits : List Bool) (handed : ℕ) → IsAfter l.fn.self bits handed
-      → PartsAfter l.finder l.counts (contents_of l.self-inside.queue.items) (bits ++ bits_of LsbFirst (take l.at l.piece)) handed;
+      → PartsAfter l.self-inside.finder l.self-inside.counts (contents_of l.self-inside.queue.items) (bits ++ bits_of LsbFirst (take l.at l.piece)) handed;
   keeps : Grows l.initial.self-inside.queue.items l.self-inside.queue.items;
-  finder : l.self-inside.finder ≡ l.initial.self-inside.finder;
-  counts : l.self-inside.counts ≡ l.initial.self-inside.counts;
 }
 
 abbrev pub decreases-loop-at : goal.decreases-loop-at
