@@ -63,7 +63,7 @@ is_same() {
 for name in encode decode raster frames signals call answer own misuse; do builds "c/$name.c"; done
 for name in memory random readers; do builds "tests/$name.c" --wrap=malloc --wrap=realloc --wrap=free; done
 for name in pages rows terminals signals; do builds "tests/statuses_$name.c"; done
-builds tests/abi.c
+for name in abi growth; do builds "tests/$name.c"; done
 mkdir "$work/older"
 sed -n 's/^[^(]*\(g3_[a-z0-9_]*\)(.*);$/\1/p' "$top/bindings/tests/older/g3fax.h" > "$work/older/names"
 sed 's/.*/NAME(&)/' "$work/older/names" > "$work/older/names.h"
@@ -221,6 +221,15 @@ growths=$(sed -n 's/^growths //p' "$work/output")
 [ "${growths:-0}" -gt 50 ] || fails "memory refused $growths growths"
 gives 0 random "${1:-200000}"
 [ ! -s "$work/output" ] || fails "random printed: $(head -3 "$work/output")"
+
+# a row that doesn't end: what reading takes grows by its octets
+status=0
+timeout 600 "$work/growth" 2> "$work/error" || status=$?
+case $status in
+0) runs=$((runs + 1)) ;;
+77) echo "bindings: growth wasn't counted: no program may step through another here" ;;
+*) fails "growth ended with status $status: $(head -3 "$work/error")" ;;
+esac
 "$top/.ci/installed.sh" "$work"
 "$top/.ci/readme_programs.sh" "$work"
 "$top/.ci/wheel.sh" "$work"
