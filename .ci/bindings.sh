@@ -32,6 +32,16 @@ builds() {
         "$lib/libc_nonshared.a" "$lib/libm.so.6" "$lib/ld-linux-x86-64.so.2" "$lib/libgcc_s.so.1" "$lib/libgcc.a" "$lib/crtendS.o"
 }
 
+# builds_plain FILE: a C file of bindings as a program in the work folder, without the sanitizers, whose own instructions would be counted.
+builds_plain() {
+    file=$top/bindings/$1 name=$(basename "$1" .c) lib=$kit/toolchain/lib
+    "$kit/toolchain/bin/clang" -std=c11 -Wall -Wextra -Werror -O1 -g -fPIE -nostdinc -isystem "$top/bindings/include" -I "$work" \
+        -c "$file" -o "$work/$name.o"
+    "$kit/toolchain/bin/ld.lld" -pie --eh-frame-hdr -dynamic-linker /lib64/ld-linux-x86-64.so.2 -o "$work/$name" "$lib/Scrt1.o" \
+        "$lib/crti.o" "$lib/crtbeginS.o" "$work/$name.o" "$work/libg3fax.a" "$lib/libc.so.6" "$lib/libc_nonshared.a" \
+        "$lib/crtendS.o" "$lib/crtn.o"
+}
+
 # builds_older FILE: a C file of bindings as a program of version 0.1.0 in the work folder: by the header of then, and linked to a library
 # of then, of which it sees the names alone.
 builds_older() {
@@ -63,7 +73,8 @@ is_same() {
 for name in encode decode raster frames signals call answer own misuse; do builds "c/$name.c"; done
 for name in memory random readers; do builds "tests/$name.c" --wrap=malloc --wrap=realloc --wrap=free; done
 for name in pages rows terminals signals; do builds "tests/statuses_$name.c"; done
-for name in abi growth; do builds "tests/$name.c"; done
+builds tests/abi.c
+builds_plain tests/growth.c
 mkdir "$work/older"
 sed -n 's/^[^(]*\(g3_[a-z0-9_]*\)(.*);$/\1/p' "$top/bindings/tests/older/g3fax.h" > "$work/older/names"
 sed 's/.*/NAME(&)/' "$work/older/names" > "$work/older/names.h"

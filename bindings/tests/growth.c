@@ -1,6 +1,6 @@
 /* Counts the instructions for a row that doesn't end and comes in pieces of 32 octets, one by one, as a debugger does: in T.6 only 0 bits;
- * in T.4 runs of no pixels, fill, an EOL and fill, and a white row, three EOLs and fill. 512 octets more may take 2.2 times the
- * instructions of 256 more: they grow by the octets, whatever the pieces. Prints nothing and ends with 0 if they do, and with 77 if the
+ * in T.4 runs of no pixels, fill, an EOL and fill, and a white row, three EOLs and fill. 2,048 octets more may take 2.2 times the
+ * instructions of 1,024 more: they grow by the octets, whatever the pieces. Prints nothing and ends with 0 if they do, and with 77 if the
  * system lets no program step through another. */
 #include "g3fax.h"
 #include <stdio.h>
@@ -15,7 +15,7 @@ long ptrace(int request, ...);
 void _exit(int status);
 enum { TRACE_ME = 0, STEP = 9, SET_OPTIONS = 0x4200, ENDS_WITH_TRACER = 0x100000 };
 enum { KILLED = 9, TRAPPED = 5, STOPPED = 19, PIECE = 32, NOT_HERE = 77 };
-enum { FEW = 256, MORE = 2 * FEW, MANY = 4 * FEW };
+enum { FEW = 1024, MORE = 2 * FEW, MANY = 4 * FEW };
 
 static uint8_t octets[MANY];
 
