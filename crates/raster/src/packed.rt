@@ -432,6 +432,20 @@ impl<'a> LentBits<'a> {
         0
     }
 
+    /// The same bits in memory of their own. Errs where memory is refused.
+    pub(crate) fn to_own(&self, alloc: Global) -> Result<PackedBits, AllocError>
+        requires small { length self.now ≤ 2432 }
+        ensures { IfOk result (λ p. p ≡ self.now) }
+    {
+        let mut octets = Vec::with_capacity(alloc, self.octets.len())?;
+        octets.extend_from_slice(self.octets)?;
+        Ok(PackedBits {
+            octets,
+            alike: self.alike,
+            count: self.count,
+        })
+    }
+
     /// The octets that hold the bits, lent, the last one filled with 0 bits.
     pub(crate) fn octets(&self) -> &'a [u8]
         ensures { FillsOctets Order.MsbFirst self.now result.now }

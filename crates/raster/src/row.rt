@@ -323,6 +323,16 @@ impl<'a> RowRef<'a> {
         Color::of_bit(self.pixels.bit(at as u128))
     }
 
+    /// The same row in memory of its own. Errs only if memory is refused.
+    #[tactic(auto, using(crate::proofs::RowLemmas::lengths))]
+    pub fn to_row(&self, alloc: Global) -> Result<Row, AllocError>
+        ensures { IfOk result (λ row. row ≡ self.now) }
+    {
+        let _width = self.width(); // shows the proof that it is a width
+        let pixels = self.pixels.to_own(alloc)?;
+        Ok(Row { pixels })
+    }
+
     /// The row's octets, borrowed, as in Netpbm's raw PBM format: eight pixels an octet, the leftmost in the
     /// highest bit, 1 for black, and the last octet filled with 0 bits.
     pub fn octets(&self) -> &'a [u8]
