@@ -9,7 +9,7 @@ use Rattle.faults.specs.declared.fault.ToolFault.TheVariants.{No, AtBit, AtLine}
 use Rattle.faults.specs.declared.fault_kind.FaultKind.{FaultKind}
 use Rattle.faults.specs.declared.fault_kind.FaultKind.TheVariants.{BadWidth, WrongRowWidth, TooManyRows, NoRows, BadHeader, ShortData}
 use Rattle.faults.specs.declared.fault_kind.FaultKind.TheVariants.{NoPages, Io, NoMemory, BadAddress, BadControl, ShortField}
-use Rattle.faults.specs.declared.fault_kind.FaultKind.TheVariants.{WidthNotCallable, SeveralPages, FewerPages, Unidentified, Unknown}
+use Rattle.faults.specs.declared.fault_kind.FaultKind.TheVariants.{WidthNotCallable, SeveralPages, FewerPages, Unidentified, TooManyOctets, Unknown}
 use Rattle.faults.specs.declared.fault_kind.FaultKind.TheVariants.{NoCodedRows, BadCode}
 use Rattle.faults.specs.declared.fault_kind.FaultKind.TheVariants.{Truncated, RunTooLong, Backwards, PastEnd, EmptyHorizontal}
 use Rattle.faults.specs.declared.fault_kind.FaultKind.TheVariants.{Extension, MissingEofb, TooManyCodedRows, UnknownAtBit, BadLine}
@@ -47,6 +47,7 @@ kind_of_number WidthNotCallable at = inl refl
 kind_of_number SeveralPages at = inl refl
 kind_of_number FewerPages at = inl refl
 kind_of_number Unidentified at = inl refl
+kind_of_number TooManyOctets at = inl refl
 kind_of_number (Unknown number) at = tt
 kind_of_number NoCodedRows at = inr refl
 kind_of_number BadCode at = inr refl

@@ -24,7 +24,7 @@ use Rattle.faults.specs.declared.fault.ToolFault.TheVariants.{No, AtBit, AtLine}
 use Rattle.faults.specs.declared.fault_kind.FaultKind.{FaultKind}
 use Rattle.faults.specs.declared.fault_kind.FaultKind.TheVariants.{BadWidth, WrongRowWidth, TooManyRows, NoRows, BadHeader, ShortData}
 use Rattle.faults.specs.declared.fault_kind.FaultKind.TheVariants.{NoPages, Io, NoMemory, BadAddress, BadControl, ShortField}
-use Rattle.faults.specs.declared.fault_kind.FaultKind.TheVariants.{WidthNotCallable, SeveralPages, FewerPages, Unidentified, Unknown}
+use Rattle.faults.specs.declared.fault_kind.FaultKind.TheVariants.{WidthNotCallable, SeveralPages, FewerPages, Unidentified, TooManyOctets, Unknown}
 use Rattle.faults.specs.declared.fault_kind.FaultKind.TheVariants.{NoCodedRows, BadCode}
 use Rattle.faults.specs.declared.fault_kind.FaultKind.TheVariants.{Truncated, RunTooLong, Backwards, PastEnd, EmptyHorizontal}
 use Rattle.faults.specs.declared.fault_kind.FaultKind.TheVariants.{Extension, MissingEofb, TooManyCodedRows, UnknownAtBit, BadLine}
@@ -121,6 +121,7 @@ kind_line WidthNotCallable = refl
 kind_line SeveralPages = refl
 kind_line FewerPages = refl
 kind_line Unidentified = refl
+kind_line TooManyOctets = refl
 kind_line (Unknown number) = refl
 kind_line NoCodedRows = refl
 kind_line BadCode = refl

@@ -75,6 +75,7 @@ no_raw_pbm octets = codes "no raw PBM: it doesn't begin with P4"
 abbrev pub reason_words : Option ErrorKind → List ℕ
 reason_words (Some io.NotFound) = codes "no such file or folder"
 reason_words (Some io.PermissionDenied) = codes "permission denied"
+reason_words (Some io.AlreadyExists) = codes "there is a file of this name already"
 reason_words (Some io.IsADirectory) = codes "it is a folder"
 reason_words (Some io.NotADirectory) = codes "a part of its path is no folder"
 reason_words (Some io.StorageFull) = codes "no space left on the device"
@@ -86,6 +87,8 @@ reason_words (Some io.InvalidFilename) = codes "the name is too long"
 reason_words (Some io.FilesystemLoop) = codes "its links lead in a circle"
 reason_words (Some io.ExecutableFileBusy) = codes "it is a program that is running"
 reason_words (Some io.InvalidData) = codes "it isn't UTF-8"
+reason_words (Some io.InvalidInput) = codes "its file system can't do this"
+reason_words (Some io.Unsupported) = codes "its file system can't do this"
 reason_words reason = codes "it can't be read or written"
 
 -- what was expected at the bit where no code word begins: a run of a color, an EOL, or any code

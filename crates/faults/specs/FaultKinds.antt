@@ -5,7 +5,7 @@ use Rattle.faults.specs.declared.fault.ToolFault.TheVariants.{No, AtBit, AtLine}
 use Rattle.faults.specs.declared.fault_kind.FaultKind.{FaultKind}
 use Rattle.faults.specs.declared.fault_kind.FaultKind.TheVariants.{BadWidth, WrongRowWidth, TooManyRows, NoRows, BadHeader, ShortData}
 use Rattle.faults.specs.declared.fault_kind.FaultKind.TheVariants.{NoPages, Io, NoMemory, BadAddress, BadControl, ShortField}
-use Rattle.faults.specs.declared.fault_kind.FaultKind.TheVariants.{WidthNotCallable, SeveralPages, FewerPages, Unidentified, Unknown}
+use Rattle.faults.specs.declared.fault_kind.FaultKind.TheVariants.{WidthNotCallable, SeveralPages, FewerPages, Unidentified, TooManyOctets, Unknown}
 use Rattle.faults.specs.declared.fault_kind.FaultKind.TheVariants.{NoCodedRows, BadCode}
 use Rattle.faults.specs.declared.fault_kind.FaultKind.TheVariants.{Truncated, RunTooLong, Backwards, PastEnd, EmptyHorizontal}
 use Rattle.faults.specs.declared.fault_kind.FaultKind.TheVariants.{Extension, MissingEofb, TooManyCodedRows, UnknownAtBit, BadLine}
@@ -28,6 +28,7 @@ number_of WidthNotCallable = 26
 number_of SeveralPages = 27
 number_of FewerPages = 28
 number_of Unidentified = 29
+number_of TooManyOctets = 32
 number_of (Unknown number) = number
 number_of NoCodedRows = 4
 number_of BadCode = 10
@@ -60,6 +61,7 @@ words_of WidthNotCallable = codes "a page's width isn't 1728, 2048 or 2432 pixel
 words_of SeveralPages = codes "several images: code takes one"
 words_of FewerPages = codes "the file has fewer pages than --page says"
 words_of Unidentified = codes "it reads as no page in any way that is tried, and begins as no known format"
+words_of TooManyOctets = codes "it has more octets than are read of such a file"
 words_of (Unknown number) = codes "it can't be used"
 words_of NoCodedRows = codes "the page ends before its first row"
 words_of BadCode = codes "no valid code begins here"
@@ -77,7 +79,7 @@ words_of BadLine = codes "no command of a script, or no count that it takes"
 -- the kinds of the faults of a whole file, or of the system
 abbrev pub whole_kinds : List FaultKind
 whole_kinds = BadWidth ∷ WrongRowWidth ∷ TooManyRows ∷ NoRows ∷ BadHeader ∷ ShortData ∷ NoPages ∷ Io ∷ NoMemory
-    ∷ BadAddress ∷ BadControl ∷ ShortField ∷ WidthNotCallable ∷ SeveralPages ∷ FewerPages ∷ Unidentified ∷ []
+    ∷ BadAddress ∷ BadControl ∷ ShortField ∷ WidthNotCallable ∷ SeveralPages ∷ FewerPages ∷ Unidentified ∷ TooManyOctets ∷ []
 
 -- the kinds of the faults of a coded page, at a bit
 abbrev pub page_kinds : List FaultKind

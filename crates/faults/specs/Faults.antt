@@ -30,6 +30,10 @@ fault_of_code fault = fault_at fault.place fault.kind
 abbrev pub IsOutside : ToolFault → Type 0
 IsOutside fault = (fault ≡ No 8) ⊎ (fault ≡ No 9)
 
+-- why octets aren't read: reading or memory failed; or a file has more than are read of such a file, `TooManyOctets` (32)
+abbrev pub IsUnread : ToolFault → Type 0
+IsUnread fault = IsOutside fault ⊎ (fault ≡ No 32)
+
 -- the fault of a reader or writer that fails: `NoMemory` (9) if memory was refused in it, otherwise `Io` (8)
 abbrev pub fault_of_io : ErrorKind → ToolFault
 fault_of_io OutOfMemory = No 9

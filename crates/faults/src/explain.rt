@@ -148,6 +148,7 @@ fn wrong_words(kind: FaultKind, known: Known<'_>) -> &'static str
         | FaultKind::SeveralPages
         | FaultKind::FewerPages
         | FaultKind::Unidentified
+        | FaultKind::TooManyOctets
         | FaultKind::Unknown(_)
         | FaultKind::NoCodedRows
         | FaultKind::Truncated
@@ -189,6 +190,7 @@ pub fn reason_words(reason: Option<ErrorKind>) -> &'static str
         // the kind in our own words: no contract speaks of the text of the C library
         Some(ErrorKind::NotFound) => "no such file or folder",
         Some(ErrorKind::PermissionDenied) => "permission denied",
+        Some(ErrorKind::AlreadyExists) => "there is a file of this name already",
         Some(ErrorKind::IsADirectory) => "it is a folder",
         Some(ErrorKind::NotADirectory) => "a part of its path is no folder",
         Some(ErrorKind::StorageFull) => "no space left on the device",
@@ -200,6 +202,7 @@ pub fn reason_words(reason: Option<ErrorKind>) -> &'static str
         Some(ErrorKind::FilesystemLoop) => "its links lead in a circle",
         Some(ErrorKind::ExecutableFileBusy) => "it is a program that is running",
         Some(ErrorKind::InvalidData) => "it isn't UTF-8",
+        Some(ErrorKind::InvalidInput | ErrorKind::Unsupported) => "its file system can't do this",
         _ => "it can't be read or written",
     }
 }

@@ -25,6 +25,9 @@ pub enum ToolFault {
 /// `Io` (8): a reader, a writer or a file failed.
 pub const FAILED: ToolFault = ToolFault::No(8);
 
+/// `TooManyOctets` (32): a file has more octets than are read of such a file.
+pub const TOO_MANY_OCTETS: ToolFault = ToolFault::No(32);
+
 /// `NoMemory` (9): memory was refused.
 pub const NO_MEMORY: ToolFault = ToolFault::No(9);
 

@@ -40,6 +40,8 @@ pub enum FaultKind {
     FewerPages,
     /// Not a page in any of the ways tried, and no known format.
     Unidentified,
+    /// A file has more octets than are read of such a file.
+    TooManyOctets,
     /// A fault without a place whose number no other kind has.
     Unknown(u8),
     /// A coded page ends before its first row.
@@ -102,6 +104,7 @@ impl FaultKind {
             FaultKind::FewerPages => 28,
             FaultKind::Unidentified => 29,
             FaultKind::BadLine => 30,
+            FaultKind::TooManyOctets => 32,
             FaultKind::Unknown(no) | FaultKind::UnknownAtBit(no) => no,
         }
     }
@@ -127,6 +130,7 @@ impl FaultKind {
             FaultKind::FewerPages => "the file has fewer pages than --page says",
             FaultKind::Unidentified =>
                 "it reads as no page in any way that is tried, and begins as no known format",
+            FaultKind::TooManyOctets => "it has more octets than are read of such a file",
             FaultKind::BadAddress
             | FaultKind::BadControl
             | FaultKind::ShortField
@@ -169,6 +173,7 @@ impl FaultKind {
             27 => FaultKind::SeveralPages,
             28 => FaultKind::FewerPages,
             29 => FaultKind::Unidentified,
+            32 => FaultKind::TooManyOctets,
             _ => FaultKind::Unknown(no),
         }
     }

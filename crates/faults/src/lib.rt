@@ -12,7 +12,7 @@ mod record_lines;
 
 pub use crate::expected::Expected;
 pub use crate::explain::{Explained, Known, is_shown, reason_words};
-pub use crate::fault::{FAILED, NO_MEMORY, ToolFault};
+pub use crate::fault::{FAILED, NO_MEMORY, TOO_MANY_OCTETS, ToolFault};
 pub use crate::fault_kind::FaultKind;
 pub use crate::fault_records::{short_place, write_fault, write_line_fault, write_notice};
 pub use crate::line_fault::LineFault;
