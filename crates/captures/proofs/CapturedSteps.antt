@@ -1,6 +1,6 @@
 -- The steps of what is found in the signals of a line.
 use Rattle.std.proofs.Common.{◌≡◌, ◌≢◌, ◌<◌, ◌+◌, ℕ, zero, suc, Bool, true, false, cond, List, [], ◌∷◌, ◌++◌, length, map, ltb}
-use Rattle.std.proofs.Common.{refl, ap, sym, ◌∙◌, arith, append_assoc, eqb, inl, inr}
+use Rattle.std.proofs.Common.{refl, ap, sym, ◌∙◌, ◌&&◌, arith, append_assoc, eqb, inl, inr, subst}
 use Rattle.std.proofs.lemmas.Bool.{cases_eq}
 use Rattle.std.proofs.lemmas.Bool.Decides.{nat_tests}
 use Rattle.std.specs.Prelude.{Option, None, Some, Ok, Err, ◌≤◌, unwrap_or}
@@ -19,7 +19,7 @@ use Rattle.signals.specs.Agreement.{pixels_of}
 use Rattle.signals.specs.declared.params.Params.{Params}
 use Rattle.partial_page.specs.Assembling.{Frames}
 use Rattle.signals.specs.declared.mark.Mark.{Mark}
-use Rattle.captures.specs.Captured.{found_of, later_one, overlaid, page_in}
+use Rattle.captures.specs.Captured.{are_same_below, found_of, is_resend, is_same_frame, later_one, overlaid, page_in}
 use Rattle.captures.specs.Fronts.{AppendsFront}
 use Rattle.captures.specs.declared.captured.Captured.{Captured}
 use Rattle.captures.specs.declared.captured.Captured.TheVariants.{Page, Unread, MissingFrame}
@@ -188,3 +188,40 @@ there_more frames n octets below there k less =
       | inl e ↦ rw (e, there) refl
       | inr ne ↦ let fewer : k < n = omega (arith, less, ne) in below k fewer
     ]
+
+-- ---- frames that are sent again
+
+-- a frame that differs, below a count
+differs_below : (had coming : Frames) (n count : ℕ) → n < count → is_same_frame (frame_of had n) (frame_of coming n) ≡ false
+    → are_same_below had coming count ≡ false
+differs_below had coming n zero less e = absurd (omega (arith, less))
+differs_below had coming n (suc count) less e =
+    elim (cases_eq n count) [
+      | inl same ↦
+          ap (λ (b : Bool). b && are_same_below had coming count)
+          (subst (λ (k : ℕ). is_same_frame (frame_of had k) (frame_of coming k) ≡ false) same e)
+      | inr other ↦
+          let fewer : n < count = omega (arith, less, other) in
+          either (is_same_frame (frame_of had count) (frame_of coming count)) (are_same_below had coming count)
+          (differs_below had coming n count fewer e)
+    ]
+  where
+    either : (a b : Bool) → b ≡ false → (a && b) ≡ false
+    either true b none = none
+    either false b none = refl
+
+pub differs : (had coming : Frames) (n : ℕ) (same : Bool) → n < 256 → same ≡ is_same_frame (frame_of had n) (frame_of coming n)
+    → same ≡ false → false ≡ is_resend had coming
+unfolding is_resend
+differs had coming n same less is other = sym (differs_below had coming n 256 less (sym is ∙ other))
+
+pub same_to_all : (had coming : Frames) (count : ℕ) → count ≡ 256 → are_same_below had coming count ≡ true → true ≡ is_resend had coming
+unfolding is_resend
+same_to_all had coming count all same = sym (subst (λ (n : ℕ). are_same_below had coming n ≡ true) all same)
+
+pub one_same : (had coming : Frames) (n : ℕ) (same : Bool) → are_same_below had coming n ≡ true
+    → same ≡ is_same_frame (frame_of had n) (frame_of coming n) → same ≡ true → are_same_below had coming (n + 1) ≡ true
+one_same had coming n same below is e =
+    let next : suc n ≡ n + 1 = omega arith in
+    subst (λ (k : ℕ). are_same_below had coming k ≡ true) next
+    (ap (λ (b : Bool). b && are_same_below had coming n) (sym is ∙ e) ∙ below)

@@ -5,6 +5,7 @@ use Rattle.raster.specs.Pages.{PagePixels}
 use Rattle.run_tables.specs.Faults.{number_of}
 use Rattle.serde_json.specs.Data.{Data, boolean, member, no_members, null, object}
 use Rattle.signals.specs.declared.mark.Mark.{Mark}
+use Rattle.signals.specs.declared.signal.PageEnd.{PageEnd}
 use Rattle.captures.specs.Missing.{lines_word}
 use Rattle.captures.specs.PageNumbers.{page_missing}
 use Rattle.captures.specs.Texts.{page_end_text}
@@ -12,7 +13,7 @@ use Rattle.faults.specs.RecordLines.{count, words}
 use Rattle.captures.specs.declared.captured.Captured.{Captured}
 use Rattle.captures.specs.declared.numbers.PageNumbers.{PageNumbers}
 use Rattle.captures.specs.declared.captured.Captured.TheVariants.{Page, MissingPage, Unread, MissingFrame, MissingBlocks, Unfinished}
-use Rattle.captures.specs.declared.captured.Captured.TheVariants.{BlockBeforeDcs, BlockAfterEnd}
+use Rattle.captures.specs.declared.captured.Captured.TheVariants.{BlockBeforeDcs, BlockAfterEnd, MissingAfter, UsedNumber}
 
 -- The record of a page that is in a file: `file` its name, `height` in rows, `lines`, `page` its number from 1, `width` in pixels.
 abbrev pub stored_record : PageNumbers → PagePixels → Data
@@ -37,8 +38,17 @@ block_record what page mark = object (member (codes "block") (count mark.block)
     (member (codes "missing") (words what)
     (member (codes "page") (count page) no_members)))
 
--- The record of what is missing: a page, also one that can't be read (with its bit, 2^64 - 1 at most, and its fault), a frame, the blocks
--- before one, the end of a page, or a DCS (with the end, EOM or EOP, after which it must come). A page that is there has the empty record.
+-- what had to follow under a number that was used, by what the PPS before it said
+abbrev pub used_record : ℕ → Mark → PageEnd → Data
+used_record page mark said = object (member (codes "after") (words (page_end_text said))
+    (member (codes "block") (count mark.block)
+    (member (codes "missing") (words (codes "new number"))
+    (member (codes "page") (count page) no_members))))
+
+-- The record of what is missing: a page, also one that can't be read (with its bit, 2^64 - 1 at most, and its fault) and one that had to
+-- follow (with the end, MPS or EOM, of the page before it), a frame, the blocks before one, the end of a page, or a DCS (with the end, EOM or
+-- EOP, after which it must come), or a number that wasn't used (with what the PPS before it said: NULL, MPS or EOM). A page that is there has
+-- the empty record.
 abbrev pub missing_record : Captured → Data
 missing_record (Page mark page) = null
 missing_record (MissingPage number) = object (member (codes "missing") (words (codes "page"))
@@ -58,3 +68,7 @@ missing_record (BlockAfterEnd mark ends) = object (member (codes "after") (words
     (member (codes "block") (count mark.block)
     (member (codes "missing") (words (codes "DCS"))
     (member (codes "page") (count (page_missing (BlockAfterEnd mark ends))) no_members))))
+missing_record (MissingAfter page ends) = object (member (codes "after") (words (page_end_text ends))
+    (member (codes "missing") (words (codes "page"))
+    (member (codes "page") (count (page_missing (MissingAfter page ends))) no_members)))
+missing_record (UsedNumber mark said) = used_record (page_missing (UsedNumber mark said)) mark said

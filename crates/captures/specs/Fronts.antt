@@ -15,7 +15,7 @@ use Rattle.partial_page.specs.Assembling.{Frames}
 use Rattle.signals.specs.Marks.{same_mark}
 use Rattle.signals.specs.declared.mark.Mark.{Mark}
 use Rattle.signals.specs.declared.mark.Pps.{Pps}
-use Rattle.captures.specs.Captured.{Capture, at_end, empty_capture, hears_all, hears_read, is_taken}
+use Rattle.captures.specs.Captured.{Capture, agreed, at_end, empty_capture, has_used_number, hears_all, hears_read, is_again}
 use Rattle.captures.specs.Found.{FoundStep, TakesEach}
 
 -- ---- octets before a gap
@@ -46,14 +46,14 @@ IsFrontBy false s octets = AppendsFront (open_frames s.waiting s) s.octets octet
 abbrev pub IsOpenFront : Capture → List ℕ → Type 0
 IsOpenFront s octets = IsFrontBy s.spoiled s octets
 
--- a block is the one that waits for frames, or if none waits the next one of the page
+-- a block is the one that waits for frames, or if none waits the next one of the page, also under a number that was used
 abbrev pub is_its_turn : Option Pps → Mark → Capture → Bool
 is_its_turn (Some waiting) mark s = same_mark waiting.mark mark
-is_its_turn None mark s = nat_eq mark.page s.page && nat_eq mark.block s.next
+is_its_turn None mark s = nat_eq mark.page s.page && nat_eq mark.block s.next || has_used_number s.said mark s
 
--- a PPS doesn't give up the open page: its block was whole already, or goes on with the page
+-- a PPS doesn't give up the open page: it is sent again, or its block goes on with the page
 abbrev pub goes_on : Mark → Capture → Bool
-goes_on mark s = is_taken s.taken mark || is_its_turn s.waiting mark s
+goes_on mark s = is_again mark s || is_its_turn s.waiting mark s
 
 -- The octets before the gap of a page that a PPS gives up: if another block waits for frames, those before its first missing one; if none
 -- waits, those of the whole blocks.
@@ -104,7 +104,7 @@ pub record Salvages {S : Type 0} (takes : FoundStep S) (fronts : FrontStep S) (h
   pub octets : List ℕ
   pub front : IsFrontBefore heard s octets
   pub mid : S
-  pub given : GivesFront fronts s.params s.page octets old mid
+  pub given : GivesFront fronts (agreed s) s.page octets old mid
   pub found : TakesEach takes mid (hears_read heard s).found new
 
 -- contents, one after the other, each by `Salvages`
@@ -118,7 +118,7 @@ pub record SalvagesEnd {S : Type 0} (takes : FoundStep S) (fronts : FrontStep S)
   pub octets : List ℕ
   pub front : IsOpenFront s octets
   pub mid : S
-  pub given : GivesFront fronts s.params s.page octets old mid
+  pub given : GivesFront fronts (agreed s) s.page octets old mid
   pub found : TakesEach takes mid (at_end s) new
 
 -- All contents of a line were heard. For each, the store took first the page of the rows before the gap that it leaves, if that has a row,

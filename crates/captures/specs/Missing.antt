@@ -9,7 +9,7 @@ use Rattle.captures.specs.Texts.{page_end_text}
 use Rattle.captures.specs.declared.captured.Captured.{Captured}
 use Rattle.captures.specs.declared.numbers.PageNumbers.{PageNumbers}
 use Rattle.captures.specs.declared.captured.Captured.TheVariants.{Page, MissingPage, Unread, MissingFrame, MissingBlocks, Unfinished}
-use Rattle.captures.specs.declared.captured.Captured.TheVariants.{BlockBeforeDcs, BlockAfterEnd}
+use Rattle.captures.specs.declared.captured.Captured.TheVariants.{BlockBeforeDcs, BlockAfterEnd, MissingAfter, UsedNumber}
 
 -- a page by its number from 1
 abbrev pub page_words : ℕ → List ℕ
@@ -22,6 +22,15 @@ block_words page block = page_words page ++ (codes " block " ++ decimal block)
 -- a block that no DCS went before, after the end of a page
 abbrev pub after_words : ℕ → ℕ → PageEnd → List ℕ
 after_words page block ends = block_words page block ++ (codes ": no DCS after " ++ (page_end_text ends ++ codes ", so it isn't stored"))
+
+-- a block that had to follow what the PPS before it said, under a number that was used
+abbrev pub used_words : ℕ → ℕ → PageEnd → List ℕ
+used_words page block said = block_words page block ++ (codes ": its number was used already, so it counts as what follows "
+    ++ page_end_text said)
+
+-- a page that had to follow one with this end
+abbrev pub following_words : ℕ → PageEnd → List ℕ
+following_words page ends = page_words page ++ (codes " is missing: the page before it ended with " ++ page_end_text ends)
 
 -- What is missing of a page in a capture, in words: `page 1 block 0: frame 3 is missing`. The page's number is counted from 1, those of
 -- block and frame from 0, as in PPS and FCD.
@@ -36,6 +45,8 @@ missing_text (MissingBlocks mark) = block_words (page_missing (MissingBlocks mar
 missing_text Unfinished = codes "a page has no end"
 missing_text (BlockBeforeDcs mark) = block_words (page_missing (BlockBeforeDcs mark)) mark.block ++ codes ": no DCS before it"
 missing_text (BlockAfterEnd mark ends) = after_words (page_missing (BlockAfterEnd mark ends)) mark.block ends
+missing_text (MissingAfter page ends) = following_words (page_missing (MissingAfter page ends)) ends
+missing_text (UsedNumber mark said) = used_words (page_missing (UsedNumber mark said)) mark.block said
 
 -- the word for 7.7 or 3.85 lines a millimeter
 abbrev pub lines_word : Bool → List ℕ

@@ -2,7 +2,7 @@
 use Rattle.std.specs.Prelude.{ℕ, ◌+◌, ◌-◌, ◌^◌, max, min}
 use Rattle.captures.specs.declared.captured.Captured.{Captured}
 use Rattle.captures.specs.declared.captured.Captured.TheVariants.{Page, MissingPage, Unread, MissingFrame, MissingBlocks, Unfinished}
-use Rattle.captures.specs.declared.captured.Captured.TheVariants.{BlockBeforeDcs, BlockAfterEnd}
+use Rattle.captures.specs.declared.captured.Captured.TheVariants.{BlockBeforeDcs, BlockAfterEnd, MissingAfter, UsedNumber}
 use Rattle.captures.specs.declared.numbers.PageNumbers.{PageNumbers}
 
 -- the next number, 2^64 - 1 at most
@@ -23,3 +23,5 @@ page_missing (MissingBlocks mark) = mark.page + 1
 page_missing Unfinished = 0
 page_missing (BlockBeforeDcs mark) = mark.page + 1
 page_missing (BlockAfterEnd mark ends) = mark.page + 1
+page_missing (MissingAfter page ends) = page + 1
+page_missing (UsedNumber mark said) = mark.page + 1

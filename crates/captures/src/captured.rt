@@ -1,13 +1,17 @@
 //! The pages in what is sent on a line, by its signals alone, over any reader.
 
-ghost use Rattle.captures.specs.Captured.{Takes, after_dcs, after_lack, after_page, at_end, captured, due_by, due_for, empty_capture};
-ghost use Rattle.captures.specs.Captured.{gathers, gives_up, hears, hears_block, hears_fcd, hears_pps, hears_read, is_taken, is_waiting};
-ghost use Rattle.captures.specs.Captured.{judges, judges_by, lacking, later_one, left_open, no_dcs, overlaid, page_in, pages_before};
-ghost use Rattle.captures.specs.Captured.{refuses, takes_block, turns_from, turns_page, turns_to, with_block};
+mod again;
+mod following;
+mod open_front;
+
+ghost use Rattle.captures.specs.Captured.{Takes, after_dcs, after_lack, after_page, agreed, at_dcs, at_end, captured, dcs_must_follow};
+ghost use Rattle.captures.specs.Captured.{empty_capture, ends_again, gathers, gives_up, has_used_number, hears, hears_again, hears_block, hears_fcd};
+ghost use Rattle.captures.specs.Captured.{hears_pps, hears_read, held_after_dcs, is_again, is_taken, is_waiting, judges, judges_by, lacking, later_one, left_by_dcs};
+ghost use Rattle.captures.specs.Captured.{left_open, missing_after, missing_before, no_dcs, overlaid, page_after_dcs, page_in, pages_before};
+ghost use Rattle.captures.specs.Captured.{renumbers, turns_number};
+ghost use Rattle.captures.specs.Captured.{refuses, said_after_dcs, takes_block, turns_from, turns_page, turns_to, unless_begun, with_block};
 ghost use Rattle.captures.specs.Contents.{ReadsAll};
 ghost use Rattle.faults.specs.Faults.{IsOutside};
-ghost use Rattle.captures.specs.Fronts.{AppendsFront, IsFrontAt, IsFrontBefore, IsFrontOfSignal, IsLostFront, IsOpenFront, goes_on};
-ghost use Rattle.captures.specs.Fronts.{open_frames};
 ghost use Rattle.hdlc.specs.Gaps.{good};
 ghost use Rattle.partial_page.specs.Store.{frame_of, is_missing, joined_frames, no_frames};
 ghost use Rattle.raster.specs.Packed.{bits_of};
@@ -19,6 +23,11 @@ ghost use Rattle.std.specs.Prelude.{None, OnOk, Some, cond, false, map, nat_eq, 
 ghost use Rattle.partial_page.specs.Assembling.{all_there, last_counted};
 ghost use Rattle.partial_page.specs.Assembling.{asked_by};
 
+use crate::captured::again::{is_resend, overlay};
+use crate::captured::following::{
+    dcs_must_follow, ends_again, name_due, name_left, page_after_dcs, said_after_dcs,
+    taken_after_dcs,
+};
 use crate::content_reader::ContentReader;
 use faults::{FAILED, NO_MEMORY, ToolFault};
 use page_code::{CodesPages, PageRead};
@@ -29,6 +38,7 @@ use signals::{Mark, PageEnd, Params, Pps, Signal};
 use std::alloc::{AllocError, Global};
 use std::io::Read;
 use std::marker::Model;
+use std::mem;
 
 /// What is found in the signals of a line.
 #[derive(Debug, Drop)]
@@ -69,6 +79,20 @@ pub enum Captured {
         /// What the page before it ended with: EOM or EOP.
         ends: PageEnd,
     },
+    /// A page that had to follow, and didn't come.
+    MissingAfter {
+        /// Its number, from 0, modulo 256, as a PPS would have it.
+        page: u8,
+        /// What the page before it ended with: MPS or EOM.
+        ends: PageEnd,
+    },
+    /// What had to follow has a number that was used.
+    UsedNumber {
+        /// The mark of its first block.
+        mark: Mark,
+        /// What the PPS before it said: NULL if it is the next block of the page, MPS or EOM if it is the next page.
+        said: PageEnd,
+    },
 }
 
 /// What is known while the signals of a line come.
@@ -77,10 +101,12 @@ pub(crate) struct Capture {
     pub(crate) alloc: Global,
     params: Option<Params>,
     ended: Option<PageEnd>,
+    said: Option<PageEnd>,
     coming: BlockStore,
     begun: bool,
     block: BlockAssembler,
     taken: Option<Mark>,
+    held: BlockStore,
     page: u8,
     octets: Vec<u8>,
     next: u8,
@@ -96,22 +122,24 @@ impl Model for Capture {
     ghost view = { λ c. record {
       params = c.params;
       ended = c.ended;
+      said = c.said;
       coming = c.coming.frames;
       begun = c.begun;
       waiting = c.block.asked;
       kept = c.block.frames.frames;
       taken = c.taken;
+      held = c.held.frames;
       page = c.page;
       octets = c.octets.items;
       next = c.next;
       spoiled = c.spoiled;
     } };
 
-    ghost invariant = { λ c. (c.block.frames.small ≡ c.coming.small) × IfSome c.params (λ params. c.coming.small ≡ params.small) };
+    ghost invariant = { λ c. (c.block.frames.small ≡ c.coming.small) × (c.held.small ≡ c.coming.small) × IfSome c.params (λ params. c.coming.small ≡ params.small) };
 }
 
 /// Appends what is found.
-fn tell(out: &mut Vec<Captured>, found: Captured) -> Result<(), ToolFault>
+pub(crate) fn tell(out: &mut Vec<Captured>, found: Captured) -> Result<(), ToolFault>
     ensures appended { OnOk result (out.new.items ≡ out.old.items ++ found ∷ []) }
     ensures fault { IfErr result IsOutside }
 {
@@ -145,37 +173,6 @@ fn read_page(
     }
 }
 
-/// Replaces the frame of a number by the later one, if there is a later one.
-fn overlay_one(frames: &mut BlockStore, later: &BlockStore, number: u8) -> Result<(), ToolFault>
-    requires { frames.old.small ≡ later.now.small }
-    ensures small { frames.new.small ≡ frames.old.small }
-    ensures one { OnOk result ((k : ℕ) → frame_of frames.new.frames k
-        ≡ cond (nat_eq k number) (later_one (frame_of frames.old.frames k) (frame_of later.now.frames k)) (frame_of frames.old.frames k)) }
-    ensures fault { IfErr result IsOutside }
-{
-    if let Some(octets) = later.frame(number) {
-        if frames.put(number, octets).is_err() {
-            return Err(NO_MEMORY);
-        }
-    }
-    Ok(())
-}
-
-/// Puts the later frames of a block over those that are there.
-fn overlay(frames: &mut BlockStore, later: &BlockStore) -> Result<(), ToolFault>
-    requires { frames.old.small ≡ later.now.small }
-    ensures small { frames.new.small ≡ frames.old.small }
-    ensures frames { OnOk result (frames.new.frames ≡ overlaid frames.old.frames later.now.frames) }
-    ensures fault { IfErr result IsOutside }
-{
-    let _ready = frames.ready(); // for the proof: what every store keeps to
-    for number in 0u16..256 {
-        overlay_one(frames, later, number as u8)?;
-    }
-    let _ready = frames.ready(); // for the proof: what every store keeps to
-    Ok(())
-}
-
 /// Names a frame if it is missing.
 fn name_one(
     frames: &BlockStore,
@@ -205,14 +202,6 @@ fn name_lacking(frames: &BlockStore, waiting: Pps, out: &mut Vec<Captured>) -> R
     Ok(())
 }
 
-/// The number from which on pages are missing before a page, if another one is due.
-fn due_for(due: u8, page: u8) -> u8
-    ensures { result ≡ due_for due page }
-{
-    // a page far ahead is one of another call, the beginning of which isn't there
-    if page.wrapping_sub(due) < 128 { due } else { 0 }
-}
-
 /// Names the pages from one on to another one, without that.
 fn name_pages(from: u8, page: u8, out: &mut Vec<Captured>) -> Result<(), ToolFault>
     ensures named { OnOk result (out.new.items ≡ out.old.items
@@ -221,20 +210,6 @@ fn name_pages(from: u8, page: u8, out: &mut Vec<Captured>) -> Result<(), ToolFau
 {
     for further in 0..page.wrapping_sub(from) {
         tell(out, Captured::MissingPage(from.wrapping_add(further)))?;
-    }
-    Ok(())
-}
-
-/// Appends the frames of a block before the first one that is missing.
-fn append_front(frames: &BlockStore, octets: &mut Vec<u8>) -> Result<(), ToolFault>
-    ensures front { OnOk result (AppendsFront frames.now.frames octets.old.items octets.new.items) }
-    ensures fault { IfErr result IsOutside }
-{
-    for number in 0u16..256 {
-        let Some(data) = frames.frame(number as u8) else {
-            return Ok(());
-        };
-        octets.extend_from_slice(data)?;
     }
     Ok(())
 }
@@ -248,10 +223,12 @@ impl Capture {
             alloc,
             params: None,
             ended: None,
+            said: None,
             coming: BlockStore::new(alloc, false),
             begun: false,
             block: BlockAssembler::new(alloc, false),
             taken: None,
+            held: BlockStore::new(alloc, false),
             page: 0,
             octets: Vec::new(alloc),
             next: 0,
@@ -259,25 +236,36 @@ impl Capture {
         }
     }
 
-    /// The number of the first page after a DCS: after EOP it begins another call.
-    fn due(&self) -> u8
-        ensures { result ≡ due_by self.now.ended self.now.page }
+    /// Takes out the frames of the block that was taken last, if a DCS keeps the size of frames.
+    fn take_held(&mut self, params: Params) -> BlockStore
+        ensures held { result.frames ≡ held_after_dcs self.old.params params self.old.held }
+        ensures small { result.small ≡ params.small }
     {
-        match self.ended {
-            Some(PageEnd::Eop) => 0,
-            Some(PageEnd::Null | PageEnd::Mps | PageEnd::Eom) | None => self.page,
+        let fresh = BlockStore::new(self.alloc, params.small);
+        let Some(before) = self.params else {
+            return fresh;
+        };
+        if before.small != params.small {
+            return fresh;
         }
+        mem::replace(&mut self.held, fresh)
     }
 
     /// After a DCS. Takes no memory.
     fn begin(&mut self, params: Params)
         ensures { self.new ≡ after_dcs params self.old }
     {
-        let page = self.due();
+        let said = said_after_dcs(self.said);
+        let page = page_after_dcs(self.said, self.page);
+        let taken = taken_after_dcs(said, self.taken);
+        let held = self.take_held(params);
         *self = Capture {
             params: Some(params),
+            said,
             coming: BlockStore::new(self.alloc, params.small),
             block: BlockAssembler::new(self.alloc, params.small),
+            taken,
+            held,
             page,
             ..Capture::new(self.alloc)
         };
@@ -323,17 +311,12 @@ impl Capture {
     fn turn_over(&mut self, ends: PageEnd, mark: Mark)
         ensures { self.new ≡ after_page ends mark self.old }
     {
+        self.ended = dcs_must_follow(ends, self.ended);
+        self.said = Some(ends);
         self.page = mark.page.wrapping_add(1);
         self.octets.clear();
         self.next = 0;
         self.spoiled = false;
-        match ends {
-            PageEnd::Null | PageEnd::Mps => {}
-            PageEnd::Eom | PageEnd::Eop => {
-                self.params = None;
-                self.ended = Some(ends);
-            }
-        }
     }
 
     /// A block of which frames are missing is given up.
@@ -344,6 +327,7 @@ impl Capture {
         match waiting.ends {
             PageEnd::Null => {
                 // the page's code can't go on after the gap, so it isn't read
+                self.said = Some(PageEnd::Null);
                 self.octets.clear();
                 self.next = waiting.mark.block.wrapping_add(1);
                 self.spoiled = true;
@@ -379,6 +363,56 @@ impl Capture {
         self.give_up(out)
     }
 
+    /// Names what is missing before a page with another number than the next one.
+    fn name_before(&self, page: u8, out: &mut Vec<Captured>) -> Result<(), ToolFault>
+        ensures named { OnOk result (out.new.items ≡ out.old.items ++ missing_before page self.now) }
+        ensures fault { IfErr result IsOutside }
+    {
+        if page.wrapping_sub(self.page) < 128 {
+            return name_pages(self.page, page, out);
+        }
+        // a page far ahead is one of another call, the beginning of which isn't there
+        name_due(self.said, self.page, out)?;
+        name_pages(0, page, out)
+    }
+
+    /// Returns whether what had to follow has a number that was used.
+    fn has_used_number(&self, mark: Mark) -> bool
+        ensures { result ≡ has_used_number self.now.said mark self.now }
+    {
+        match self.said {
+            Some(PageEnd::Null) => self.is_taken(mark) && mark.block != self.next,
+            Some(PageEnd::Mps | PageEnd::Eom) => mark.page.wrapping_add(1) == self.page,
+            Some(PageEnd::Eop) | None => false,
+        }
+    }
+
+    /// What comes under a number that was used is what had to follow.
+    fn renumber(&mut self, said: PageEnd, mark: Mark)
+        ensures { self.new ≡ (renumbers (Some said) mark self.old).then }
+    {
+        match said {
+            PageEnd::Null => self.next = mark.block,
+            PageEnd::Mps | PageEnd::Eom | PageEnd::Eop => self.page = mark.page,
+        }
+    }
+
+    /// A block under a number that was used comes.
+    fn turn_number(&mut self, mark: Mark, out: &mut Vec<Captured>) -> Result<(), ToolFault>
+        ensures taken { OnOk result (Takes (turns_number mark self.old) self.new out.old.items out.new.items) }
+        ensures fault { IfErr result IsOutside }
+    {
+        if !self.has_used_number(mark) {
+            return Ok(());
+        }
+        let Some(said) = self.said else {
+            return Ok(());
+        };
+        tell(out, Captured::UsedNumber { mark, said })?;
+        self.renumber(said, mark);
+        Ok(())
+    }
+
     /// A block of another page than the open one comes: the pages before it are missing.
     fn turn_page(&mut self, mark: Mark, out: &mut Vec<Captured>) -> Result<(), ToolFault>
         ensures taken { OnOk result (Takes (turns_page mark self.old) self.new out.old.items out.new.items) }
@@ -387,7 +421,7 @@ impl Capture {
         if mark.page == self.page {
             return Ok(());
         }
-        name_pages(due_for(self.page, mark.page), mark.page, out)?;
+        self.name_before(mark.page, out)?;
         self.page = mark.page;
         self.octets.clear();
         self.next = 0;
@@ -472,10 +506,12 @@ impl Capture {
         ensures fault { IfErr result IsOutside }
     {
         self.append_block(pps.last)?;
+        mem::swap(&mut self.block.frames, &mut self.held);
         self.block.clear();
         self.taken = Some(pps.mark);
         match pps.ends {
             PageEnd::Null => {
+                self.said = Some(PageEnd::Null);
                 self.next = pps.mark.block.wrapping_add(1);
                 Ok(())
             }
@@ -515,17 +551,29 @@ impl Capture {
         tell(out, self.no_dcs(pps.mark))?;
         self.spoil(pps);
         self.drop_coming();
+        self.params = None;
+        self.held.clear();
         self.taken = Some(pps.mark);
         Ok(())
     }
 
+    /// Returns how the pages that come are sent, by the last DCS.
+    pub(crate) fn agreed(&self) -> Option<Params>
+        ensures { result ≡ agreed self.now }
+    {
+        match self.ended {
+            Some(_) => None,
+            None => self.params,
+        }
+    }
+
     /// A block whose turn it is.
     fn judge_by_dcs(&mut self, pps: Pps, out: &mut Vec<Captured>) -> Result<(), ToolFault>
-        ensures taken { OnOk result (Takes (judges_by self.old.params pps.ends pps.mark pps.last self.old)
+        ensures taken { OnOk result (Takes (judges_by (agreed self.old) pps.ends pps.mark pps.last self.old)
             self.new out.old.items out.new.items) }
         ensures fault { IfErr result IsOutside }
     {
-        let Some(params) = self.params else {
+        let Some(params) = self.agreed() else {
             return self.refuse(pps, out);
         };
         self.gather()?;
@@ -540,10 +588,31 @@ impl Capture {
         ensures fault { IfErr result IsOutside }
     {
         self.turn_from(pps.mark, out)?;
+        self.turn_number(pps.mark, out)?;
         self.turn_page(pps.mark, out)?;
         self.turn_to(pps.mark, out)?;
         let counted = self.counted(pps);
         self.judge_by_dcs(counted, out)
+    }
+
+    /// A PPS that is sent again after its block was whole.
+    fn hear_again(&mut self, ends: PageEnd)
+        ensures { self.new ≡ hears_again ends self.old }
+    {
+        self.drop_coming();
+        if !ends_again(ends, self.said) {
+            return;
+        }
+        self.ended = dcs_must_follow(ends, None);
+        self.said = Some(ends);
+    }
+
+    /// Returns whether a PPS with this mark is sent again.
+    #[tactic(auto, unfolding(crate::specs::Captured::is_again))]
+    fn is_again(&self, mark: Mark) -> bool
+        ensures { result ≡ is_again mark self.now }
+    {
+        self.is_taken(mark) && !self.is_waiting(mark) && is_resend(&self.held, &self.coming)
     }
 
     /// A PPS.
@@ -552,8 +621,8 @@ impl Capture {
             self.new out.old.items out.new.items) }
         ensures fault { IfErr result IsOutside }
     {
-        if self.is_taken(pps.mark) {
-            self.drop_coming();
+        if self.is_again(pps.mark) {
+            self.hear_again(pps.ends);
             return Ok(());
         }
         self.hear_block(pps, out)
@@ -562,7 +631,7 @@ impl Capture {
     /// An FCD.
     #[tactic(auto, unfolding(partial_page::specs::Assembling::within_frame_size))]
     fn hear_fcd(&mut self, number: u8, octets: &[u8]) -> Result<(), ToolFault>
-        ensures taken { OnOk result (self.new ≡ (hears_fcd self.old.params number octets.now self.old).then) }
+        ensures taken { OnOk result (self.new ≡ (hears_fcd self.old.ended self.old.params number octets.now self.old).then) }
         ensures fault { IfErr result IsOutside }
     {
         let Some(_params) = self.params else {
@@ -574,24 +643,51 @@ impl Capture {
                 self.begun = true;
                 Ok(())
             }
-            Err(BlockFault::TooLong) => Ok(()),
+            Err(BlockFault::TooLong) => {
+                if self.ended.is_some() {
+                    self.begun = true;
+                }
+                Ok(())
+            }
             Err(_) => Err(NO_MEMORY),
         }
     }
 
-    /// Names what is left open at the end of a document.
+    /// Names what is missing if nothing follows.
     #[tactic(auto, unfolding(crate::specs::Captured::left_open))]
     fn name_open(&self, out: &mut Vec<Captured>) -> Result<(), ToolFault>
         ensures named { OnOk result (out.new.items ≡ out.old.items ++ left_open self.now) }
         ensures fault { IfErr result IsOutside }
     {
-        if self.begun || !self.octets.is_empty() {
+        if self.begun {
             return tell(out, Captured::Unfinished);
         }
-        Ok(())
+        name_due(self.said, self.page, out)
     }
 
-    /// A document is at its end.
+    /// Names a page that a DCS leaves without its end.
+    fn name_begun(&self, out: &mut Vec<Captured>) -> Result<(), ToolFault>
+        ensures named { OnOk result (out.new.items ≡ out.old.items ++ unless_begun self.now.begun (left_by_dcs self.now.said)) }
+        ensures fault { IfErr result IsOutside }
+    {
+        if self.begun {
+            return tell(out, Captured::Unfinished);
+        }
+        name_left(self.said, out)
+    }
+
+    /// A DCS comes: what is open is left.
+    #[tactic(auto, unfolding(crate::specs::Captured::at_dcs))]
+    fn leave(&mut self, out: &mut Vec<Captured>) -> Result<(), ToolFault>
+        ensures named { OnOk result (out.new.items ≡ out.old.items ++ at_dcs self.old) }
+        ensures left { OnOk result (self.new ≡ (gives_up self.old self.old.waiting).then) }
+        ensures fault { IfErr result IsOutside }
+    {
+        self.give_up(out)?;
+        self.name_begun(out)
+    }
+
+    /// A call is at its end.
     #[tactic(auto, unfolding(crate::specs::Captured::at_end))]
     pub(crate) fn end(&mut self, out: &mut Vec<Captured>) -> Result<(), ToolFault>
         ensures named { OnOk result (out.new.items ≡ out.old.items ++ at_end self.old) }
@@ -602,118 +698,11 @@ impl Capture {
         self.name_open(out)
     }
 
-    /// How pages are sent, by the last DCS.
-    pub(crate) fn params(&self) -> Option<Params>
-        ensures { result ≡ self.now.params }
-    {
-        self.params
-    }
-
     /// The number of the open page, modulo 256.
     pub(crate) fn page(&self) -> u8
         ensures { result ≡ self.now.page }
     {
         self.page
-    }
-
-    /// Appends the frames of the open block before the first one that is missing.
-    fn append_open(&self, octets: &mut Vec<u8>) -> Result<(), ToolFault>
-        ensures front { OnOk result (AppendsFront (open_frames self.now.waiting self.now) octets.old.items octets.new.items) }
-        ensures fault { IfErr result IsOutside }
-    {
-        match self.block.asked {
-            Some(_) => append_front(&self.block.frames, octets),
-            // Taken to be the next block: if a whole block is sent again and then cut off, its rows come twice.
-            None => append_front(&self.coming, octets),
-        }
-    }
-
-    /// Returns the octets of the open page before its first gap, when no more of it follows.
-    pub(crate) fn open_front(&self) -> Result<Vec<u8>, ToolFault>
-        ensures front { IfOk result (λ octets. IsOpenFront self.now octets.items) }
-        ensures fault { IfErr result IsOutside }
-    {
-        let mut octets = Vec::new(self.alloc);
-        if self.spoiled {
-            return Ok(octets);
-        }
-        octets.extend_from_slice(&self.octets)?;
-        self.append_open(&mut octets)?;
-        Ok(octets)
-    }
-
-    /// The octets of the open page's whole blocks.
-    fn whole_front(&self) -> Result<Vec<u8>, ToolFault>
-        ensures front { IfOk result (λ octets. octets.items ≡ cond self.now.spoiled [] self.now.octets) }
-        ensures fault { IfErr result IsOutside }
-    {
-        let mut octets = Vec::new(self.alloc);
-        if self.spoiled {
-            return Ok(octets);
-        }
-        octets.extend_from_slice(&self.octets)?;
-        Ok(octets)
-    }
-
-    /// The octets before the gap of the open page, which a PPS gives up.
-    fn lost_front(&self) -> Result<Vec<u8>, ToolFault>
-        ensures front { IfOk result (λ octets. IsLostFront self.now.waiting self.now octets.items) }
-        ensures fault { IfErr result IsOutside }
-    {
-        match self.block.asked {
-            Some(_) => self.open_front(),
-            None => self.whole_front(),
-        }
-    }
-
-    /// Returns whether the open page goes on with the block of this mark, or that was whole already.
-    fn goes_on(&self, mark: Mark) -> bool
-        ensures { result ≡ goes_on mark self.now }
-    {
-        if self.is_taken(mark) {
-            return true;
-        }
-        match self.block.asked {
-            Some(waiting) => waiting.mark.is_same(mark),
-            None => mark.page == self.page && mark.block == self.next,
-        }
-    }
-
-    /// Returns the octets that a PPS with this mark leaves before the gap of the open page; none if the page goes on.
-    fn front_at(&self, mark: Mark) -> Result<Vec<u8>, ToolFault>
-        ensures front { IfOk result (λ octets. IsFrontAt (goes_on mark self.now) self.now octets.items) }
-        ensures fault { IfErr result IsOutside }
-    {
-        if self.goes_on(mark) {
-            return Ok(Vec::new(self.alloc));
-        }
-        self.lost_front()
-    }
-
-    /// The octets before the gap of the open page that a signal leaves: a DCS or a DCN, or a PPS that gives the page up.
-    fn front_of(&self, signal: &Signal<'_>) -> Result<Vec<u8>, ToolFault>
-        ensures front { IfOk result (λ octets. IsFrontOfSignal (plain signal.now) self.now octets.items) }
-        ensures fault { IfErr result IsOutside }
-    {
-        match signal {
-            Signal::Dcs(_) | Signal::Dcn => self.open_front(),
-            Signal::Pps { page, block, .. } => self.front_at(Mark {
-                page: *page,
-                block: *block,
-            }),
-            _ => Ok(Vec::new(self.alloc)),
-        }
-    }
-
-    /// The octets before the gap of the open page that a content leaves.
-    pub(crate) fn front_before(&self, content: &[u8]) -> Result<Vec<u8>, ToolFault>
-        ensures front { IfOk result (λ octets. IsFrontBefore (read_content content.now) self.now octets.items) }
-        ensures fault { IfErr result IsOutside }
-    {
-        match signals::read(content) {
-            Ok(signal) => self.front_of(&signal),
-            Err(_) => Ok(Vec::new(self.alloc)),
-        }
     }
 
     /// A signal.
@@ -724,7 +713,7 @@ impl Capture {
     {
         match signal {
             Signal::Dcs(params) => {
-                self.end(out)?;
+                self.leave(out)?;
                 self.begin(params);
                 Ok(())
             }

@@ -1,7 +1,7 @@
 //! The pages in a capture, and what is missing of others, as JSON for programs.
 
 ghost use Rattle.faults.specs.Faults.{IsOutside};
-ghost use Rattle.captures.specs.FoundRecords.{block_record, missing_record, stored_front_record, stored_record};
+ghost use Rattle.captures.specs.FoundRecords.{block_record, missing_record, stored_front_record, stored_record, used_record};
 ghost use Rattle.captures.specs.Missing.{lines_word};
 ghost use Rattle.faults.specs.RecordLines.{record_line};
 ghost use Rattle.serde_json.specs.View.{view};
@@ -14,7 +14,7 @@ use crate::numbers::missing_page;
 use crate::texts::page_end;
 use faults::{ToolFault, short_place, write_record};
 use serde_json::{Value, json};
-use signals::Mark;
+use signals::{Mark, PageEnd};
 use std::alloc::{AllocError, Global};
 use std::io::Write;
 
@@ -62,6 +62,18 @@ fn block_record(alloc: Global, what: &str, page: u64, mark: Mark) -> Result<Valu
     json!(in alloc; {"missing": what, "page": page, "block": mark.block})
 }
 
+/// What had to follow under a number that was used, by that of the block from 0 and its page's from 1.
+fn used_record(alloc: Global, page: u64, mark: Mark, said: PageEnd) -> Result<Value, AllocError>
+    ensures { IfOk result (λ value. view value ≡ used_record page mark said) }
+{
+    json!(in alloc; {
+        "missing": "new number",
+        "page": page,
+        "block": mark.block,
+        "after": page_end(said),
+    })
+}
+
 /// The record of what is missing of a page; that of a whole page is empty.
 fn missing_record(alloc: Global, found: &Captured) -> Result<Value, AllocError>
     ensures { IfOk result (λ value. view value ≡ missing_record found.now) }
@@ -91,6 +103,12 @@ fn missing_record(alloc: Global, found: &Captured) -> Result<Value, AllocError>
             "block": mark.block,
             "after": page_end(*ends),
         }),
+        Captured::MissingAfter { page: _, ends } => json!(in alloc; {
+            "missing": "page",
+            "page": page,
+            "after": page_end(*ends),
+        }),
+        Captured::UsedNumber { mark, said } => used_record(alloc, page, *mark, *said),
     }
 }
 

@@ -83,7 +83,7 @@ fn salvage_frame<W: Write, S: FoundStore + FrontStore>(
     ensures fault { IfErr result IsOutside }
 {
     write_frame(capture.alloc, number, content, how, writer)?;
-    let params = capture.params();
+    let params = capture.agreed();
     let page = capture.page();
     let front = capture.front_before(content)?;
     let mut found = Vec::new(capture.alloc);
@@ -103,7 +103,7 @@ fn salvage_end<S: FoundStore + FrontStore>(
     ensures given { OnOk result (SalvagesEnd S.takes S.fronts capture.old store.old store.new) }
     ensures fault { IfErr result IsOutside }
 {
-    let params = capture.params();
+    let params = capture.agreed();
     let page = capture.page();
     let front = capture.open_front()?;
     let mut found = Vec::new(capture.alloc);

@@ -74,6 +74,64 @@ impl fmt::Display for AfterText {
     }
 }
 
+/// A block that had to follow what the PPS before it said, under a number that was used.
+#[derive(Clone, Copy, Drop)]
+struct UsedText {
+    block: BlockText,
+    said: PageEnd,
+}
+
+impl UsedText {
+    /// The block of a mark.
+    fn of(page: u64, mark: &Mark, said: PageEnd) -> UsedText
+        ensures { result ≡ record { block = record { page = page; block = mark.now.block }; said = said } }
+    {
+        UsedText {
+            block: BlockText::of(page, mark),
+            said,
+        }
+    }
+}
+
+impl fmt::Display for UsedText {
+    ghost use Rattle.std.specs.Prelude.{Some};
+    ghost use Rattle.captures.specs.Missing.{used_words};
+
+    ghost output = { λ text. Some (used_words text.block.page text.block.block text.said) };
+
+    fn fmt<W: fmt::Write>(&self, f: &mut fmt::Formatter<W>) -> fmt::Result {
+        write!(
+            f,
+            "{}: its number was used already, so it counts as what follows {}",
+            self.block,
+            page_end(self.said),
+        )
+    }
+}
+
+/// A page that had to follow one with this end.
+#[derive(Clone, Copy, Drop)]
+struct FollowingText {
+    page: u64,
+    ends: PageEnd,
+}
+
+impl fmt::Display for FollowingText {
+    ghost use Rattle.std.specs.Prelude.{Some};
+    ghost use Rattle.captures.specs.Missing.{following_words};
+
+    ghost output = { λ text. Some (following_words text.page text.ends) };
+
+    fn fmt<W: fmt::Write>(&self, f: &mut fmt::Formatter<W>) -> fmt::Result {
+        write!(
+            f,
+            "page {} is missing: the page before it ended with {}",
+            self.page,
+            page_end(self.ends),
+        )
+    }
+}
+
 /// What is missing of a page in a capture, on a line without its LF. The page's number is counted from 1, those of block and frame from 0,
 /// as in PPS and FCD. Empty for a whole page.
 #[derive(Clone, Copy, Drop)]
@@ -110,6 +168,12 @@ impl fmt::Display for Missing<'_> {
             }
             Captured::BlockAfterEnd { mark, ends } => {
                 write!(f, "{}", AfterText::of(page, mark, *ends))
+            }
+            Captured::MissingAfter { page: _, ends } => {
+                write!(f, "{}", FollowingText { page, ends: *ends })
+            }
+            Captured::UsedNumber { mark, said } => {
+                write!(f, "{}", UsedText::of(page, mark, *said))
             }
         }
     }

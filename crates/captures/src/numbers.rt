@@ -50,8 +50,10 @@ pub(crate) fn missing_page(found: &Captured) -> u64
         | Captured::MissingFrame { mark, .. }
         | Captured::MissingBlocks(mark)
         | Captured::BlockBeforeDcs(mark)
-        | Captured::BlockAfterEnd { mark, .. } => u64::from(mark.page) + 1,
+        | Captured::BlockAfterEnd { mark, .. }
+        | Captured::UsedNumber { mark, .. } => u64::from(mark.page) + 1,
         Captured::MissingPage(number) => u64::from(*number) + 1,
+        Captured::MissingAfter { page, .. } => u64::from(*page) + 1,
         Captured::Page { .. } | Captured::Unfinished => 0,
     }
 }

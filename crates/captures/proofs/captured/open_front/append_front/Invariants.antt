@@ -1,7 +1,7 @@
 -- What holds in the loop of `append_front`.
 use Rattle.std.proofs.Common.{ℕ, ◌≡◌, ◌<◌, ◌++◌, false}
 use Rattle.partial_page.specs.Store.{is_missing, joined_frames}
-use Rattle.captures.proofs.captured.append_front.Given as goal
+use Rattle.captures.proofs.captured.open_front.append_front.Given as goal
 
 abbrev pub invariant-loop-number : goal.invariant-loop-number
 invariant-loop-number l = record {

@@ -1,7 +1,7 @@
 -- What the check asks of `append_front`.
 use Rattle.std.proofs.Common.{◌≡◌, ◌≤◌, arith, sym}
 use Rattle.captures.proofs.CapturedSteps.{front_all, front_more, front_none, front_to, none_below, there_more}
-use Rattle.captures.proofs.captured.append_front.Goals as goal
+use Rattle.captures.proofs.captured.open_front.append_front.Goals as goal
 
 pub returns-in_default-clause-front : goal.returns-in_default-clause-front
 returns-in_default-clause-front c =

@@ -1,7 +1,7 @@
 -- What holds in the loop of `overlay`.
 use Rattle.std.proofs.Common.{◌≡◌}
 use Rattle.captures.proofs.CapturedSteps.{LaidBelow}
-use Rattle.captures.proofs.captured.overlay.Given as goal
+use Rattle.captures.proofs.captured.again.overlay.Given as goal
 
 abbrev pub invariant-loop-number : goal.invariant-loop-number
 invariant-loop-number l = record {

@@ -1,7 +1,7 @@
 -- What the check asks of `overlay`.
 use Rattle.std.proofs.Common.{◌≡◌, subst, arith}
 use Rattle.captures.proofs.CapturedSteps.{LaidBelow, all_laid}
-use Rattle.captures.proofs.captured.overlay.Goals as goal
+use Rattle.captures.proofs.captured.again.overlay.Goals as goal
 
 pub returns-clause-frames : goal.returns-clause-frames
 returns-clause-frames c =
