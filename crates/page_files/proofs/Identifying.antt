@@ -11,9 +11,10 @@ use Rattle.raster.specs.declared.packed.Order.{Order}
 use Rattle.raster.specs.declared.packed.Order.TheVariants.{LsbFirst, MsbFirst}
 use Rattle.page_code.specs.declared.Coding.{Coding}
 use Rattle.page_code.specs.declared.Coding.TheVariants.{T6}
-use Rattle.page_files.specs.Identified.{AreTried, IsTried, SaysOwn, count_of, fits_one, form_in, form_of, forms_in, line_of, lines_of}
+use Rattle.page_files.specs.Identified.{AreOneDimTried, AreTried, IsTried, SaysOwn, count_of, fits_one, form_in, form_of, forms_in, line_of, lines_of}
 use Rattle.page_files.specs.Identified.{own_forms, tried_widths}
 use Rattle.page_files.specs.declared.identify.Fit.{Fit}
+use Rattle.page_files.specs.declared.identify.Said.{Said}
 use Rattle.page_files.specs.declared.identify.Tried.{Tried}
 use Rattle.page_files.specs.declared.options.PageForm.{PageForm}
 
@@ -52,32 +53,44 @@ pub tried_more : (octets : List ℕ) (before after : List Tried) (one : Tried) �
 tried_more octets before after one is tried all =
     subst (λ (l : List Tried). All (IsTried octets) l) (sym is) (All-push (IsTried octets) before one all tried)
 
--- after no way those of T.4 and of T.6, in both orders: these are all ways
-pub all_tried : (octets : List ℕ) (msb lsb : Option ℕ) (none first second third all : List Tried) → none ≡ []
+-- after no way those of T.4, in both orders: these are its ways
+pub one_dim_tried : (octets : List ℕ) (msb lsb : Option ℕ) (none first all : List Tried) → none ≡ []
     → SaysOwn MsbFirst octets msb → SaysOwn LsbFirst octets lsb
     → map form_of first ≡ map form_of none ++ own_forms MsbFirst msb
-    → map form_of second ≡ map form_of first ++ own_forms LsbFirst lsb
-    → map form_of third ≡ map form_of second ++ forms_in T6 MsbFirst tried_widths
-    → map form_of all ≡ map form_of third ++ forms_in T6 LsbFirst tried_widths
-    → (All (IsTried octets) none → All (IsTried octets) first) → (All (IsTried octets) first → All (IsTried octets) second)
-    → (All (IsTried octets) second → All (IsTried octets) third) → (All (IsTried octets) third → All (IsTried octets) all)
-    → AreTried octets all (record { msb = msb; lsb = lsb })
-all_tried octets msb lsb none first second third all empty says_msb says_lsb one two three four each_one each_two each_three each_four =
+    → map form_of all ≡ map form_of first ++ own_forms LsbFirst lsb
+    → (All (IsTried octets) none → All (IsTried octets) first) → (All (IsTried octets) first → All (IsTried octets) all)
+    → AreOneDimTried octets all (record { msb = msb; lsb = lsb })
+one_dim_tried octets msb lsb none first all empty says_msb says_lsb one two each_one each_two =
     let own_msb : List PageForm = own_forms MsbFirst msb in
     let own_lsb : List PageForm = own_forms LsbFirst lsb in
-    let t6_msb : List PageForm = forms_in T6 MsbFirst tried_widths in
-    let t6_lsb : List PageForm = forms_in T6 LsbFirst tried_widths in
     let forms_one : map form_of first ≡ own_msb = one ∙ ap (λ (l : List Tried). map form_of l ++ own_msb) empty in
-    let forms_two : map form_of second ≡ own_msb ++ own_lsb = two ∙ ap (λ (l : List PageForm). l ++ own_lsb) forms_one in
-    let forms_three : map form_of third ≡ (own_msb ++ own_lsb) ++ t6_msb = three ∙ ap (λ (l : List PageForm). l ++ t6_msb) forms_two in
     let no_way : All (IsTried octets) none =
     subst (λ (l : List Tried). All (IsTried octets) l) (sym empty) (λ k d within. absurd (omega (arith, within))) in
     record {
       msb_is = says_msb;
       lsb_is = says_lsb;
-      forms_are = four ∙ (ap (λ (l : List PageForm). l ++ t6_lsb) forms_three ∙ (append_assoc (own_msb ++ own_lsb) t6_msb t6_lsb
+      forms_are = two ∙ ap (λ (l : List PageForm). l ++ own_lsb) forms_one;
+      each = each_two (each_one no_way);
+    }
+
+-- after those of T.4 those of T.6, in both orders: these are all ways
+pub all_tried : (octets : List ℕ) (own : Said) (first second all : List Tried) → AreOneDimTried octets first own
+    → map form_of second ≡ map form_of first ++ forms_in T6 MsbFirst tried_widths
+    → map form_of all ≡ map form_of second ++ forms_in T6 LsbFirst tried_widths
+    → (All (IsTried octets) first → All (IsTried octets) second) → (All (IsTried octets) second → All (IsTried octets) all)
+    → AreTried octets all own
+all_tried octets own first second all are two three each_two each_three =
+    let own_msb : List PageForm = own_forms MsbFirst own.msb in
+    let own_lsb : List PageForm = own_forms LsbFirst own.lsb in
+    let t6_msb : List PageForm = forms_in T6 MsbFirst tried_widths in
+    let t6_lsb : List PageForm = forms_in T6 LsbFirst tried_widths in
+    let forms_two : map form_of second ≡ (own_msb ++ own_lsb) ++ t6_msb = two ∙ ap (λ (l : List PageForm). l ++ t6_msb) are.forms_are in
+    record {
+      msb_is = are.msb_is;
+      lsb_is = are.lsb_is;
+      forms_are = three ∙ (ap (λ (l : List PageForm). l ++ t6_lsb) forms_two ∙ (append_assoc (own_msb ++ own_lsb) t6_msb t6_lsb
           ∙ append_assoc own_msb own_lsb (t6_msb ++ t6_lsb)));
-      each = each_four (each_three (each_two (each_one no_way)));
+      each = each_three (each_two are.each);
     }
 
 -- how many ways fit, with one more

@@ -4,10 +4,14 @@ mod DecodedPages
 mod DecodedRows
 mod PageEnds
 mod LaterPages
+mod TurnedPages
 mod FirstImage
+mod Furthest
 mod RepairedLines
+mod Mended
 mod MissingEol
-mod NoticeLines
+mod LineEnds
+pub mod NoticeLines
 mod RefusedRows
 mod RepairsMean
 mod RepairsT6

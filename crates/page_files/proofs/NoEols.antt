@@ -1,5 +1,5 @@
 -- Rows of T.4 without EOLs.
-use Rattle.std.proofs.Common.{ℕ, suc, ◌≡◌, ◌+◌, ◌*◌, ◌<◌, ◌≤◌, Bool, List, Option, Some, None, length, drop, inl, inr, refl, ap, sym, ◌∙◌}
+use Rattle.std.proofs.Common.{ℕ, ◌≡◌, ◌+◌, ◌*◌, ◌≤◌, List, length, drop, ap, sym, ◌∙◌}
 use Rattle.std.proofs.Common.{subst, arith, add-one}
 use Rattle.std.specs.Int.{div_ceil}
 use Rattle.raster.specs.declared.packed.Order.{Order}

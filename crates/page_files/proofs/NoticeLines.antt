@@ -23,7 +23,7 @@ some_part : (text : List ℕ) → 0 < length (slice_split ends_line text)
 some_part text = omega (arith, length-slice_split ends_line text)
 
 -- the first line, and then the others
-first_line : (f : List ℕ → List ℕ) (text line rest : List ℕ) → position_or_len ends_line text < length text
+pub first_line : (f : List ℕ → List ℕ) (text line rest : List ℕ) → position_or_len ends_line text < length text
     → line ≡ before_first ends_line text → rest ≡ after_first ends_line text
     → flat_map f (lines_in text) ≡ f line ++ flat_map f (lines_in rest)
 first_line f text line rest within line_is rest_is =
@@ -34,7 +34,7 @@ first_line f text line rest within line_is rest_is =
     ∙ ap (λ (l : List ℕ). f line ++ flat_map f (lines_in l)) (sym rest_is)))
 
 -- a text in which no line ends
-no_line : (f : List ℕ → List ℕ) (text : List ℕ) → position_or_len ends_line text ≡ length text → flat_map f (lines_in text) ≡ []
+pub no_line : (f : List ℕ → List ℕ) (text : List ℕ) → position_or_len ends_line text ≡ length text → flat_map f (lines_in text) ≡ []
 unfolding but_last
 no_line f text is = ap (λ (parts : List (List ℕ)). flat_map f (but_last parts))
     (slice_split_none ends_line text (λ k e m. fails_before_first ends_line text k e (omega (arith, is, m))))

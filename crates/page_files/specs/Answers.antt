@@ -1,11 +1,11 @@
 -- What `decode` gives of octets: an image, the messages about it, and whether the result is complete.
-use Rattle.std.specs.Prelude.{ℕ, ◌≡◌, ◌-◌, ◌↔◌, Bool, not, ◌||◌, List, [], ◌++◌, length, Result, Ok, Err, IsTrue, codes, cond, nat_eq}
+use Rattle.std.specs.Prelude.{ℕ, ◌≡◌, ◌-◌, ◌↔◌, Bool, not, ◌&&◌, ◌||◌, List, [], ◌++◌, length, Result, Ok, Err, IsTrue, codes, cond, nat_eq}
 use Rattle.std.specs.Prelude.{nat_le}
 use Rattle.std.specs.Fmt.{decimal}
 use Rattle.std.specs.Int.{div_ceil}
 use Rattle.page_files.specs.DecodeRecords.{after_record, as_told, page_record, rows_record}
 use Rattle.page_files.specs.Decodings.{GivesPage, broken_asked}
-use Rattle.page_files.specs.PageEnds.{HasItsEnd}
+use Rattle.page_files.specs.PageEnds.{HasItsEnd, lines_end_by_rtc}
 use Rattle.faults.specs.RecordLines.{record_line}
 use Rattle.page_files.specs.declared.decoding.ReadTo.{ReadTo}
 use Rattle.page_files.specs.declared.decoding.ReadTo.TheVariants.{End, Fault, Lines, NoEnd}
@@ -58,22 +58,29 @@ abbrev pub end_text : Bool → Bool → ℕ → ℕ → ℕ → Bool → List �
 end_text verbose records rows bits after has_end =
     cond verbose (page_text records rows bits ++ after_text records after) [] ++ as_told records (cond has_end [] (no_rtc_line rows))
 
--- What is reported of a page, and whether the result is complete. Read to the end of its code: with `--verbose` its rows, bits and the
--- octets after it; a line if RTC is missing, and then it isn't complete with `--whole`. Read line by line: the lines of its repaired
--- rows, with `--verbose` its rows, and a line if more are repaired than read, and then it isn't complete. Without its EOFB: the line that
--- says so, and with `--verbose` its rows; it isn't complete with `--whole`. Refused: nothing is reported, and the fault is returned. With
--- `records` each is an object of JSON.
+-- what is reported of a page read line by line, after the lines of its repaired rows: with `--verbose` its rows, that RTC is missing, and
+-- that more rows are repaired than read
+abbrev pub lines_text : Bool → Bool → ℕ → ℕ → Bool → List ℕ
+lines_text verbose records rows count has_end = cond verbose (rows_text records rows) []
+    ++ (as_told records (cond has_end [] (no_rtc_line rows)) ++ as_told records (cond (is_mostly_read rows count) [] few_line))
+
+-- What is reported of a page, and whether the result is complete. First come the lines of what was decoded. Read to the end of its code: with
+-- `--verbose` its rows, bits and the octets after it; a line if RTC is missing, and then it isn't complete with `--whole`. Read line by
+-- line: with `--verbose` its rows; a line if RTC is missing, and then it isn't complete with `--whole`; and a line if more rows are
+-- repaired than read, and then it isn't complete. Without its EOFB: with `--verbose` its rows; it isn't complete with `--whole`. Refused:
+-- the fault is returned. With `records` each line is an object of JSON.
 abbrev pub TellsPage : PageForm → DecodeOptions → List ℕ → ReadTo → ℕ → List ℕ → List ℕ → Result Bool ToolFault → Type 0
 TellsPage form options octets (End bits) rows lines told end =
     (has_end : Bool) × (IsTrue has_end ↔ HasItsEnd form.coding form.order octets bits)
-    × (told ≡ end_text options.verbose options.records rows bits (octets_after octets bits) has_end)
+    × (told ≡ as_told options.records lines ++ end_text options.verbose options.records rows bits (octets_after octets bits) has_end)
     × (end ≡ Ok (has_end || not options.whole))
 TellsPage form options octets (Lines count) rows lines told end =
-    (told ≡ (as_told options.records lines ++ cond options.verbose (rows_text options.records rows) [])
-    ++ as_told options.records (cond (is_mostly_read rows count) [] few_line)) × (end ≡ Ok (is_mostly_read rows count))
+    (told ≡ as_told options.records lines
+    ++ lines_text options.verbose options.records rows count (lines_end_by_rtc form.order octets))
+    × (end ≡ Ok (is_mostly_read rows count && (lines_end_by_rtc form.order octets || not options.whole)))
 TellsPage form options octets (NoEnd bit) rows lines told end =
     (told ≡ as_told options.records lines ++ cond options.verbose (rows_text options.records rows) []) × (end ≡ Ok (not options.whole))
-TellsPage form options octets (Fault fault) rows lines told end = (told ≡ []) × (end ≡ Err fault)
+TellsPage form options octets (Fault fault) rows lines told end = (told ≡ as_told options.records lines) × (end ≡ Err fault)
 
 -- A page is decoded in the way that the options ask for, with exactly these lines for standard error; with `records`, objects of JSON
 -- instead, where each line that isn't one of `--verbose` is a notice. `TellsPage` says which lines, and when the result is complete.

@@ -1,13 +1,15 @@
 -- What octets are, as far as it decides how they are decoded.
-use Rattle.std.specs.Prelude.{ℕ, ◌≡◌, ◌⊎◌, List, [], ◌++◌, Option, Some, None, codes, find}
+use Rattle.std.specs.Prelude.{ℕ, ◌≡◌, ◌<◌, ◌≤◌, ◌⊎◌, List, [], ◌∷◌, ◌++◌, Option, Some, None, All, IsTrue, codes, find}
+use Rattle.page_code.specs.declared.Coding.{Coding}
+use Rattle.page_code.specs.declared.Coding.TheVariants.{OneDim, T6}
 use Rattle.raster.specs.declared.packed.Order.TheVariants.{LsbFirst, MsbFirst}
 use Rattle.raster.specs.Packed.{bits_of}
-use Rattle.page_files.specs.Identified.{AreTried, AreTwoDim, IsWay, SaysOwn, fits_one, format_line, format_of, identity_of, no_eols_line}
+use Rattle.page_files.specs.Identified.{AreOneDimTried, AreTried, AreTwoDim, IsWay, fits_one, format_line, format_of, identity_of, no_eols_line}
 use Rattle.page_files.specs.Identified.{tried_line, tried_widths, two_dim_line, wide_line}
 use Rattle.page_files.specs.NoEols.{FirstAlone}
 use Rattle.page_files.specs.declared.found.Found.{Found}
 use Rattle.page_files.specs.declared.found.Found.TheVariants as found
-use Rattle.page_files.specs.declared.identify.Fit.TheVariants.{Whole, NoEofb, Early, Mended}
+use Rattle.page_files.specs.declared.identify.Fit.TheVariants.{Whole, NoEofb, Early, Mended, Begun}
 use Rattle.page_files.specs.declared.identify.Identity.{Identity}
 use Rattle.page_files.specs.declared.identify.Identity.TheVariants.{Known, Several, Nothing}
 use Rattle.page_files.specs.declared.identify.Said.{Said}
@@ -24,17 +26,55 @@ abbrev pub best_of : List ℕ → List Tried → Option Tried
 best_of octets tried = or_way (find (fits_one Whole octets) tried) (or_way (find (fits_one NoEofb octets) tried)
     (or_way (find (fits_one Early octets) tried) (find (fits_one Mended octets) tried)))
 
--- what octets are that begin as no known format
-abbrev pub found_by : Identity → Option Tried → Found
-found_by Known (Some one) = found.Page one
-found_by Known None = found.Nothing
-found_by Several best = found.Several
-found_by (Nothing fault) best = found.Nothing
+-- The least rows by which damaged octets are known in a code. One row of T.4 comes by chance in octets of T.6, and where a page of T.4 in two
+-- dimensions begins.
+abbrev pub least_rows : Coding → ℕ
+least_rows OneDim = 2
+least_rows T6 = 1
+
+-- the way is one in this code in which octets begin with rows, not too few, and read to no page's end
+abbrev pub HasBegun : Coding → List ℕ → Tried → Type 0
+HasBegun coding octets one = (one.form.coding ≡ coding) × IsTrue (fits_one Begun octets one) × (least_rows coding ≤ one.rows)
+
+-- Of the ways in this code in which octets begin so, this one reads the most rows: no other one reads more, and none before it as
+-- many.
+pub record ReadsMost (coding : Coding) (octets : List ℕ) (tried : List Tried) (one : Tried) : Type 0 where
+  pub before : List Tried
+  pub after : List Tried
+  pub among : tried ≡ before ++ one ∷ after
+  pub begun : HasBegun coding octets one
+  pub most : All (λ other. HasBegun coding octets other → other.rows ≤ one.rows) tried
+  pub first : All (λ other. HasBegun coding octets other → other.rows < one.rows) before
+
+-- in no way in this code octets begin so
+abbrev pub NoneHasBegun : Coding → List ℕ → List Tried → Type 0
+NoneHasBegun coding octets tried = All (λ other. ¬ HasBegun coding octets other) tried
+
+-- the way in this code that reads the most rows, if there is one
+abbrev pub IsMost : Coding → List ℕ → List Tried → Option Tried → Type 0
+IsMost coding octets tried (Some one) = ReadsMost coding octets tried one
+IsMost coding octets tried None = NoneHasBegun coding octets tried
+
+-- the way in which damaged octets read furthest: that of T.4 that reads the most rows; or else that of T.6, since any octets have a few
+-- rows of T.6 by chance
+abbrev pub IsFurthest : List ℕ → List Tried → Option Tried → Type 0
+IsFurthest octets tried most = ((one : Tried) × ReadsMost OneDim octets tried one × (most ≡ Some one))
+    ⊎ (NoneHasBegun OneDim octets tried × IsMost T6 octets tried most)
+
+-- What octets are that begin as no known format, by the best way in which they read as a page, and the one in which they read furthest
+-- if they are no page.
+abbrev pub found_by : Identity → Option Tried → Option Tried → Found
+found_by Known (Some one) furthest = found.Page one
+found_by Known None furthest = found.Nothing
+found_by Several best furthest = found.Several
+found_by (Nothing fault) best (Some one) = found.Begun one
+found_by (Nothing fault) best None = found.Nothing
 
 -- it is a format of this name
 abbrev pub IsFormat : List ℕ → Found → Type 0
 IsFormat name (found.Format given) = given.now ≡ name
 IsFormat name (found.Page one) = ⊥
+IsFormat name (found.Begun one) = ⊥
 IsFormat name found.Several = ⊥
 IsFormat name found.Nothing = ⊥
 
@@ -43,7 +83,9 @@ pub record IsBest (octets : List ℕ) (what : Found) : Type 0 where
   pub tried : List Tried
   pub own : Said
   pub are_tried : AreTried octets tried own
-  pub found_is : what ≡ found_by (identity_of None octets tried) (best_of octets tried)
+  pub furthest : Option Tried
+  pub is_furthest : IsFurthest octets tried furthest
+  pub found_is : what ≡ found_by (identity_of None octets tried) (best_of octets tried) furthest
 
 -- What octets are: the format that they begin as, or what the ways in which they read say, as `identify` says it.
 abbrev pub Finds : List ℕ → Found → Type 0
@@ -54,18 +96,21 @@ Finds octets what = ((name : List ℕ) × (format_of octets ≡ Some name) × Is
 abbrev pub found_line : List ℕ → Found → List ℕ
 found_line octets (found.Format name) = format_line (Some name.now)
 found_line octets (found.Page one) = tried_line octets one
+found_line octets (found.Begun one) = tried_line octets one
 found_line octets found.Several = codes "the width is not known\n"
 found_line octets found.Nothing = []
 
--- the lines of what octets may be that isn't read: T.4 of a width that no page can have, T.4 in two dimensions, T.4 without EOLs
+-- the lines of what octets may be that isn't read: T.4 of a width that no page can have, T.4 in two dimensions if no two rows of T.4 are
+-- read, T.4 without EOLs
 abbrev pub UnreadLines : List ℕ → List ℕ → Type 0
-UnreadLines octets lines = (own_msb own_lsb two_msb two_lsb : Option ℕ) × (first_msb first_lsb : Option (ℕ × ℕ))
-    × SaysOwn MsbFirst octets own_msb × SaysOwn LsbFirst octets own_lsb × AreTwoDim octets two_msb two_lsb
+UnreadLines octets lines = (tried : List Tried) × (own : Said) × (two_msb two_lsb : Option ℕ) × (first_msb first_lsb : Option (ℕ × ℕ))
+    × AreOneDimTried octets tried own × AreTwoDim octets two_msb two_lsb
     × FirstAlone (bits_of MsbFirst octets) tried_widths first_msb × FirstAlone (bits_of LsbFirst octets) tried_widths first_lsb
-    × (lines ≡ wide_line MsbFirst own_msb ++ (wide_line LsbFirst own_lsb ++ (two_dim_line MsbFirst two_msb
-    ++ (two_dim_line LsbFirst two_lsb ++ (no_eols_line MsbFirst first_msb ++ no_eols_line LsbFirst first_lsb)))))
+    × (lines ≡ wide_line MsbFirst own.msb ++ (wide_line LsbFirst own.lsb ++ (two_dim_line MsbFirst tried two_msb
+    ++ (two_dim_line LsbFirst tried two_lsb ++ (no_eols_line MsbFirst first_msb ++ no_eols_line LsbFirst first_lsb)))))
 
--- a page's width is one that pages have
+-- the width of a page, also of a damaged one, is one that pages have
 abbrev pub HasItsWidth : Found → Type 0
 HasItsWidth (found.Page one) = IsWay one
+HasItsWidth (found.Begun one) = IsWay one
 HasItsWidth what = Unit {0}

@@ -1,6 +1,6 @@
 -- What `faxtool identify` says of octets: the format that they begin as, and in which ways they read as a page.
-use Rattle.std.specs.Prelude.{ℕ, ◌≡◌, ◌+◌, ◌<◌, ◌⊎◌, Bool, true, false, List, [], ◌∷◌, ◌++◌, ◌||◌, ◌&&◌, Option, Some, None}
-use Rattle.std.specs.Prelude.{Result, Ok, Err, All, MatchResult, codes, cond, flat_map, if◌then◌else◌, is_some, length, map, nat_eq}
+use Rattle.std.specs.Prelude.{ℕ, ◌≡◌, ◌+◌, ◌<◌, Bool, true, false, List, [], ◌∷◌, ◌++◌, ◌||◌, ◌&&◌, Option, Some, None}
+use Rattle.std.specs.Prelude.{Result, Ok, Err, All, MatchResult, codes, cond, drop, find, flat_map, if◌then◌else◌, is_some, length, map, nat_eq}
 use Rattle.std.specs.Prelude.{nat_lt, not, sum, take}
 use Rattle.std.specs.Fmt.{decimal}
 use Rattle.std.specs.Io.KnownBytes.{Appends}
@@ -13,14 +13,13 @@ use Rattle.raster.specs.Pixels.{IsWidth, max_width}
 use Rattle.page_code.specs.declared.Coding.{Coding}
 use Rattle.page_code.specs.declared.Coding.TheVariants.{OneDim, T6}
 use Rattle.page_code.specs.Codings.{ReadsIn}
-use Rattle.page_code.specs.OneDimension.Repairs.{IsRepair}
+use Rattle.page_code.specs.OneDimension.Repairs.{IsFirstLine, IsRepair}
+use Rattle.run_tables.specs.RowLaws.{ReadsAsRow}
 use Rattle.page_code.specs.RowsSoFar.{AreWholeRows}
-use Rattle.page_code.specs.declared.one_dim.repair.RepairedRow.{RepairedRow}
 use Rattle.page_files.specs.Answers.{octets_after}
 use Rattle.page_files.specs.CodedPages.{RefusesCode}
 use Rattle.page_files.specs.NoEols.{FirstAlone}
 use Rattle.page_files.specs.OwnWidths.{SaysTwoDim, SaysWidth}
-use Rattle.page_files.specs.Repairs.{RefusesLines}
 use Rattle.faults.specs.FaultKinds.{kind_of}
 use Rattle.faults.specs.Faults.{fault_text}
 use Rattle.faults.specs.declared.fault.ToolFault.{ToolFault}
@@ -108,12 +107,17 @@ ReadsTo octets form rows end = MatchResult end
     (λ fault. RefusesCode form.coding form.order form.width octets fault × ((page : List (List Color))
     × AreWholeRows form.coding form.width (bits_of form.order octets) page × (rows ≡ length page)))
 
--- how many rows `decode --repair` gives of T.4, if it copies none; else it copies one or more, or gives no page
+-- a row of the width begins at the place of the first line
+abbrev pub HasFirstRow : ℕ → List Bool → Type 0
+HasFirstRow width bits = (start used : ℕ) × (row : List Color) × IsFirstLine bits start × ReadsAsRow width (drop start bits) row used
+
+-- How many rows `decode --repair` gives of T.4, if it copies none. None if it copies a row, or refuses the octets: no page with a row is
+-- given without a copied one. The two say the same: bits give one page at most (law `OneRepair`), and `decode --repair` refuses it only if
+-- no row of it is read.
 abbrev pub MendsTo : Order → ℕ → List ℕ → Option ℕ → Type 0
-MendsTo order width octets (Some rows) = (page : List (List Color)) × IsRepair width (bits_of order octets) page [] × (rows ≡ length page)
-MendsTo order width octets None =
-    ((page : List (List Color)) × (repaired : List RepairedRow) × IsRepair width (bits_of order octets) page repaired
-    × (0 < length repaired)) ⊎ ((fault : ToolFault) × RefusesLines order width octets fault)
+MendsTo order width octets (Some rows) =
+    (page : List (List Color)) × IsRepair width (bits_of order octets) page [] × (rows ≡ length page) × (0 < rows)
+MendsTo order width octets None = (page : List (List Color)) → IsRepair width (bits_of order octets) page [] → page ≡ []
 
 -- `decode --repair` is tried on what is refused in T.4
 abbrev pub IsMended : List ℕ → PageForm → Coding → Result ℕ ToolFault → Option ℕ → Type 0
@@ -132,6 +136,13 @@ IsTried octets tried = IsWay tried × ReadsTo octets tried.form tried.rows tried
 -- the way that was tried
 abbrev pub form_of : Tried → PageForm
 form_of tried = tried.form
+
+-- the octets were tried in the ways of T.4, in their order, and the result of each is right
+pub record AreOneDimTried (octets : List ℕ) (tried : List Tried) (own : Said) : Type 0 where
+  pub msb_is : SaysOwn MsbFirst octets own.msb
+  pub lsb_is : SaysOwn LsbFirst octets own.lsb
+  pub forms_are : map form_of tried ≡ own_forms MsbFirst own.msb ++ own_forms LsbFirst own.lsb
+  pub each : All (IsTried octets) tried
 
 -- the octets were tried in all ways of the list, in its order, and the result of each is right
 pub record AreTried (octets : List ℕ) (tried : List Tried) (own : Said) : Type 0 where
@@ -240,10 +251,27 @@ identity_of (Some name) octets tried = Known
 identity_of None octets tried = cond (nat_eq (count_pages octets tried) 0) (Nothing (no_page octets))
     (cond (nat_eq (count_pages octets tried) 1 || nat_eq (count_of Whole octets tried) 1) Known Several)
 
--- the line of a width in T.4 in two dimensions, which isn't read
-abbrev pub two_dim_line : Order → Option ℕ → List ℕ
-two_dim_line order None = []
-two_dim_line order (Some width) = cond (nat_lt 0 width)
+-- one order of bits is another
+abbrev pub same_order : Order → Order → Bool
+same_order MsbFirst MsbFirst = true
+same_order LsbFirst LsbFirst = true
+same_order order other = false
+
+-- this way reads two rows or more of T.4 in this order of bits
+abbrev pub reads_rows : Order → Coding → Order → ℕ → Bool
+reads_rows order OneDim other rows = same_order order other && nat_lt 1 rows
+reads_rows order T6 other rows = false
+
+-- a way of T.4 in this order of bits reads two rows or more
+abbrev pub has_rows : Order → List Tried → Bool
+has_rows order tried = is_some (find (λ one. reads_rows order one.form.coding one.form.order one.rows) tried)
+
+-- The line of a width in T.4 in two dimensions, which isn't read. Of such a page one row is read, the first one, since it is coded in one
+-- dimension. So the line is written only if no way of T.4 in this order of bits reads two rows. One row proves nothing: the 1 before the
+-- first row and the row's code words are mostly code words of another row too.
+abbrev pub two_dim_line : Order → List Tried → Option ℕ → List ℕ
+two_dim_line order tried None = []
+two_dim_line order tried (Some width) = cond (nat_lt 0 width && not (has_rows order tried))
     (codes "T.4 in two dimensions (MR), " ++ (order_name order ++ (codes ", width " ++ (decimal width ++ codes ": not read\n")))) []
 
 -- what octets say of their width in T.4 in two dimensions, most and least significant bit first
@@ -251,10 +279,11 @@ abbrev pub AreTwoDim : List ℕ → Option ℕ → Option ℕ → Type 0
 AreTwoDim octets msb lsb = SaysTwoDim (bits_of MsbFirst octets) msb × SaysTwoDim (bits_of LsbFirst octets) lsb
 
 -- What is written of octets that are nothing known: a line for each way that reads a first row (`.. width 1728: fault 11 at bit 3999
--- after 27 rows`), one for a width that no page can have, and one if they begin as T.4 in two dimensions.
+-- after 27 rows`), one for a width that no page can have, and one if they begin as T.4 in two dimensions, in an order of bits in which no
+-- two rows of T.4 are read.
 abbrev pub nothing_lines : List ℕ → List Tried → Said → Option ℕ → Option ℕ → List ℕ
 nothing_lines octets tried own msb lsb = lines_of Begun octets tried ++ (wide_line MsbFirst own.msb ++ (wide_line LsbFirst own.lsb
-    ++ (two_dim_line MsbFirst msb ++ two_dim_line LsbFirst lsb)))
+    ++ (two_dim_line MsbFirst tried msb ++ two_dim_line LsbFirst tried lsb)))
 
 -- what is written after the lines of the ways: of several ways, that the width isn't known; of nothing, as above
 abbrev pub TellsIdentity : List ℕ → List Tried → Said → Identity → Option (List ℕ) → Option (List ℕ) → Type 0

@@ -7,6 +7,7 @@ pub mod Decodings
 pub mod PageEnds
 pub mod Answers
 pub mod LaterPages
+pub mod TurnedPages
 pub mod OwnWidths
 pub mod NoEols
 pub mod NextT6

@@ -2,7 +2,9 @@
 
 ghost use Rattle.page_files.specs.Answers.{octets_after};
 ghost use Rattle.faults.specs.Faults.{IsOutside};
-ghost use Rattle.page_files.specs.Identified.{AreTried, AreTwoDim, Identifies, IsTried, MendsTo, SaysOwn, TellsIdentity, after_words};
+ghost use Rattle.page_files.specs.Identified.{AreOneDimTried, AreTried, AreTwoDim, HasFirstRow, Identifies, IsTried, MendsTo, SaysOwn};
+ghost use Rattle.page_files.specs.Identified.{has_rows, reads_rows, same_order};
+ghost use Rattle.page_files.specs.Identified.{TellsIdentity, after_words};
 ghost use Rattle.page_files.specs.Identified.{coding_name, count_of, fits, form_of, format_among, format_line, format_of, forms_in};
 ghost use Rattle.page_files.specs.Identified.{identity_of, lacks_eofb, line_of, lines_of, no_page, nothing_lines, order_name, own_forms};
 ghost use Rattle.page_files.specs.Identified.{tried_line, two_dim_line, wide_line};
@@ -10,16 +12,16 @@ ghost use Rattle.page_files.specs.OwnWidths.{SaysTwoDim};
 ghost use Rattle.raster.specs.Packed.{bits_of};
 ghost use Rattle.raster.specs.Pixels.{IsWidth};
 ghost use Rattle.std.specs.Io.KnownBytes.{Appends};
-ghost use Rattle.std.specs.Prelude.{◌≡◌, ◌≤◌, ◌++◌, ℕ, Option, All, IfErr, IfOk, OnOk, length, map, option_map};
+ghost use Rattle.std.specs.Prelude.{◌≡◌, ◌≤◌, ◌++◌, ◌↔◌, ℕ, Option, All, IfErr, IfOk, IsTrue, OnOk, length, map, option_map};
 
 use crate::coded::read_code;
 use crate::no_eols::tell_alone;
 use crate::options::PageForm;
-use crate::own_widths::{own_width, two_dim_width};
+use crate::own_widths::{first_line, own_width, two_dim_width};
 use faults::{FaultKind, NO_MEMORY, ToolFault};
 use page_code::{Coding, OneDim, RepairedPage};
 use raster::MAX_WIDTH;
-use run_tables::Order;
+use run_tables::{BitReader, Order};
 use std::alloc::Global;
 use std::io::Write;
 
@@ -62,9 +64,9 @@ pub enum Identity {
     Nothing(ToolFault),
 }
 
-/// The widths that are tried where the octets say none: those that a call carries, those of A5 and A6 (ITU-T T.30, table 2), and those of
-/// Letter and A4 paper at 200 dots an inch.
-pub(crate) const WIDTHS: [u32; 7] = [1728, 2048, 2432, 1216, 864, 1700, 1654];
+/// The widths in pixels that are tried if octets say none themselves: those that a call carries, those of A5 and A6 (ITU-T T.30, table 2),
+/// and those of Letter and A4 paper at 200 dots an inch.
+pub const WIDTHS: [u32; 7] = [1728, 2048, 2432, 1216, 864, 1700, 1654];
 
 /// A format: the octets that its files begin with, and its name.
 #[derive(Clone, Copy)]
@@ -125,20 +127,38 @@ pub(crate) fn format_of(octets: &[u8]) -> Option<&'static str>
     format_among(&FORMATS, octets)
 }
 
+/// Returns whether a row of T.4 of this width in pixels begins where the first line does. Errors: `NoMemory` (9).
+fn has_first_row(alloc: Global, octets: &[u8], order: Order, width: u32) -> Result<bool, ToolFault>
+    requires { IsWidth width }
+    ensures row { IfOk result (λ has. IsTrue has ↔ HasFirstRow width (bits_of order octets.now)) }
+    ensures refused { IfErr result IsOutside }
+{
+    let start = first_line(octets, order);
+    let mut reader = BitReader::at(octets, order, start);
+    match reader.read_row_1d(alloc, width) {
+        Ok(_row) => Ok(true),
+        Err(fault) if fault.is_memory() => Err(NO_MEMORY),
+        Err(_fault) => Ok(false),
+    }
+}
+
 /// Returns the number of rows of a page of T.4, if `decode --repair` reads all of them and copies none. Errors: `NoMemory` (9).
 fn mended_rows(alloc: Global, octets: &[u8], form: PageForm) -> Result<Option<usize>, ToolFault>
     requires { IsWidth form.width }
     ensures rows { IfOk result (MendsTo form.order form.width octets.now) }
     ensures refused { IfErr result IsOutside }
 {
+    // a page with no copied row begins with a row: most ways are refused here, without reading all octets
+    if !has_first_row(alloc, octets, form.order, form.width)? {
+        return Ok(None);
+    }
     match OneDim::repair(alloc, octets, form.order, form.width, form.fine) {
         Ok(RepairedPage { page, repaired }) => {
-            let rows = page.rows().len();
-            Ok(if repaired.is_empty() {
-                Some(rows)
+            if repaired.is_empty() {
+                Ok(Some(page.rows().len()))
             } else {
-                None
-            })
+                Ok(None)
+            }
         }
         Err(fault) if fault.is_memory() => Err(NO_MEMORY),
         Err(_fault) => Ok(None),
@@ -244,8 +264,19 @@ fn try_own(
 /// The widths that octets say themselves in T.4, by the order of bits: if the most significant bit is first, and if the least is.
 #[derive(Clone, Copy, Debug, PartialEq, Eq)]
 pub(crate) struct Said {
-    msb: Option<u128>,
-    lsb: Option<u128>,
+    pub(crate) msb: Option<u128>,
+    pub(crate) lsb: Option<u128>,
+}
+
+/// Reads octets in T.4, at its own width or in seven, in both bit orders, and returns what `try_ways` does. Errors: `NoMemory` (9).
+pub(crate) fn try_one_dim(alloc: Global, octets: &[u8]) -> Result<(Vec<Tried>, Said), ToolFault>
+    ensures tried { IfOk result (λ ways. AreOneDimTried octets.now ways.0.items ways.1) }
+    ensures refused { IfErr result IsOutside }
+{
+    let mut tried = Vec::new(alloc);
+    let msb = try_own(alloc, octets, Order::MsbFirst, &mut tried)?;
+    let lsb = try_own(alloc, octets, Order::LsbFirst, &mut tried)?;
+    Ok((tried, Said { msb, lsb }))
 }
 
 /// Reads octets in all ways that are tried: T.4 at its own width, or in seven as T.6, both in both bit orders; and returns for each how far
@@ -255,9 +286,7 @@ pub(crate) fn try_ways(alloc: Global, octets: &[u8]) -> Result<(Vec<Tried>, Said
     ensures tried { IfOk result (λ ways. AreTried octets.now ways.0.items ways.1) }
     ensures refused { IfErr result IsOutside }
 {
-    let mut tried = Vec::new(alloc);
-    let msb = try_own(alloc, octets, Order::MsbFirst, &mut tried)?;
-    let lsb = try_own(alloc, octets, Order::LsbFirst, &mut tried)?;
+    let (mut tried, said) = try_one_dim(alloc, octets)?;
     try_widths(
         alloc,
         octets,
@@ -274,7 +303,7 @@ pub(crate) fn try_ways(alloc: Global, octets: &[u8]) -> Result<(Vec<Tried>, Said
         &WIDTHS,
         &mut tried,
     )?;
-    Ok((tried, Said { msb, lsb }))
+    Ok((tried, said))
 }
 
 /// The name of a code.
@@ -442,17 +471,51 @@ pub(crate) fn tell_wide<W: Write>(
     Ok(())
 }
 
-/// Writes the line of a width that octets say themselves in T.4 in two dimensions, if they say one.
+/// Returns whether two orders of bits are the same.
+fn is_same_order(order: Order, other: Order) -> bool
+    ensures { result ≡ same_order order other }
+{
+    match (order, other) {
+        (Order::MsbFirst, Order::MsbFirst) | (Order::LsbFirst, Order::LsbFirst) => true,
+        (Order::MsbFirst, Order::LsbFirst) | (Order::LsbFirst, Order::MsbFirst) => false,
+    }
+}
+
+/// Returns whether a way is one of T.4 in this order of bits that reads two rows or more.
+fn reads_rows(order: Order, one: &Tried) -> bool
+    ensures { result ≡ reads_rows order one.now.form.coding one.now.form.order one.now.rows }
+{
+    match one.form.coding {
+        Coding::OneDim => is_same_order(order, one.form.order) && one.rows > 1,
+        Coding::T6 => false,
+    }
+}
+
+/// Returns whether a way of T.4 in this order of bits reads two rows or more.
+fn has_rows(order: Order, tried: &[Tried]) -> bool
+    ensures { result ≡ has_rows order tried.now }
+{
+    for one in tried {
+        if reads_rows(order, one) {
+            return true;
+        }
+    }
+    false
+}
+
+/// Writes the line of a width that octets say themselves in T.4 in two dimensions, if they say one and no way of T.4 in this order of bits
+/// reads two rows.
 fn tell_two_dim_width<W: Write>(
     order: Order,
+    tried: &[Tried],
     said: Option<u128>,
     writer: &mut W,
 ) -> Result<(), ToolFault>
-    ensures told { OnOk result (Appends (W.contents writer.old) (W.contents writer.new) (two_dim_line order said)) }
+    ensures told { OnOk result (Appends (W.contents writer.old) (W.contents writer.new) (two_dim_line order tried.now said)) }
     ensures fault { IfErr result IsOutside }
 {
     match said {
-        Some(width) if width > 0 => {
+        Some(width) if width > 0 && !has_rows(order, tried) => {
             let order = order_name(order);
             writeln!(
                 writer,
@@ -464,18 +527,19 @@ fn tell_two_dim_width<W: Write>(
     Ok(())
 }
 
-/// Writes the line of a page of T.4 in two dimensions, if octets begin as one.
+/// Writes the line of a page of T.4 in two dimensions, if octets begin as one and no way of T.4 in this order of bits reads two rows.
 pub(crate) fn tell_two_dim<W: Write>(
     octets: &[u8],
     order: Order,
+    tried: &[Tried],
     writer: &mut W,
 ) -> Result<(), ToolFault>
     ensures told { OnOk result ((said : Option ℕ) × SaysTwoDim (bits_of order octets.now) said
-        × Appends (W.contents writer.old) (W.contents writer.new) (two_dim_line order said)) }
+        × Appends (W.contents writer.old) (W.contents writer.new) (two_dim_line order tried.now said)) }
     ensures fault { IfErr result IsOutside }
 {
     let said = two_dim_width(octets, order);
-    tell_two_dim_width(order, said, writer)?;
+    tell_two_dim_width(order, tried, said, writer)?;
     Ok(())
 }
 
@@ -537,8 +601,8 @@ fn tell_nothing<W: Write>(
     tell_those(Fit::Begun, octets, tried, writer)?;
     tell_wide(Order::MsbFirst, said.msb, writer)?;
     tell_wide(Order::LsbFirst, said.lsb, writer)?;
-    tell_two_dim(octets, Order::MsbFirst, writer)?;
-    tell_two_dim(octets, Order::LsbFirst, writer)?;
+    tell_two_dim(octets, Order::MsbFirst, tried, writer)?;
+    tell_two_dim(octets, Order::LsbFirst, tried, writer)?;
     Ok(())
 }
 
@@ -564,8 +628,9 @@ fn tell_identity<W: Write>(
 /// Writes the format that octets begin as, if it is known, and a line for each way in which they read as a page: first those without octets
 /// after it, then those without EOFB, then those with octets after it, then those of `decode --repair`. Where several ways read, says that
 /// the width isn't known, unless one of them alone ends with the octets. With neither, writes how far each way reads that has a first row,
-/// a width that no page can have, that it begins as T.4 in two dimensions, and that it is T.4 without EOLs; then the identity has the
-/// fault: `NoPages` (7) if there is no octet, otherwise `Unidentified` (29). Errors: `Io` (8) from the writer, `NoMemory` (9).
+/// a width that no page can have, that it begins as T.4 in two dimensions (if no two rows of T.4 are read in this order of bits), and that
+/// it is T.4 without EOLs; then the identity has the fault: `NoPages` (7) if there is no octet, otherwise `Unidentified` (29). Errors:
+/// `Io` (8) from the writer, `NoMemory` (9).
 pub fn identify_engine<W: Write>(
     alloc: Global,
     octets: &[u8],

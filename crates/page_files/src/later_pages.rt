@@ -16,6 +16,7 @@ ghost use Rattle.std.specs.Prelude.{◌↔◌, IfErr, IfOk, IfSome, IsTrue, OnEr
 use crate::answer::{DecodeAnswer, answer_decode};
 use crate::coded::read_code;
 use crate::decode_records::{told_as, write_begins};
+use crate::file_pages::FilePages;
 use crate::options::{DecodeOptions, PageForm};
 use faults::ToolFault;
 use page_code::{Coding, RefusedCode};
@@ -23,6 +24,7 @@ use raster::Page;
 use raster::packed::{Order, bit_of};
 use std::alloc::Global;
 use std::io::Write;
+use std::mem;
 
 /// What follows some pages of a file.
 #[derive(Clone, Copy, Debug, PartialEq, Eq)]
@@ -98,8 +100,9 @@ fn later_t6(octets: &[u8], from: usize) -> Option<u128>
     None
 }
 
-/// Returns the bit at which the page begins that follows the first one, of the first `used` bits.
-fn later_in(octets: &[u8], form: PageForm, used: u128) -> Option<u128>
+/// Returns the bit at which the page begins that follows the first one, of the first `used` bits; None if none follows. The width isn't
+/// used.
+pub fn later_in(octets: &[u8], form: PageForm, used: u128) -> Option<u128>
     ensures later { IsLater form octets.now used result }
     ensures within { IfSome result (λ start. start ≤ 8 * length octets.now) }
 {
@@ -113,7 +116,7 @@ fn later_in(octets: &[u8], form: PageForm, used: u128) -> Option<u128>
 }
 
 /// Returns an octet with its first `count` bits, one to seven, set to 0.
-fn without_first(order: Order, octet: u8, count: u32) -> u8
+pub fn without_first(order: Order, octet: u8, count: u32) -> u8
     requires some { 0 < count }
     requires few { count < 8 }
     ensures inside { (k : ℕ) → k < count → bit_at result (place_in order k) ≡ 0 }
@@ -125,62 +128,25 @@ fn without_first(order: Order, octet: u8, count: u32) -> u8
     }
 }
 
-/// Drops the octets before the one with this bit, and sets the bits before it in that octet to 0.
-fn cut_before(octets: &mut Vec<u8>, order: Order, start: u128)
-    requires { start ≤ 8 * length octets.old.items }
-    ensures { IsFrom order start octets.old.items octets.new.items }
-{
-    let first = (start / 8) as usize;
-    drop(octets.drain(..first));
-    let fill = (start % 8) as u32;
-    if fill > 0 {
-        octets[0] = without_first(order, octets[0], fill);
-    }
-}
-
-/// Drops the first page if another follows, and returns whether it did. If none follows, or the page can't be read, the octets stay.
-/// Errors: the refusal, at its bit, and then `kept` holds how far the page was read; `NoMemory` (9).
-pub fn skip_page(
-    alloc: Global,
-    octets: &mut Vec<u8>,
-    form: PageForm,
-    kept: &mut Option<RefusedCode>,
-) -> Result<bool, ToolFault>
-    requires { IsWidth form.width }
-    ensures skipped { IfOk result (λ more. AfterPage more form octets.old.items octets.new.items) }
-    ensures none { IfOk result (λ more. kept.new ≡ None) }
-    ensures known { IfSome kept.new (IsPageRefused form.coding form.width (bits_of form.order octets.old.items)) }
-    ensures refused { IfErr result (RefusesKept kept.new form octets.old.items) }
-    ensures stays { OnErr result (octets.new.items ≡ octets.old.items) }
-{
-    // only reading a page to its end shows where the next one begins, in whatever way that is decoded; the page isn't kept
-    let (_page, used) = read_code(alloc, octets, form, kept)?;
-    let Some(start) = later_in(octets, form, used) else {
-        return Ok(false);
-    };
-    cut_before(octets, form.order, start);
-    Ok(true)
-}
-
-/// Drops `pages` pages (1 to 2,432 pixels wide) with what lies between each and the next, and returns what follows. Then the octets begin
-/// with the page that follows; or with the last page, if it is one of these; or with the first page that can't be read, and then `kept`
-/// holds how far it was read, otherwise None. Errors: `NoMemory` (9).
+/// Passes `pages` pages with what lies between each and the next, and returns what follows. The pages left then begin with the page that
+/// follows; or with the last page, if it is one of these; or with the first page that can't be read, and then `kept` holds how far it was
+/// read, otherwise None. Errors: `NoMemory` (9).
 fn skip_pages(
     alloc: Global,
-    octets: &mut Vec<u8>,
-    form: PageForm,
+    left: &mut FilePages,
     pages: u32,
     kept: &mut Option<RefusedCode>,
 ) -> Result<Reached, ToolFault>
-    requires { IsWidth form.width }
-    ensures reached { IfOk result (λ reached. Reaches form pages octets.old.items octets.new.items reached) }
-    ensures known { IfSome kept.new (IsPageRefused form.coding form.width (bits_of form.order octets.new.items)) }
+    ensures form { left.new.form ≡ left.old.form }
+    ensures reached { IfOk result (λ reached. Reaches left.old.form pages left.old.octets left.new.octets reached) }
+    ensures known { IfSome kept.new (IsPageRefused left.old.form.coding left.old.form.width
+        (bits_of left.old.form.order left.new.octets)) }
     ensures kept { IfOk result (KeepsReached kept.new) }
     ensures refused { IfErr result IsOutside }
 {
     *kept = None;
     for before in 0..pages {
-        match skip_page(alloc, octets, form, kept) {
+        match left.skip(alloc, kept) {
             Ok(true) => {}
             Ok(false) => return Ok(Reached::End(before + 1)),
             Err(fault) => {
@@ -310,7 +276,10 @@ pub fn answer_page(
     ensures kept_rows { options.repair ≡ false → IfOk result (λ answer. IfErr answer.end (KeepsPage kept.new)) }
 {
     let size = octets.len();
-    let reached = skip_pages(alloc, octets, form, page.saturating_sub(1), kept)?;
+    let mut left = FilePages::new(mem::replace(octets, Vec::new(alloc)), form);
+    let found = skip_pages(alloc, &mut left, page.saturating_sub(1), kept);
+    *octets = left.into_octets();
+    let reached = found?;
     let octet = size.saturating_sub(octets.len());
     let none = Page::new(alloc, form.width, form.fine)?;
     let mut lines = Vec::new(alloc);

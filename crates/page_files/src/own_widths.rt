@@ -1,12 +1,13 @@
 //! The width that a page of T.4 says of itself, since an EOL ends each of its rows (ITU-T T.4, 4.1.2).
 
 ghost use Rattle.page_code.specs.OneDimension.Pages.{EolBegins};
-ghost use Rattle.page_code.specs.OneDimension.Repairs.{EndsPage, EolOf};
+ghost use Rattle.page_code.specs.OneDimension.Repairs.{EndsPage, EolOf, IsFirstLine};
 ghost use Rattle.page_files.specs.OwnWidths.{RowSays, SaysTwoDim, SaysWidth};
 ghost use Rattle.raster.specs.Packed.{bits_of};
 ghost use Rattle.std.specs.Prelude.{◌≤◌, ◌*◌, ◌↔◌, IfNone, IfSome, IsTrue, drop, length};
 
-use crate::later_pages::{EOL_ZEROS, zeros_at};
+use crate::later_pages::EOL_ZEROS;
+use crate::zeros::zeros_from;
 use raster::Color;
 use run_tables::{BitReader, Order};
 
@@ -16,9 +17,20 @@ fn after_eol(octets: &[u8], order: Order) -> Option<u128>
     ensures none { IfNone result (¬ EolBegins (bits_of order octets.now)) }
     ensures within { IfSome result (λ start. start ≤ 8 * length octets.now) }
 {
-    match zeros_at(octets, order, 0) {
+    match zeros_from(octets, order, 0) {
         Some(zeros) if zeros >= EOL_ZEROS => Some(zeros + 1),
         _ => None,
+    }
+}
+
+/// Returns the bit at which the first line begins: after the EOL that octets begin with, or their first bit if they begin with none.
+pub(crate) fn first_line(octets: &[u8], order: Order) -> u128
+    ensures first { IsFirstLine (bits_of order octets.now) result }
+    ensures within { result ≤ 8 * length octets.now }
+{
+    match after_eol(octets, order) {
+        Some(start) => start,
+        None => 0,
     }
 }
 
@@ -27,7 +39,7 @@ fn ends_row(octets: &[u8], order: Order, place: u128) -> bool
     requires { place ≤ 8 * length octets.now }
     ensures { IsTrue result ↔ EndsPage (drop place (bits_of order octets.now)) }
 {
-    match zeros_at(octets, order, place) {
+    match zeros_from(octets, order, place) {
         Some(zeros) => zeros >= EOL_ZEROS,
         None => true,
     }

@@ -4,8 +4,6 @@ use Rattle.page_files.proofs.identify.try_ways.Goals as goal
 
 pub returns-clause-tried : goal.returns-clause-tried
 returns-clause-tried c =
-    all_tried c.args.octets.now c.in_ok-msb.msb c.in_ok-lsb.lsb c.new-tried.result.items c.try_own.new.tried.items
-    c.try_own-2.new.tried.items c.try_widths.new.tried.items c.try_widths-2.new.tried.items c.new-tried.ensures.items
-    c.in_ok-msb.ensures.own c.in_ok-lsb.ensures.own c.in_ok-msb.ensures.forms c.in_ok-lsb.ensures.forms
-    c.in_ok-try_widths.ensures.forms c.in_ok-try_widths-2.ensures.forms c.in_ok-msb.ensures.each c.in_ok-lsb.ensures.each
-    c.in_ok-try_widths.ensures.each c.in_ok-try_widths-2.ensures.each
+    all_tried c.args.octets.now c.in_ok-tried.said c.in_ok-tried.tried.items c.try_widths.new.tried.items c.try_widths-2.new.tried.items
+    c.in_ok-tried.ensures.tried c.in_ok-try_widths.ensures.forms c.in_ok-try_widths-2.ensures.forms c.in_ok-try_widths.ensures.each
+    c.in_ok-try_widths-2.ensures.each

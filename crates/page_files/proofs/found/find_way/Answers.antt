@@ -1,0 +1,24 @@
+-- What the check asks of `find_way`.
+use Rattle.std.proofs.Common.{◌≡◌, List, rules, inr, subst}
+use Rattle.std.specs.Prelude.{None}
+use Rattle.page_files.specs.Found.{IsFurthest}
+use Rattle.page_files.specs.Identified.{format_of}
+use Rattle.page_files.specs.declared.identify.Tried.{Tried}
+use Rattle.page_files.proofs.found.find_way.Goals as goal
+
+pub returns-clause-found : goal.returns-clause-found
+returns-clause-found c =
+    let octets = c.args.octets.now in
+    let no_format : format_of octets ≡ None = search rules in
+    inr (
+      no_format,
+      record {
+        tried = c.in_ok-tried.tried.items;
+        own = c.in_ok-tried._said;
+        are_tried = c.in_ok-tried.ensures.tried;
+        furthest = c.furthest_of-furthest.result;
+        is_furthest = subst (λ (l : List Tried). IsFurthest octets l c.furthest_of-furthest.result) c.deref-3.ensures.value
+            c.furthest_of-furthest.ensures.furthest;
+        found_is = search rules;
+      },
+    )
