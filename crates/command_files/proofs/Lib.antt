@@ -1,3 +1,4 @@
 -- The lemmas of what commands share.
 pub mod ApartLemmas
 mod DocumentLemmas
+pub mod SystemTextLemmas

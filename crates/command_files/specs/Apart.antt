@@ -89,10 +89,6 @@ may_be_written role (Some name) = written_as role name ∷ []
 abbrev pub printed : NamedFile
 printed = written_as (codes "what is printed") (codes "-")
 
--- the file of the first page of one that `--each` decodes into a folder
-abbrev pub first_page_in : List ℕ → List ℕ → NamedFile
-first_page_in folder base = written_as (codes "a page of --each") (folder ++ (codes "/" ++ (base ++ codes "-1.pbm")))
-
 -- a file of a call's octets in the folder of `--bits`
 abbrev pub octets_in : List ℕ → List ℕ → NamedFile
 octets_in folder name = written_as (codes "a file of --bits") (folder ++ (codes "/" ++ name))

@@ -1,5 +1,7 @@
--- In which ways octets are read as a page, how an image begins and how many octets it has, and which octets of a file are kept.
-use Rattle.std.specs.Prelude.{◌≡◌, ◌⊎◌, ◌+◌, ◌*◌, ◌++◌, ◌&&◌, ℕ, Bool, true, nat_eq, List, [], ◌∷◌, Err, length, take}
+-- In which ways octets are read as a page, how an image begins and how many octets it has, which octets of a file are kept, and whether there
+-- is room for more below the greatest size of a file.
+use Rattle.std.specs.Prelude.{◌≡◌, ◌⊎◌, ◌+◌, ◌*◌, ◌++◌, ◌&&◌, ◌-◌, ◌/◌, ◌%◌, ℕ, Bool, true, false, nat_eq, nat_lt, List, Option, None, Some, [], ◌∷◌, Err, length, take}
+use Rattle.std.specs.Prelude.{if◌then◌else◌, option_map}
 use Rattle.raster.specs.Pages.{PagePixels}
 use Rattle.raster.specs.Faults.{number_of}
 use Rattle.raster.specs.Pbm.{read_images, stride}
@@ -9,10 +11,11 @@ use Rattle.raster.specs.declared.fault.RasterFault.{RasterFault}
 use Rattle.faults.specs.declared.fault.ToolFault.{ToolFault}
 use Rattle.faults.specs.declared.fault.ToolFault.TheVariants.{No}
 use Rattle.command_files.specs.declared.files.bounded.Ways.{Ways}
-use Rattle.command_files.specs.declared.files.bounded.Ways.TheVariants.{One, Tried, Any}
+use Rattle.command_files.specs.declared.files.bounded.Ways.TheVariants.{First, One, Tried, Any}
 
 -- a page has this width
 abbrev pub HavePageWidths : Ways → Type 0
+HavePageWidths (First form) = IsWidth form.width
 HavePageWidths (One form) = IsWidth form.width
 HavePageWidths Tried = Unit {0}
 HavePageWidths Any = Unit {0}
@@ -35,3 +38,22 @@ KeepsFirst room old read new = (new ≡ old ++ take room read) ⊎ (new ≡ old)
 -- the octets of a page's image: its header, and its rows, each filled to whole octets
 abbrev pub image_octets : PagePixels → ℕ
 image_octets page = length (header_text page.width (length page.rows)) + stride page.width * length page.rows
+
+-- the place in a file of this length that is written next, by where its descriptor stands and the flags that it was opened with: the end if
+-- 1024 (O_APPEND of Linux) is one of these
+abbrev pub next_place : ℕ → ℕ → ℕ → ℕ
+next_place length place flags = if nat_eq (flags / 1024 % 2) 1 then length else place
+
+-- the room that is left below the greatest size of a file of so many octets, if that is limited
+abbrev pub room_below : Option ℕ → ℕ → Option ℕ
+room_below most length = option_map (λ most. most - length) most
+
+-- the room that is left below the greatest size of a file of some length, if that is limited
+abbrev pub IsRoomBelow : Option ℕ → Option ℕ → Type 0
+IsRoomBelow None room = room ≡ None
+IsRoomBelow (Some most) room = (length : ℕ) × (room ≡ Some (most - length))
+
+-- octets would pass the room that is left below a file's greatest size: they are more, and it is limited
+abbrev pub passes : Option ℕ → List ℕ → Bool
+passes None octets = false
+passes (Some room) octets = nat_lt room (length octets)

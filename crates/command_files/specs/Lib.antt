@@ -2,4 +2,5 @@
 pub mod Apart
 pub mod Bounds
 pub mod Runs
+pub mod SystemTexts
 pub mod Told

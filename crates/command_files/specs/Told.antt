@@ -1,5 +1,6 @@
 -- What a fault is in words, with what the program alone knows of it.
-use Rattle.std.specs.Prelude.{ℕ, ◌≡◌, ◌+◌, ◌-◌, ◌^◌, ◌++◌, ◌∷◌, Bool, true, false, if◌then◌else◌, nat_eq, List, Option, Some, None}
+use Rattle.command_files.specs.declared.context.Cause.TheVariants.{Taken}
+use Rattle.std.specs.Prelude.{◌||◌, ℕ, ◌≡◌, ◌+◌, ◌-◌, ◌^◌, ◌++◌, ◌∷◌, Bool, true, false, if◌then◌else◌, nat_eq, List, Option, Some, None}
 use Rattle.std.specs.Prelude.{All, codes, is_some, length, min, option_map, unwrap_or}
 use Rattle.raster.specs.Pages.{PagePixels}
 use Rattle.signals.specs.Agreement.{width_of_pixels}
@@ -11,17 +12,19 @@ use Rattle.command_files.specs.declared.command.Names.{Names}
 use Rattle.command_files.specs.declared.context.Part.{Part}
 use Rattle.command_files.specs.declared.context.Part.TheVariants.{Answerer, Bits, Diagram, Input, Output, Printed, Script, Trace}
 use Rattle.std.specs.Fmt.{decimal}
-use Rattle.faults.specs.Explanations.{explained, name_text}
+use Rattle.faults.specs.Explanations.{explained, name_text, reason_words}
 use Rattle.faults.specs.declared.explain.Explained.{Explained}
+use Rattle.command_files.specs.declared.context.TrialStep.{TrialStep}
+use Rattle.command_files.specs.declared.context.TrialStep.TheVariants.{Make, Name, Remove, Sync, SyncFolder, Write}
 use Rattle.command_files.specs.declared.context.Cause.{Cause}
-use Rattle.command_files.specs.declared.context.Cause.TheVariants.{EmptyRuns, FewerPages, NextPage, NoEofb, NotCallable, RowsOf, Terminal, TooLong}
+use Rattle.command_files.specs.declared.context.Cause.TheVariants.{EmptyRuns, FailedTrial, FewerPages, NextPage, NoEofb, NotCallable, RowsOf, Terminal, TooLong}
 
 -- The file that a fault is about: the script for a fault at one of its lines; the file that failed, if one did, for `Io` (8); the file whose
 -- reading was given up, if one was, for `NoMemory` (9); and the input for any other fault, or where no file is known.
 abbrev pub part_of : ToolFault → Option (Part × ErrorKind) → Option Part → Part
 part_of (AtLine line) failed unread = Script
 part_of (AtBit number place) failed unread = Input
-part_of (No number) failed unread = if nat_eq number 8 then unwrap_or (option_map (λ known. known.0) failed) Input
+part_of (No number) failed unread = if nat_eq number 8 || nat_eq number 32 then unwrap_or (option_map (λ known. known.0) failed) Input
     else if nat_eq number 9 then unwrap_or unread Input else Input
 
 -- a file's name, or that of the input
@@ -52,12 +55,23 @@ abbrev pub name_shown : List ℕ → Part → List ℕ
 name_shown name part = if bytes_eq name (codes "-") then (if is_output part then codes "standard output" else codes "standard input")
     else name
 
+-- what a trial of a folder couldn't do there
+abbrev pub step_words : TrialStep → List ℕ
+step_words Make = codes "no new file can be made in it"
+step_words Write = codes "a new file in it can't be written"
+step_words Sync = codes "a new file in it can't be synced"
+step_words Name = codes "a new file in it can't get its name"
+step_words SyncFolder = codes "the folder can't be synced"
+step_words Remove = codes "a file in it can't be removed"
+
 -- the words of a fault with this cause
 abbrev pub told : Explained → Option Cause → List ℕ
 told words None = explained words.fault words.known
 told words (Some Terminal) = name_text words.known.file.now ++ codes " is a terminal"
 told words (Some (TooLong most)) =
     name_text words.known.file.now ++ (codes ": it has more octets than are read of such a file, " ++ decimal most)
+told words (Some (Taken file)) =
+    name_text words.known.file.now ++ (codes "/" ++ (file.now ++ (codes ": " ++ reason_words words.known.reason)))
 told words (Some (NotCallable page width)) = name_text words.known.file.now ++ (codes ": page " ++ (decimal page ++ (codes " is "
     ++ (decimal width ++ codes " pixels wide, and a call carries 1728, 2048 or 2432"))))
 told words (Some (FewerPages count from)) = name_text words.known.file.now ++ (codes ": it has pages up to " ++ (decimal count
@@ -70,6 +84,8 @@ told words (Some (NextPage octet)) = explained words.fault words.known
     ++ (codes "; without EOFB nothing marks a page's end: another page may begin at octet " ++ decimal octet)
 told words (Some NoEofb) = explained words.fault words.known
     ++ codes "; the file doesn't end with EOFB: nothing marks a page's end then, and another page may begin before this bit"
+told words (Some (FailedTrial step)) = name_text words.known.file.now ++ (codes ": " ++ (step_words step ++ (codes ": "
+    ++ reason_words words.known.reason)))
 
 -- ---- pages that no call carries
 

@@ -47,7 +47,7 @@ pub struct Names<'a> {
     pub input: &'a str,
     /// The file of what an answerer sent.
     pub answerer: Option<&'a str>,
-    /// The file of the script.
+    /// The file of the script, or of the list of names.
     pub script: Option<&'a str>,
     /// The file or the folder that it writes.
     pub output: Option<&'a str>,

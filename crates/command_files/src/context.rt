@@ -2,10 +2,11 @@
 
 ghost use Rattle.faults.specs.Faults.{IsOutside};
 ghost use Rattle.faults.specs.declared.fault.ToolFault.TheVariants.{No};
-ghost use Rattle.command_files.specs.Told.{IsCallable, IsFirstNotCallable, part_of};
+ghost use Rattle.command_files.specs.Told.{IsCallable, IsFirstNotCallable, part_of, step_words};
 ghost use Rattle.std.specs.Prelude.{◌≡◌, ◌≢◌, ◌⊎◌, [], All, IfErr, MatchOption, None, Some, option_map, true};
 
 use crate::notices::is_explained;
+use crate::streams::Streams;
 use faults::{NO_MEMORY, ToolFault};
 use page_code::RefusedCode;
 use raster::Page;
@@ -21,7 +22,7 @@ pub enum Part {
     Input,
     /// The capture of what an answerer sent.
     Answerer,
-    /// The script of a call.
+    /// The script of a call, or the list of the names of files.
     Script,
     /// What the file OUT or that of `--out` gets.
     Output,
@@ -35,6 +36,39 @@ pub enum Part {
     Printed,
 }
 
+/// What is done to store a page in a folder, in this order.
+#[derive(Clone, Copy, Debug, PartialEq, Eq)]
+pub enum TrialStep {
+    /// A part file is made.
+    Make,
+    /// It is written.
+    Write,
+    /// It is synced.
+    Sync,
+    /// It gets another name.
+    Name,
+    /// The folder is synced.
+    SyncFolder,
+    /// A file's name is removed.
+    Remove,
+}
+
+impl TrialStep {
+    /// What couldn't be done.
+    pub fn words(self) -> &'static str
+        ensures { result.now ≡ step_words self }
+    {
+        match self {
+            TrialStep::Make => "no new file can be made in it",
+            TrialStep::Write => "a new file in it can't be written",
+            TrialStep::Sync => "a new file in it can't be synced",
+            TrialStep::Name => "a new file in it can't get its name",
+            TrialStep::SyncFolder => "the folder can't be synced",
+            TrialStep::Remove => "a file in it can't be removed",
+        }
+    }
+}
+
 /// What the program knows of a fault beside its number.
 #[derive(Clone, Copy, Debug, PartialEq, Eq)]
 pub enum Cause {
@@ -42,6 +76,8 @@ pub enum Cause {
     Terminal,
     /// A file has more octets than this, the most that are read of it.
     TooLong(usize),
+    /// A new file of this name is to be made in a folder, and something is there.
+    Taken(&'static str),
     /// The first page of a document that no call carries, counted from 1, has this width.
     NotCallable {
         /// The page's number.
@@ -64,6 +100,8 @@ pub enum Cause {
     NextPage(usize),
     /// A file of T.6 doesn't end with EOFB, so that the next page may begin anywhere before the refused bit.
     NoEofb,
+    /// This step of storing a page fails in a folder.
+    FailedTrial(TrialStep),
 }
 
 /// What is noted of a command while it runs.
@@ -95,6 +133,7 @@ pub struct Messages {
 /// What a command runs in.
 #[derive(Drop)]
 pub struct Context<'a> {
+    streams: &'a Streams<'a>,
     rt: &'a HostRuntime,
     messages: Messages,
     noted: Noted,
@@ -102,7 +141,7 @@ pub struct Context<'a> {
 
 impl<'a> Context<'a> {
     /// Returns the context of a command that has read nothing.
-    pub fn new(rt: &'a HostRuntime, messages: Messages) -> Context<'a>
+    pub fn new(streams: &'a Streams<'a>, messages: Messages) -> Context<'a>
         ensures messages { result.messages ≡ messages }
         ensures failed { result.noted.failed ≡ None }
         ensures unread { result.noted.unread ≡ None }
@@ -111,7 +150,9 @@ impl<'a> Context<'a> {
         ensures refused { result.noted.refused ≡ None }
         ensures cause { result.noted.cause ≡ None }
     {
+        let rt = streams.rt();
         Context {
+            streams,
             rt,
             messages,
             noted: Noted {
@@ -123,6 +164,13 @@ impl<'a> Context<'a> {
                 cause: None,
             },
         }
+    }
+
+    /// Standard output and standard error.
+    pub fn streams(&self) -> &'a Streams<'a>
+        ensures { result ≡ self.now.streams }
+    {
+        self.streams
     }
 
     /// The system.
@@ -252,7 +300,7 @@ impl<'a> Context<'a> {
     {
         match (fault, self.noted.failed) {
             (ToolFault::AtLine(_), _) => Part::Script,
-            (ToolFault::No(8), Some((part, _kind))) => part,
+            (ToolFault::No(8 | 32), Some((part, _kind))) => part,
             (ToolFault::No(9), _) => self.noted.unread.unwrap_or(Part::Input),
             _ => Part::Input,
         }

@@ -4,9 +4,14 @@ pub mod apart;
 pub mod bounded;
 pub mod images;
 pub mod input;
+pub mod leftovers;
+pub mod limited;
 pub mod output;
+pub mod parts;
 pub mod printed;
 pub mod progress;
+pub(crate) mod system_text;
+pub mod trial;
 
 /// The name of standard input and of standard output; a file of that name is `./-`.
 pub const STANDARD: &str = "-";

@@ -3,7 +3,9 @@
 
 pub mod command;
 pub mod context;
+pub mod error_line;
 pub mod files;
 pub mod notices;
+pub mod streams;
 
 pub use crate::command::{Completeness, NO_NAMES, Names, Runs};

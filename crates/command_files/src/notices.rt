@@ -4,9 +4,11 @@ ghost use Rattle.faults.specs.Faults.{IsOutside};
 ghost use Rattle.std.specs.Prelude.{IfErr};
 
 use crate::context::Context;
+use crate::error_line::ErrorLine;
+use crate::streams::Streams;
 use faults::{ToolFault, write_notice};
 use std::env::{self, Env};
-use std::io::IsTerminal;
+use std::io::{IsTerminal, Write};
 
 /// Returns whether faults are explained in words unasked: on a terminal, and if the environment says so.
 pub fn is_explained(rt: &HostRuntime) -> bool {
@@ -23,16 +25,19 @@ pub fn is_explained(rt: &HostRuntime) -> bool {
 pub fn notice(context: &Context<'_>, words: &str) -> Result<(), ToolFault>
     ensures { IfErr result IsOutside }
 {
-    notice_as(context.rt(), context.is_json(), words)
+    notice_as(context.streams(), context.is_json(), words)
 }
 
 /// Writes another message on standard error, as a record if asked for. Errors: those of `notice`.
-pub fn notice_as(rt: &HostRuntime, json: bool, words: &str) -> Result<(), ToolFault>
+pub fn notice_as(streams: &Streams<'_>, json: bool, words: &str) -> Result<(), ToolFault>
     ensures { IfErr result IsOutside }
 {
+    let mut line = ErrorLine::new(streams);
     if json {
-        return write_notice(rt.alloc(), words, &mut rt.stderr());
+        write_notice(streams.rt().alloc(), words, &mut line)?;
+    } else {
+        writeln!(line, "{words}")?;
     }
-    eprintln!(rt; "{words}")?;
+    line.flush()?;
     Ok(())
 }

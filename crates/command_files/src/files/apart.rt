@@ -1,7 +1,7 @@
 //! The files of a command that have to be apart: no two that are written are the same file, nor one that is read and one that is written.
 
 ghost use Rattle.command_files.specs.Apart.{AddsFiles, AreApart, AreFirstTwo, IsApartFrom, IsFirstLike, SaysFirstTwo, are_both_printed};
-ghost use Rattle.command_files.specs.Apart.{are_one, bits_in, first_page_in, is_same, may_be_written, octets_in, printed, read_as};
+ghost use Rattle.command_files.specs.Apart.{are_one, bits_in, is_same, may_be_written, octets_in, printed, read_as};
 ghost use Rattle.command_files.specs.Apart.{written_as};
 ghost use Rattle.std.specs.Prelude.{◌≡◌, ◌∷◌, [], MatchOption, OnOk, codes, option_map};
 
@@ -115,14 +115,6 @@ impl<'a> CommandFiles<'a> {
         ensures { OnOk result (AddsFiles (written_as role.now name.now ∷ []) self.old.files.items self.new.files.items) }
     {
         self.add(role, name, true)
-    }
-
-    /// Adds the file of the first page of a file that `--each` decodes into a folder. Errors: memory was refused.
-    pub fn writes_in(&mut self, folder: &str, base: &str) -> Result<(), AllocError>
-        ensures { OnOk result (AddsFiles (first_page_in folder.now base.now ∷ []) self.old.files.items self.new.files.items) }
-    {
-        let name = format!(in self.rt.alloc(); "{folder}/{base}-1.pbm")?;
-        self.writes("a page of --each", name.as_str())
     }
 
     /// Adds a file that is written, if one is named. Errors: memory was refused.

@@ -1,6 +1,6 @@
 //! Files of which no more is read than a coded page or a script can need.
 
-ghost use Rattle.faults.specs.Faults.{IsOutside};
+ghost use Rattle.faults.specs.Faults.{IsOutside, IsUnread};
 ghost use Rattle.raster.specs.Pixels.{IsWidth};
 ghost use Rattle.command_files.specs.Bounds.{HavePageWidths};
 ghost use Rattle.std.specs.Prelude.{IfErr};
@@ -8,9 +8,9 @@ ghost use Rattle.std.specs.Prelude.{IfErr};
 use crate::context::{Cause, Context, Part};
 use crate::files::input::{self, Source};
 use crate::files::progress::Watch;
-use faults::{FAILED, ToolFault};
+use faults::{TOO_MANY_OCTETS, ToolFault};
 use page_code::{CodesPages, Coding, PageRead};
-use page_files::{PageForm, own_width};
+use page_files::{PageForm, WIDTHS, own_width};
 use run_tables::Order;
 use std::alloc::{AllocError, Global};
 use std::io::{ErrorKind, Read};
@@ -30,12 +30,11 @@ const LOOKS: [usize; 3] = [1_048_576, 8_388_608, 67_108_864];
 /// line of 5 s, the longest of ITU-T T.4, has 168,000 bits at most.
 const FAR: u128 = 2_097_152;
 
-/// The widths in which `identify_engine` tries T.6, and T.4 that says none itself.
-const TRIED_WIDTHS: [u32; 7] = [1728, 2048, 2432, 1216, 864, 1700, 1654];
-
 /// The ways in which octets are read as a page.
 #[derive(Clone, Copy, Debug, PartialEq, Eq)]
 pub enum Ways {
+    /// This one, and its first page is wanted alone: what follows it is ignored.
+    First(PageForm),
     /// This one.
     One(PageForm),
     /// Those that `identify` tries.
@@ -55,8 +54,9 @@ impl Ways {
 }
 
 /// Returns the octets of the input as coded pages, which are read in these ways. If they are refused in each way long before the last octet
-/// read so far, no more are read: it makes no page of them, however many follow. Errors: `Io` (8) if it can't be read or has more than
-/// `MOST_CODED` octets; `NoMemory` (9).
+/// read so far, no more are read: it makes no page of them, however many follow. Where the first page is wanted alone and stands in the
+/// first `MOST_CODED` octets, these are all. Errors: `Io` (8) if it can't be read; `TooManyOctets` (32) if it has more octets otherwise;
+/// `NoMemory` (9).
 pub fn read_coded(
     context: &mut Context<'_>,
     input: &str,
@@ -64,7 +64,7 @@ pub fn read_coded(
     watch: Watch,
 ) -> Result<Vec<u8>, ToolFault>
     requires { HavePageWidths ways }
-    ensures { IfErr result IsOutside }
+    ensures { IfErr result IsUnread }
 {
     let mut source = input::open(context, input, Part::Input, watch)?;
     let mut octets = Vec::new(context.alloc());
@@ -74,10 +74,10 @@ pub fn read_coded(
     Ok(octets)
 }
 
-/// Reads a script; its octets go to the context. Errors: `Io` (8) if it can't be read or has more than `MOST_SCRIPT` octets; `NoMemory`
-/// (9).
+/// Reads a script; its octets go to the context. Errors: `Io` (8) if it can't be read; `TooManyOctets` (32) if it has more than
+/// `MOST_SCRIPT` octets; `NoMemory` (9).
 pub fn read_script_file(context: &mut Context<'_>, script: &str) -> Result<(), ToolFault>
-    ensures { IfErr result IsOutside }
+    ensures { IfErr result IsUnread }
 {
     let mut source = input::open(context, script, Part::Script, Watch::Shown)?;
     let mut octets = Vec::new(context.alloc());
@@ -88,7 +88,7 @@ pub fn read_script_file(context: &mut Context<'_>, script: &str) -> Result<(), T
     Ok(())
 }
 
-/// Notes that a file has more octets than `most`, unless it was read. Errors: `Io` (8).
+/// Notes that a file has more octets than `most`, unless it was read. Errors: `TooManyOctets` (32), and that of reading.
 fn bounded(
     context: &mut Context<'_>,
     read: Result<bool, ToolFault>,
@@ -96,20 +96,21 @@ fn bounded(
     most: usize,
 ) -> Result<(), ToolFault>
     requires { IfErr read IsOutside }
-    ensures { IfErr result IsOutside }
+    ensures { IfErr result IsUnread }
 {
     match read {
         Ok(true) => Ok(()),
         Ok(false) => {
             context.note_cause(Cause::TooLong(most));
             context.blame(part, ErrorKind::FileTooLarge);
-            Err(FAILED)
+            Err(TOO_MANY_OCTETS)
         }
         Err(fault) => Err(fault),
     }
 }
 
-/// Reads a file, and looks at what is read so far from time to time. Returns whether it has `MOST_CODED` octets at most.
+/// Reads a file, and looks at what is read so far from time to time. Returns whether that is what is wanted: it has `MOST_CODED` octets at
+/// most, or its first page is wanted alone and is whole in these.
 fn read_pieces(
     alloc: Global,
     source: &mut Source<'_>,
@@ -126,7 +127,11 @@ fn read_pieces(
         }
     }
     read_up_to(source, octets, MOST_CODED + 1)?;
-    Ok(octets.len() <= MOST_CODED)
+    if octets.len() <= MOST_CODED {
+        return Ok(true);
+    }
+    octets.truncate(MOST_CODED);
+    Ok(begins_with_page(alloc, octets.as_slice(), ways)?)
 }
 
 /// Reads a script. Returns whether it has `MOST_SCRIPT` octets at most.
@@ -147,12 +152,26 @@ fn read_up_to(source: &mut Source<'_>, octets: &mut Vec<u8>, most: usize) -> Res
     Ok(())
 }
 
+/// Returns whether the first page is wanted alone, and stands whole in octets. Errors: memory was refused.
+fn begins_with_page(alloc: Global, octets: &[u8], ways: Ways) -> Result<bool, AllocError>
+    requires { HavePageWidths ways }
+{
+    match ways {
+        Ways::First(form) => Ok(matches!(
+            form.coding
+                .page(alloc, octets, form.order, form.width, form.fine)?,
+            PageRead::Page(_, _),
+        )),
+        Ways::One(_) | Ways::Tried | Ways::Any => Ok(false),
+    }
+}
+
 /// Returns whether octets are refused in each of these ways far before their end. Errors: memory was refused.
 fn is_no_page(alloc: Global, octets: &[u8], ways: Ways) -> Result<bool, AllocError>
     requires { HavePageWidths ways }
 {
     match ways {
-        Ways::One(form) => is_refused_early(alloc, octets, form),
+        Ways::First(form) | Ways::One(form) => is_refused_early(alloc, octets, form),
         Ways::Tried => is_tried_in_vain(alloc, octets),
         Ways::Any => Ok(false),
     }
@@ -189,7 +208,7 @@ fn are_refused_early(
     coding: Coding,
     order: Order,
 ) -> Result<bool, AllocError> {
-    for width in TRIED_WIDTHS {
+    for width in WIDTHS {
         let form = PageForm {
             coding,
             order,

@@ -5,15 +5,20 @@ ghost use Rattle.command_files.specs.Bounds.{image_octets};
 ghost use Rattle.std.specs.Prelude.{◌≡◌, ◌<◌, ◌≤◌, All, IfErr, IfOk, length};
 
 use crate::context::{Context, Part};
-use crate::files::output::{self, PartFile, Rights, make_in, sync_folder};
+use crate::files::output::{self, Output};
+use crate::files::parts::{PartFile, Rights, make_in, sync_folder};
 use faults::ToolFault;
 use raster::{Page, write_pbm};
 use std::alloc::{AllocError, Global};
-use std::io::{BufWriter, ErrorKind, Write};
+use std::fs::File;
+use std::io::{BufWriter, ErrorKind, Read, Write};
 use std::{fs, io, slice};
 
 /// How many octets of an image are written at once.
 const WRITTEN_AT_ONCE: usize = 65536;
+
+/// How many octets of an image that is there are compared at once.
+const COMPARED_AT_ONCE: usize = 4096;
 
 /// How many numbers are tried for the file of a page.
 const MOST_NUMBERS: u64 = 1_000_000;
@@ -35,7 +40,96 @@ pub fn save_images(context: &mut Context<'_>, name: &str, pages: &[Page]) -> Res
     requires { All (λ page. 0 < length page.rows) pages.now }
     ensures { IfErr result IsOutside }
 {
-    let mut output = output::open(context, Part::Output, name)?;
+    let output = output::open(context, Part::Output, name)?;
+    end_images(context, output, pages)
+}
+
+/// Writes pages as the images of a new file, whose name the program makes up: see `output::open_new`. If they can't be written, no file of them
+/// is left. Errors: `Io` (8) if that is so or something is there, and that is noted; `NoMemory` (9).
+pub fn save_new_images(
+    context: &mut Context<'_>,
+    name: &str,
+    pages: &[Page],
+) -> Result<(), ToolFault>
+    requires { All (λ page. 0 < length page.rows) pages.now }
+    ensures { IfErr result IsOutside }
+{
+    let output = output::open_new(context, Part::Output, name)?;
+    end_images(context, output, pages)
+}
+
+/// Writes pages as `save_new_images` does, unless the file is there already with the same octets. Errors: as its.
+pub fn save_missing_images(
+    context: &mut Context<'_>,
+    name: &str,
+    pages: &[Page],
+) -> Result<(), ToolFault>
+    requires { All (λ page. 0 < length page.rows) pages.now }
+    ensures { IfErr result IsOutside }
+{
+    if are_there(context.rt(), name, pages) {
+        return Ok(());
+    }
+    save_new_images(context, name, pages)
+}
+
+/// Returns whether a regular file of this name, and no link, has the images of pages and no octet more.
+fn are_there(rt: &HostRuntime, name: &str, pages: &[Page]) -> bool
+    requires { All (λ page. 0 < length page.rows) pages.now }
+{
+    match fs::symlink_metadata(rt, name) {
+        Ok(found) if found.is_file() => {}
+        Ok(_) | Err(_) => return false,
+    }
+    let Ok(file) = File::open(rt, name) else {
+        return false;
+    };
+    let mut there = OctetsThere { file };
+    let written = write_images(rt.alloc(), pages, &mut there);
+    written.is_ok() && there.is_at_end()
+}
+
+/// A file that is compared with what would be written on it.
+#[derive(Drop)]
+struct OctetsThere {
+    file: File,
+}
+
+impl OctetsThere {
+    /// Whether it has no octet more.
+    fn is_at_end(&mut self) -> bool {
+        let mut octet = [0u8; 1];
+        matches!(self.file.read(&mut octet), Ok(0))
+    }
+}
+
+impl Write for OctetsThere {
+    /// Reads as many octets as these, 4,096 at most. Errors: they are others, or the system's.
+    fn write(&mut self, octets: &[u8]) -> io::Result<usize> {
+        let mut there = [0u8; COMPARED_AT_ONCE];
+        let count = octets.len().min(COMPARED_AT_ONCE);
+        self.file.read_exact(&mut there[..count])?;
+        if there[..count] != octets[..count] {
+            return Err(io::Error::from(ErrorKind::AlreadyExists));
+        }
+        Ok(count)
+    }
+
+    fn flush(&mut self) -> io::Result<()> {
+        Ok(())
+    }
+}
+
+/// Writes pages as the images of an output, and ends it. Errors: `Io` (8), and that is noted; `NoMemory` (9).
+fn end_images(
+    context: &mut Context<'_>,
+    output: Output<'_>,
+    pages: &[Page],
+) -> Result<(), ToolFault>
+    requires { All (λ page. 0 < length page.rows) pages.now }
+    ensures { IfErr result IsOutside }
+{
+    let mut output = output;
     let written = write_images(context.alloc(), pages, &mut output);
     output.end(written.is_ok(), context)?;
     written
@@ -102,7 +196,7 @@ pub fn store_page(
     let mut made = make_in(rt, folder, rights)?;
     let stored = sync_page(rt, folder, first, page, &mut made);
     // it is the page's file by another name, or isn't whole
-    made.remove(rt);
+    let _removed = made.remove(rt);
     let PageFile { name, number } = stored?;
     match sync_folder(rt, folder) {
         Ok(()) => Ok(number),
@@ -132,7 +226,7 @@ pub fn hand_page(
         Ok(()) => name_page(rt, folder, first, &made).map_err(NotStored::from),
         Err(refused) => Err(refused),
     };
-    made.remove(rt);
+    let _removed = made.remove(rt);
     Ok(named?.number)
 }
 

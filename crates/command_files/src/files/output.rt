@@ -2,20 +2,18 @@
 //! so what is there under a name is always whole.
 
 ghost use Rattle.faults.specs.Faults.{IsOutside};
-ghost use Rattle.std.specs.IoError.{error_kind};
-ghost use Rattle.std.specs.Prelude.{◌≡◌, ◌&&◌, IfErr, IfOk, None, Some, if◌then◌else◌, length, nat_eq, nat_lt};
-ghost use Rattle.std.specs.declared.io.ErrorKind.TheVariants.{WriteZero};
+ghost use Rattle.std.specs.Prelude.{◌≡◌, IfErr};
 
 use crate::context::{Cause, Context, Part};
 use crate::files::STANDARD;
+use crate::files::limited::{LimitedFile, why_failed};
+use crate::files::parts::{PartFile, make_in};
+pub use crate::files::parts::{Rights, sync_folder};
+use crate::streams::Streams;
 use faults::ToolFault;
 use std::fs::{File, OpenOptions, Permissions};
 use std::io::{ErrorKind, IsTerminal, Write};
-use std::os::unix::fs::{OpenOptionsExt, PermissionsExt};
-use std::{fs, io, process};
-
-/// How many names are tried for the new file beside a place.
-const MOST_NAMES: u32 = 100;
+use std::{fs, io};
 
 /// What is at the place of a file that is to be written.
 #[derive(Drop)]
@@ -28,36 +26,19 @@ enum Place {
     Other,
 }
 
-/// Who may read and write a new file.
-#[derive(Clone, Copy, Debug, PartialEq, Eq)]
-pub enum Rights {
-    /// Who the umask lets.
-    Umask,
-    /// Its owner alone.
-    Private,
-    /// Whom these nine bits let, whatever the umask is.
-    Mode(u32),
-}
-
-/// A new file that this run has made in the folder of a place, its name, and why writing it failed.
-#[derive(Drop)]
-pub struct PartFile {
-    file: File,
-    name: String,
-    failed: Option<ErrorKind>,
-}
-
 /// Where the octets of an output go.
 #[derive(Drop)]
-enum Target {
+enum Target<'a> {
     /// Nowhere.
     Nowhere,
     /// Standard output.
-    Standard,
+    Standard(&'a Streams<'a>),
     /// Into a device, a pipe or a link itself.
-    Itself(File),
-    /// Into a new file beside the place.
+    Itself(LimitedFile),
+    /// Into a new file beside the place, which replaces what is there.
     Beside(PartFile),
+    /// Into a new file beside the place, which takes it if nothing is there.
+    New(PartFile),
 }
 
 /// An output that is written while it is made, and why writing failed.
@@ -66,7 +47,7 @@ pub struct Output<'a> {
     rt: &'a HostRuntime,
     part: Part,
     name: String,
-    target: Target,
+    target: Target<'a>,
     failed: Option<ErrorKind>,
 }
 
@@ -93,21 +74,23 @@ pub fn check_folder(context: &mut Context<'_>, name: &str, part: Part) -> Result
     context.checked(checked, part)
 }
 
-/// Checks that a name is that of a folder in which a new file of these rights can be made: one is, and is removed. Errors: `Io` (8), and
-/// that is noted; `NoMemory` (9).
-pub fn check_makes(
-    context: &mut Context<'_>,
-    name: &str,
-    rights: Rights,
-    part: Part,
-) -> Result<(), ToolFault>
+/// Makes the folder of a file's name, and those above it, where they aren't there. Errors: `Io` (8), and that is noted.
+pub fn make_folders(context: &mut Context<'_>, name: &str, part: Part) -> Result<(), ToolFault>
     ensures { IfErr result IsOutside }
 {
-    check_folder(context, name, part)?;
-    let rt = context.rt();
-    let made = context.checked(make_in(rt, name, rights), part)?;
-    made.remove(rt);
-    Ok(())
+    let made = fs::create_dir_all(context.rt(), folder_of(name));
+    context.checked(made, part)
+}
+
+/// Syncs the folder of a file's name, unless it may not be read. Errors: `Io` (8), and that is noted.
+pub fn sync_names(context: &mut Context<'_>, name: &str, part: Part) -> Result<(), ToolFault>
+    ensures { IfErr result IsOutside }
+{
+    let synced = match sync_folder(context.rt(), folder_of(name)) {
+        Err(error) if error.kind() == ErrorKind::PermissionDenied => Ok(()),
+        done => done,
+    };
+    context.checked(synced, part)
 }
 
 /// Writes octets as the whole content of a file, or on standard output. Errors: `Io` (8) if it can't be written, and that is noted;
@@ -120,7 +103,33 @@ pub fn save(
 ) -> Result<(), ToolFault>
     ensures { IfErr result IsOutside }
 {
-    let mut output = open(context, part, name)?;
+    let output = open(context, part, name)?;
+    write_whole(context, output, octets)
+}
+
+/// Writes octets as the whole content of a new file, whose name the program makes up: see `open_new`. Errors: `Io` (8) if it can't be written
+/// or something is there, and that is noted; `NoMemory` (9).
+pub fn save_new(
+    context: &mut Context<'_>,
+    part: Part,
+    name: &str,
+    octets: &[u8],
+) -> Result<(), ToolFault>
+    ensures { IfErr result IsOutside }
+{
+    let output = open_new(context, part, name)?;
+    write_whole(context, output, octets)
+}
+
+/// Writes octets as the whole content of an output. Errors: `Io` (8), and that is noted.
+fn write_whole(
+    context: &mut Context<'_>,
+    output: Output<'_>,
+    octets: &[u8],
+) -> Result<(), ToolFault>
+    ensures { IfErr result IsOutside }
+{
+    let mut output = output;
     let written = output.write_all(octets);
     output.end(written.is_ok(), context)?;
     written?;
@@ -132,42 +141,75 @@ pub fn save(
 pub fn open<'a>(context: &mut Context<'a>, part: Part, name: &str) -> Result<Output<'a>, ToolFault>
     ensures { IfErr result IsOutside }
 {
-    let rt = context.rt();
     // before the file: it would be left if memory were refused after it
-    let copied = String::from_str(rt.alloc(), name)?;
-    let target = context.checked(target_of(rt, name), part)?;
+    let copied = String::from_str(context.alloc(), name)?;
+    let opened = target_of(context.streams(), name);
+    open_as(context, part, copied, opened)
+}
+
+/// Opens an output whose name the program makes up. It takes the name when it is ended, whole and synced, if nothing is there, neither a file
+/// nor a folder, a device or a link. The folder isn't synced then: `sync_folder` does that, once for many files. Errors: `Io` (8) if it can't
+/// be made, and that is noted; `NoMemory` (9). If something is there, `Output::end` fails with `Io` (8), of the kind `AlreadyExists`.
+pub fn open_new<'a>(
+    context: &mut Context<'a>,
+    part: Part,
+    name: &str,
+) -> Result<Output<'a>, ToolFault>
+    ensures { IfErr result IsOutside }
+{
+    let copied = String::from_str(context.alloc(), name)?;
+    let opened = match make_in(context.rt(), folder_of(name), Rights::Umask) {
+        Ok(made) => Ok(Target::New(made)),
+        Err(error) => Err(error),
+    };
+    open_as(context, part, copied, opened)
+}
+
+/// The output of this name, whose octets go there. Errors: `Io` (8), and that is noted; `NoMemory` (9).
+fn open_as<'a>(
+    context: &mut Context<'a>,
+    part: Part,
+    name: String,
+    opened: io::Result<Target<'a>>,
+) -> Result<Output<'a>, ToolFault>
+    ensures { IfErr result IsOutside }
+{
+    let target = context.checked(opened, part)?;
     Ok(Output {
-        rt,
+        rt: context.rt(),
         part,
-        name: copied,
+        name,
         target,
         failed: None,
     })
 }
 
-fn target_of(rt: &HostRuntime, name: &str) -> io::Result<Target> {
+/// Opens what the octets of an output of this name go to. Errors: the system's.
+fn target_of<'a>(streams: &'a Streams<'a>, name: &str) -> io::Result<Target<'a>> {
     if name == STANDARD {
-        return Ok(Target::Standard);
+        return Ok(Target::Standard(streams));
     }
+    let rt = streams.rt();
     check_writable(rt, name)?;
     match place_of(rt, name)? {
         Place::Free => Ok(Target::Beside(make_in(rt, folder_of(name), Rights::Umask)?)),
         Place::Regular(permissions) => replacing(rt, name, permissions),
-        Place::Other => Ok(Target::Itself(File::create(rt, name)?)),
+        Place::Other => {
+            let file = File::create(rt, name)?;
+            Ok(Target::Itself(LimitedFile::new(rt, file, 0)))
+        }
     }
 }
 
 /// Makes the new file beside a regular one: before its first octet it gets the permissions of the old one. It belongs to who runs the
 /// program, and other names of the old file (hard links) keep the old content.
-fn replacing(rt: &HostRuntime, name: &str, permissions: Permissions) -> io::Result<Target> {
+fn replacing(
+    rt: &HostRuntime,
+    name: &str,
+    permissions: Permissions,
+) -> io::Result<Target<'static>> {
     let made = make_in(rt, folder_of(name), Rights::Private)?;
-    match made.file.set_permissions(permissions) {
-        Ok(()) => Ok(Target::Beside(made)),
-        Err(error) => {
-            made.remove(rt);
-            Err(error)
-        }
-    }
+    Ok(Target::Beside(made.permitted(rt, permissions)?))
 }
 
 /// Checks that a regular file may be written, since its folder may be writable though it isn't. Errors: the system's.
@@ -202,144 +244,60 @@ fn folder_of(place: &str) -> &str {
     }
 }
 
-/// Makes a new file in a folder, under the first name that is free, of the process and a number. It has its rights before its first octet.
-pub fn make_in(rt: &HostRuntime, folder: &str, rights: Rights) -> io::Result<PartFile> {
-    let process = process::id(rt.process());
-    // a file that is there is never written; one that a killed run has left stays
-    for number in 1..=MOST_NAMES {
-        let name = format!(in rt.alloc(); "{folder}/faxtool-{process}-{number}.part")?;
-        if let Some(file) = make(rt, name.as_str(), rights)? {
-            let made = PartFile {
-                file,
-                name,
-                failed: None,
-            };
-            return made.with(rt, rights);
+/// Ends what the octets of an output went to: a new file takes its place if it is whole, and is otherwise removed. Errors: the system's.
+fn end_target(rt: &HostRuntime, target: Target<'_>, place: &str, is_whole: bool) -> io::Result<()> {
+    match target {
+        Target::Nowhere | Target::Standard(_) => Ok(()),
+        Target::Itself(file) => {
+            drop(file);
+            Ok(())
         }
-    }
-    Err(io::Error::from(ErrorKind::AlreadyExists))
-}
-
-/// Makes a new file if its name is free.
-fn make(rt: &HostRuntime, name: &str, rights: Rights) -> io::Result<Option<File>> {
-    let mut options = OpenOptions::new();
-    options.write(true).create_new(true);
-    match rights {
-        Rights::Umask => {}
-        Rights::Private | Rights::Mode(_) => {
-            options.mode(0o600);
-        }
-    }
-    match options.open(rt, name) {
-        Ok(file) => Ok(Some(file)),
-        Err(error) if error.kind() == ErrorKind::AlreadyExists => Ok(None),
-        Err(error) => Err(error),
+        Target::Beside(made) => end_beside(rt, made, place, is_whole),
+        Target::New(made) => end_new(rt, made, place, is_whole),
     }
 }
 
-/// Why octets aren't written, if that is so.
-fn why_failed(written: &io::Result<usize>, octets: &[u8]) -> Option<ErrorKind>
-    ensures ok { IfOk written.now (λ count. result ≡ (if nat_eq count 0 && nat_lt 0 (length octets.now) then Some WriteZero else None)) }
-    ensures err { IfErr written.now (λ error. result ≡ Some (error_kind error)) }
-{
-    match written {
-        Ok(0) if !octets.is_empty() => Some(ErrorKind::WriteZero),
-        Ok(_) => None,
-        Err(error) => Some(error.kind()),
-    }
-}
-
-impl PartFile {
-    /// Why writing it failed, if it did.
-    pub fn failed(&self) -> Option<ErrorKind>
-        ensures { result ≡ self.now.failed }
-    {
-        self.failed
-    }
-
-    /// The file with the mode of its rights, if they are one. If it can't have it, it is removed. Errors: the system's.
-    fn with(self, rt: &HostRuntime, rights: Rights) -> io::Result<PartFile> {
-        let set = match rights {
-            Rights::Umask | Rights::Private => Ok(()),
-            Rights::Mode(mode) => self.file.set_permissions(Permissions::from_mode(mode)),
-        };
-        match set {
-            Ok(()) => Ok(self),
-            Err(error) => {
-                self.remove(rt);
-                Err(error)
-            }
-        }
-    }
-
-    /// Removes the file.
-    pub fn remove(self, rt: &HostRuntime) {
-        let _removed = fs::remove_file(rt, self.name.as_str());
-    }
-
-    /// Syncs the file and renames it to a place. Errors: the system's, and then the place is as it was.
-    fn put(&self, rt: &HostRuntime, place: &str) -> io::Result<()> {
-        self.sync()?;
-        fs::rename(rt, self.name.as_str(), place)?;
+/// Ends a new file beside a place: it takes the place if it is whole, and is otherwise removed. Errors: the system's, and then it is removed too.
+fn end_beside(rt: &HostRuntime, made: PartFile, place: &str, is_whole: bool) -> io::Result<()> {
+    let ended = if is_whole {
+        made.put(rt, place)
+    } else {
+        Ok(())
+    };
+    if !is_whole || ended.is_err() {
+        let _removed = made.remove(rt);
+    } else {
         // the file has its place: a folder that can't be read can't be synced either
         let _synced = sync_folder(rt, folder_of(place));
-        Ok(())
     }
-
-    /// Syncs the file. Errors: the system's.
-    pub fn sync(&self) -> io::Result<()> {
-        self.file.sync_all()
-    }
-
-    /// Gives the file a further name if that is free. Returns whether it was. Errors: the system's.
-    pub fn put_free(&self, rt: &HostRuntime, place: &str) -> io::Result<bool> {
-        match fs::hard_link(rt, self.name.as_str(), place) {
-            Ok(()) => Ok(true),
-            Err(error) => match error.kind() {
-                ErrorKind::AlreadyExists => Ok(false),
-                // there are file systems without links
-                ErrorKind::PermissionDenied | ErrorKind::Unsupported => self.rename_free(rt, place),
-                _ => Err(error),
-            },
-        }
-    }
-
-    /// Renames the file to a place if nothing is there. Returns whether that is so. Errors: the system's.
-    fn rename_free(&self, rt: &HostRuntime, place: &str) -> io::Result<bool> {
-        match place_of(rt, place)? {
-            Place::Free => {
-                fs::rename(rt, self.name.as_str(), place)?;
-                Ok(true)
-            }
-            Place::Regular(_) | Place::Other => Ok(false),
-        }
-    }
+    ended
 }
 
-impl Write for PartFile {
-    fn write(&mut self, octets: &[u8]) -> io::Result<usize> {
-        let written = self.file.write(octets);
-        self.failed = why_failed(&written, octets);
-        written
-    }
-
-    fn flush(&mut self) -> io::Result<()> {
+/// Ends a new file beside a place: it takes the place if it is whole and nothing is there, and is otherwise removed. Errors: the system's,
+/// `AlreadyExists` if something is there.
+fn end_new(rt: &HostRuntime, made: PartFile, place: &str, is_whole: bool) -> io::Result<()> {
+    let ended = if is_whole {
+        sync_new(rt, &made, place)
+    } else {
         Ok(())
-    }
+    };
+    let _removed = made.remove(rt);
+    ended
 }
 
-/// Syncs a folder, which has the names of its files. Errors: the system's.
-pub fn sync_folder(rt: &HostRuntime, folder: &str) -> io::Result<()> {
-    File::open(rt, folder)?.sync_all()
+/// Syncs a new file and gives it a place's name.
+fn sync_new(rt: &HostRuntime, made: &PartFile, place: &str) -> io::Result<()> {
+    made.sync()?;
+    made.put_new(rt, place)
 }
 
 impl Write for Output<'_> {
     fn write(&mut self, octets: &[u8]) -> io::Result<usize> {
         let written = match &mut self.target {
             Target::Nowhere => Ok(octets.len()),
-            Target::Standard => io::writer(self.rt).write(octets),
+            Target::Standard(streams) => streams.print(octets),
             Target::Itself(file) => file.write(octets),
-            Target::Beside(made) => made.write(octets),
+            Target::Beside(made) | Target::New(made) => made.write(octets),
         };
         self.failed = why_failed(&written, octets);
         written
@@ -377,17 +335,7 @@ impl<'a> Output<'a> {
         if let Some(kind) = failed {
             context.blame(part, kind);
         }
-        let Target::Beside(made) = target else {
-            return Ok(());
-        };
-        let ended = if is_whole {
-            made.put(rt, name.as_str())
-        } else {
-            Ok(())
-        };
-        if !is_whole || ended.is_err() {
-            made.remove(rt);
-        }
+        let ended = end_target(rt, target, name.as_str(), is_whole);
         context.checked(ended, part)
     }
 }

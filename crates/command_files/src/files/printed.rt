@@ -4,6 +4,7 @@ ghost use Rattle.faults.specs.Faults.{IsOutside};
 ghost use Rattle.std.specs.Prelude.{◌≡◌, IfErr};
 
 use crate::context::{Context, Part};
+use crate::streams::Streams;
 use faults::ToolFault;
 use std::io;
 use std::io::{BufWriter, ErrorKind, Write};
@@ -14,7 +15,7 @@ const PRINTED_AT_ONCE: usize = 65536;
 /// Standard output, with why it failed.
 #[derive(Drop)]
 pub struct Printed<'a> {
-    rt: &'a HostRuntime,
+    streams: &'a Streams<'a>,
     failed: Option<ErrorKind>,
 }
 
@@ -29,7 +30,7 @@ impl Printed<'_> {
 
 impl Write for Printed<'_> {
     fn write(&mut self, octets: &[u8]) -> io::Result<usize> {
-        let written = io::writer(self.rt).write(octets);
+        let written = self.streams.print(octets);
         self.failed = written.as_ref().err().map(|error| error.kind());
         written
     }
@@ -43,9 +44,12 @@ impl Write for Printed<'_> {
 pub fn print<'a>(context: &Context<'a>) -> Result<BufWriter<Printed<'a>>, ToolFault>
     ensures { IfErr result IsOutside }
 {
-    let rt = context.rt();
-    let printed = Printed { rt, failed: None };
-    Ok(BufWriter::with_capacity(rt.alloc(), PRINTED_AT_ONCE, printed)?)
+    let streams = context.streams();
+    let printed = Printed {
+        streams,
+        failed: None,
+    };
+    Ok(BufWriter::with_capacity(context.alloc(), PRINTED_AT_ONCE, printed)?)
 }
 
 /// Ends what was printed: writes the rest if all was done, and notes why it failed. Errors: `Io` (8) if it can't be written; `NoMemory`
