@@ -89,11 +89,11 @@ calm_is_quiet c at later = (refl, refl, refl, refl)
 -- ---- the time that is named
 
 -- a time is named, and isn't later than now
-abbrev IsDue : Option ℕ → ℕ → Type 0
+abbrev pub IsDue : Option ℕ → ℕ → Type 0
 IsDue named now = (at : ℕ) × (named ≡ Some at) × (at ≤ now)
 
 -- a wait is over exactly if its time is named, and isn't later than now
-abbrev Named : Option Wait → Option ℕ → ℕ → Type 0
+abbrev pub Named : Option Wait → Option ℕ → ℕ → Type 0
 Named over named now = (over ≢ None) ↔ IsDue named now
 
 one_named : (now : ℕ) (since : Option ℕ) (length : ℕ) (wait : Wait) →
@@ -122,7 +122,7 @@ running_named side (Some wait) c d = one_named c.now (runs_from side c wait) (du
 some_due : (x at now : ℕ) → Some x ≡ Some at → at ≤ now → IsDue (Some x) now
 some_due x at now e few = (at, e, few)
 
-earlier_first : (a b : Option ℕ) (now : ℕ) → IsDue a now → IsDue (earlier a b) now
+pub earlier_first : (a b : Option ℕ) (now : ℕ) → IsDue a now → IsDue (earlier a b) now
 earlier_first None b now h = let no : None ≡ Some h.0 = h.1 in absurd cc
 earlier_first (Some x) None now h = h
 earlier_first (Some x) (Some y) now h = at (nat_le x y) refl
@@ -137,7 +137,7 @@ earlier_first (Some x) (Some y) now h = at (nat_le x y) refl
     at true e = h
     at false e = (y, refl, omega (arith, leb-false x y e, same, h.2))
 
-earlier_then : (a b : Option ℕ) (now : ℕ) → IsDue b now → IsDue (earlier a b) now
+pub earlier_then : (a b : Option ℕ) (now : ℕ) → IsDue b now → IsDue (earlier a b) now
 earlier_then None b now h = h
 earlier_then (Some x) None now h = let no : None ≡ Some h.0 = h.1 in absurd cc
 earlier_then (Some x) (Some y) now h = at (nat_le x y) refl
@@ -152,7 +152,7 @@ earlier_then (Some x) (Some y) now h = at (nat_le x y) refl
     at true e = (x, refl, omega (arith, leb-true x y e, same, h.2))
     at false e = h
 
-one_or_other : (a b : Option ℕ) (now : ℕ) → IsDue (earlier a b) now → IsDue a now ⊎ IsDue b now
+pub one_or_other : (a b : Option ℕ) (now : ℕ) → IsDue (earlier a b) now → IsDue a now ⊎ IsDue b now
 one_or_other None b now h = inr h
 one_or_other (Some x) None now h = inl h
 one_or_other (Some x) (Some y) now h = at (nat_le x y) h

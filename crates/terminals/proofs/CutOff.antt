@@ -7,6 +7,7 @@ use Rattle.hdlc.specs.Gaps.{count_of}
 use Rattle.hdlc.specs.declared.counts.Class.TheVariants.{Good}
 use Rattle.raster.specs.Packed.{bits_of}
 use Rattle.raster.specs.declared.packed.Order.TheVariants.{LsbFirst}
+use Rattle.signals.specs.declared.mark.Mark.{Mark}
 use Rattle.stations.specs.Bursts.{bursts_of}
 use Rattle.stations.specs.CallerFields.{Represents}
 use Rattle.stations.specs.CallerStep.{Caller}
@@ -27,7 +28,7 @@ use Rattle.stations.specs.declared.waiting.Wait.{Wait}
 use Rattle.terminals.specs.Hearing.{PlainInput, contents}
 use Rattle.terminals.specs.Speaking.{StepsOrStays}
 use Rattle.terminals.specs.Stations.{caller_answers, caller_given, caller_takes}
-use Rattle.terminals.specs.Stopping.{AnswerersSendDcn, CallerStepsUnlessCut, CallersSendDcn, LimitedShows, unless_cut, unless_ended}
+use Rattle.terminals.specs.Stopping.{AnswerersSendDcn, CallerStepsUnlessCut, CallersSendDcn, LimitedShows, last_mark, unless_cut, unless_ended}
 
 -- ---- a caller's step
 
@@ -71,12 +72,13 @@ no_wait (Some why) None wait = refl
 no_wait (Some why) (Some cut) wait = refl
 
 pub limited_is_shown :
-    (v : LimitedFields) (s : Answerer) (end : Option CallEnd) (wait longer one two : Option Wait) (listens : Listening) →
+    (v : LimitedFields) (s : Answerer) (end : Option CallEnd) (wait longer one two : Option Wait) (listens : Listening) (accepted : Option Mark) →
     s ≡ v.station → end ≡ call_end v.station.ending v.cut → wait ≡ unless_over s.ending (Some (answerer_wait s.state)) →
     longer ≡ unless_over s.ending (answerer_longer_wait s.state) → one ≡ unless_ended end wait → two ≡ unless_ended end longer →
-    listens ≡ listens_after v.said v.station → LimitedShows v (record { running = one; longer = two; listens = listens; end = end })
-limited_is_shown v s end wait longer one two listens is e w l a b hears =
-    rw (a, b, hears, w, l, e, is)
+    listens ≡ listens_after v.said v.station → accepted ≡ last_mark s →
+    LimitedShows v (record { running = one; longer = two; listens = listens; end = end; accepted = accepted })
+limited_is_shown v s end wait longer one two listens accepted is e w l a b hears marked =
+    rw (a, b, hears, marked, w, l, e, is)
     (rw (
       no_wait v.station.ending v.cut (Some (answerer_wait v.station.state)),
       no_wait v.station.ending v.cut (answerer_longer_wait v.station.state),

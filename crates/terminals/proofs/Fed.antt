@@ -10,7 +10,8 @@ use Rattle.hdlc.specs.DeframerState.{DeframerState, IsAfter}
 use Rattle.terminals.specs.Hearing.{contents, new_contents, heard, heard_of, HasHeard}
 use Rattle.terminals.specs.Runs.{TakesAll, TakesSome}
 use Rattle.terminals.specs.Speaking.{Speaking, StepOf}
-use Rattle.terminals.specs.Watching.{Sees, seen_after}
+use Rattle.terminals.specs.Watching.{Sees, SeesBy, SeesOne, saw_all, seen_reading}
+use Rattle.terminals.proofs.Seen.{seen_is_saw}
 use Rattle.terminals.specs.declared.watching.Watched.{Watched}
 
 -- a deframer was fed a piece
@@ -51,7 +52,13 @@ hears_some steps piece framing fed after old new feeds is takes before has =
     let h = octets_taken before piece framing fed has feeds in
     (subst (λ f. HasHeard f (before ++ piece)) (sym is) h.0, subst (λ q. TakesSome steps old (heard q) new) h.1 takes)
 
-pub sees : (piece : List ℕ) (framing fed : DeframerState) (old new : Option Watched) → Feeds framing piece fed →
-    new ≡ seen_after old fed.queue → Sees framing piece old new
-sees piece framing fed old new feeds is before has =
-    is ∙ ap (seen_after old) (octets_taken before piece framing fed has feeds).1
+pub sees : {W : Type 0} (saw : SeesOne W) (piece : List ℕ) (framing fed : DeframerState) (old new : W) → Feeds framing piece fed →
+    new ≡ saw_all saw old fed.queue → SeesBy saw framing piece old new
+sees saw piece framing fed old new feeds is before has =
+    is ∙ ap (saw_all saw old) (octets_taken before piece framing fed has feeds).1
+
+-- what is seen by what is watched
+pub saw_watched : (piece : List ℕ) (framing fed : DeframerState) (old new : Option Watched) → Feeds framing piece fed →
+    new ≡ saw_all seen_reading old fed.queue → Sees framing piece old new
+saw_watched piece framing fed old new feeds is before has =
+    sees seen_reading piece framing fed old new feeds is before has ∙ seen_is_saw old (new_contents before piece)

@@ -14,3 +14,4 @@ pub mod Saying
 pub mod Writable
 pub mod FrameSizes
 pub mod BurstSizes
+pub mod Timeouts

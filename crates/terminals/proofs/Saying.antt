@@ -2,6 +2,7 @@
 use Rattle.std.proofs.Common.{◌≡◌, ◌≢◌, ◌∙◌, ap, refl, subst}
 use Rattle.std.specs.Prelude.{Option, Some, None, drop}
 use Rattle.stations.specs.Bursts.{bursts_of}
+use Rattle.signals.specs.declared.mark.Mark.{Mark}
 use Rattle.stations.specs.Stopping.{call_end, cut_by, stop_turn}
 use Rattle.stations.specs.Listening.{listens_after}
 use Rattle.stations.specs.Waits.{answerer_longer_wait, answerer_wait, caller_longer_wait, caller_wait, unless_over}
@@ -15,7 +16,7 @@ use Rattle.stations.specs.declared.waiting.Wait.{Wait}
 use Rattle.terminals.specs.Saying.{AnswerersHangUp, AnswerersLose, AnswerersStop, AreLeft, CallersHangUp, CallersLose, CallersStop}
 use Rattle.terminals.specs.Saying.{ShowsUntilEnd, WaitsAreShown, limited_lends, stoppable_lends}
 use Rattle.terminals.specs.Speaking.{spoken}
-use Rattle.terminals.specs.Stopping.{caller_cut_off, limited_cut_off, unless_cut}
+use Rattle.terminals.specs.Stopping.{caller_cut_off, last_mark, limited_cut_off, unless_cut}
 
 -- ---- hanging up, and a line that is gone
 
@@ -79,23 +80,24 @@ answerers_stop old left = (
 
 -- ---- what is shown
 
-shown_so : (ending : Option End) (cut : Option Cut) (wait : Wait) (longer : Option Wait) (listens : Listening) →
+shown_so : (ending : Option End) (cut : Option Cut) (wait : Wait) (longer : Option Wait) (listens : Listening) (mark : Option Mark) →
     ShowsUntilEnd
     (record {
       running = unless_cut cut (unless_over ending (Some wait));
       longer = unless_cut cut (unless_over ending longer);
       listens = listens;
       end = call_end ending cut;
+      accepted = mark;
     })
     wait longer
-shown_so None None wait longer listens = (λ none. (refl, refl), λ some. absurd (some refl))
-shown_so None (Some Stop) wait longer listens = (λ none. absurd cc, λ some. (refl, refl))
-shown_so None (Some Loss) wait longer listens = (λ none. absurd cc, λ some. (refl, refl))
-shown_so (Some why) None wait longer listens = (λ none. absurd cc, λ some. (refl, refl))
-shown_so (Some why) (Some cut) wait longer listens = (λ none. absurd cc, λ some. (refl, refl))
+shown_so None None wait longer listens mark = (λ none. (refl, refl), λ some. absurd (some refl))
+shown_so None (Some Stop) wait longer listens mark = (λ none. absurd cc, λ some. (refl, refl))
+shown_so None (Some Loss) wait longer listens mark = (λ none. absurd cc, λ some. (refl, refl))
+shown_so (Some why) None wait longer listens mark = (λ none. absurd cc, λ some. (refl, refl))
+shown_so (Some why) (Some cut) wait longer listens mark = (λ none. absurd cc, λ some. (refl, refl))
 
 pub waits_are_shown : WaitsAreShown
 waits_are_shown = (
-  λ t cut. shown_so t.ending cut (caller_wait t.state) (caller_longer_wait t.state) V21,
-  λ said s cut. shown_so s.ending cut (answerer_wait s.state) (answerer_longer_wait s.state) (listens_after said s),
+  λ t cut. shown_so t.ending cut (caller_wait t.state) (caller_longer_wait t.state) V21 None,
+  λ said s cut. shown_so s.ending cut (answerer_wait s.state) (answerer_longer_wait s.state) (listens_after said s) (last_mark s),
 )

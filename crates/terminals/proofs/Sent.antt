@@ -17,6 +17,7 @@ use Rattle.stations.specs.declared.bursts.Burst.{Burst}
 use Rattle.stations.specs.declared.lending.Item.{Item}
 use Rattle.terminals.specs.Sending.{idle, AreBitsOf, AreBits, IsSent}
 use Rattle.terminals.specs.Timing.{flags_before, flags_after}
+use Rattle.terminals.specs.Watching.{SawFirst, SawItem, SawItems, SeesSaid}
 use Rattle.terminals.specs.declared.sending.SentBurst.{SentBurst}
 
 -- ---- bits that are appended one after the other
@@ -83,6 +84,49 @@ pub all_written : (side : Side) (all left : BurstLeft) (start now : Bits) → le
 all_written side all left start now none h =
     let ended : AreBits side left.burst left.after [] = subst (λ b. AreBits side b left.after []) (sym none) refl in
     (h.written, subst (AreBits side all.burst all.after) (append-nil h.written) (h.rest [] ended), h.is)
+
+-- ---- items that are seen
+
+-- what is seen of the items that are left, after those before, is what is seen of all
+abbrev pub SeenLeft : {W : Type 0} → SeesSaid W → Side → BurstLeft → BurstLeft → W → W → Type 0
+SeenLeft {W} saw side all left start now =
+    (end : W) → SawItems saw side left.burst left.after now end → SawItems saw side all.burst all.after start end
+
+pub none_seen : {W : Type 0} (saw : SeesSaid W) (side : Side) (all : BurstLeft) (start : W) → SeenLeft saw side all all start start
+none_seen saw side all start = λ end seen. seen
+
+pub next_item_seen : {W : Type 0} (saw : SeesSaid W) (side : Side) (all left new : BurstLeft) (start now next : W) (item : Item) →
+    SeenLeft saw side all left start now → GivesBurstItem left (Some item) new →
+    ((following : List PlainItem) → TellsLast item following → SawItem saw side (plain_item item) following now next) →
+    SeenLeft saw side all new start next
+next_item_seen saw side all left new start now next item h gives sees = λ end seen.
+    h end
+    (subst (λ b. SawItems saw side b left.after now end) (sym gives.0)
+    (subst (λ l. SawItems saw side (plain_item item ∷ new.burst) l now end) gives.1 (next, sees (new.burst ++ new.after) gives.2, seen)))
+
+pub all_seen : {W : Type 0} (saw : SeesSaid W) (side : Side) (all left : BurstLeft) (start now : W) → left.burst ≡ [] →
+    SeenLeft saw side all left start now → SawItems saw side all.burst all.after start now
+all_seen saw side all left start now none h = h now (subst (λ b. SawItems saw side b left.after now now) (sym none) refl)
+
+pub burst_seen : {W : Type 0} (saw : SeesSaid W) (side : Side) (burst : Burst) (old new : W) →
+    SawItems saw side burst.items.burst burst.items.after old new → (bursts later : List PlainBurst) → GivesBurst bursts (Some burst) later →
+    SawFirst saw side bursts old new
+burst_seen {W} saw side burst old new seen bursts later gives =
+    subst (λ (b : List PlainBurst). SawFirst saw side b old new) (sym gives.0)
+    (subst (λ l. SawItems saw side burst.items.burst l old new) gives.1 seen)
+
+pub none_is_seen : {W : Type 0} (saw : SeesSaid W) (side : Side) (old : W) (bursts later : List PlainBurst) →
+    GivesBurst bursts None later → SawFirst saw side bursts old old
+none_is_seen saw side old bursts later gives = subst (λ (b : List PlainBurst). SawFirst saw side b old old) (sym gives.0) refl
+
+-- the first burst that is left of a turn, once those before it were passed over
+pub left_seen : {W : Type 0} (saw : SeesSaid W) (side sends : Side) (lent left later : List PlainBurst) (given : Option Burst) (taken : ℕ)
+    (old new : W) → side ≡ sends → left ≡ drop taken lent → GivesBurst left given later →
+    ((bursts rest : List PlainBurst) → GivesBurst bursts given rest → SawFirst saw side bursts old new) →
+    SawFirst saw sends (drop taken lent) old new
+left_seen saw side sends lent left later given taken old new side_is is gives seen =
+    subst (λ (s : Side). SawFirst saw s (drop taken lent) old new) side_is
+    (subst (λ (b : List PlainBurst). SawFirst saw side b old new) is (seen left later gives))
 
 -- ---- a burst
 

@@ -3,7 +3,7 @@ use Rattle.std.specs.Prelude.{ℕ, ◌≡◌, ◌≢◌, ◌⊎◌, ◌↔◌, �
 use Rattle.terminals.specs.declared.clock.Clock.{Clock}
 use Rattle.terminals.specs.declared.clock.Durations.{Durations}
 use Rattle.terminals.specs.declared.clock.LineState.{LineState}
-use Rattle.terminals.specs.declared.clock.LineState.TheVariants.{Quiet, Carrier, Unsaid}
+use Rattle.terminals.specs.declared.clock.LineState.TheVariants.{Quiet, Carrier, Ended, Unsaid}
 use Rattle.signals.specs.declared.signal.Side.{Side}
 use Rattle.signals.specs.declared.signal.Side.TheVariants.{Caller, Answerer}
 use Rattle.stations.specs.declared.waiting.Wait.{Wait}
@@ -30,6 +30,7 @@ since_or (Some since) at = Some since
 abbrev pub calm_at : Option ℕ → LineState → ℕ → Option ℕ
 calm_at calm Quiet at = since_or calm at
 calm_at calm Carrier at = None
+calm_at calm Ended at = None
 calm_at calm Unsaid at = calm
 
 -- the clock at a line: the line is calm from the first quiet line after a carrier

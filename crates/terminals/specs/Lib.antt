@@ -8,10 +8,12 @@ pub mod Memory
 pub mod Runs
 pub mod Saying
 pub mod Sending
+pub mod Passing
 pub mod Speaking
 pub mod Stations
 pub mod StationsAfter
 pub mod Stopping
+pub mod Timeouts
 pub mod Timing
 pub mod Watching
 pub mod WatchingLaws

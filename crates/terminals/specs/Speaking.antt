@@ -2,7 +2,7 @@
 use Rattle.std.specs.Prelude.{ℕ, ◌≡◌, Bool, true, false, cond, List, Result, Ok, Err}
 use Rattle.stations.specs.Bursts.{PlainBurst}
 use Rattle.stations.specs.declared.turn.Turn.{Turn}
-use Rattle.stations.specs.declared.turn.Turn.TheVariants.{Silent}
+use Rattle.stations.specs.declared.turn.Turn.TheVariants.{Mcf, Silent}
 use Rattle.terminals.specs.Hearing.{PlainInput}
 
 -- a station, the turn that is kept for sending, and how many of the turn's bursts were taken
@@ -15,6 +15,11 @@ pub record Speaking (S : Type 0) : Type 0 where
 abbrev pub is_silent : Turn → Bool
 is_silent Silent = true
 is_silent _ = false
+
+-- a turn is MCF
+abbrev pub is_mcf : Turn → Bool
+is_mcf Mcf = true
+is_mcf _ = false
 
 -- what the turn of a step makes of a station with its kept turn: it takes the place of the kept one; silence leaves the kept one
 abbrev pub spoken : {S : Type 0} → Speaking S → S → Turn → Speaking S

@@ -1,6 +1,7 @@
 -- Stations of a call that the program can stop, or whose line can go, as a terminal carries them.
-use Rattle.std.specs.Prelude.{◌≡◌, Bool, List, [], ◌∷◌, Option, Some, None}
+use Rattle.std.specs.Prelude.{◌≡◌, Bool, List, [], ◌∷◌, Option, Some, None, option_map}
 use Rattle.signals.specs.Signals.{dcn}
+use Rattle.signals.specs.declared.mark.Mark.{Mark}
 use Rattle.stations.specs.AnswererStep.{Answerer, AnswererAnswer, Steps, answerer_items, answerer_silent}
 use Rattle.stations.specs.Bursts.{PlainBurst, bursts_of}
 use Rattle.stations.specs.CallerFields.{Represents}
@@ -13,6 +14,7 @@ use Rattle.stations.specs.Waits.{answerer_longer_wait, answerer_wait, caller_lon
 use Rattle.stations.specs.declared.carrier.Carrier.TheVariants.{V21 as ByV21}
 use Rattle.stations.specs.declared.limiting.Limits.{Limits}
 use Rattle.stations.specs.declared.listening.Listening.TheVariants.{V21}
+use Rattle.stations.specs.declared.mark.Accepted.{Accepted}
 use Rattle.stations.specs.declared.stopping.CallEnd.{CallEnd}
 use Rattle.stations.specs.declared.stopping.Cut.{Cut}
 use Rattle.stations.specs.declared.stopping.Cut.TheVariants.{Stop, Loss}
@@ -72,19 +74,24 @@ abbrev pub unless_ended : Option CallEnd → Option Wait → Option Wait
 unless_ended None wait = wait
 unless_ended (Some why) wait = None
 
--- what a caller shows of its call
+-- what a caller shows of its call; it accepts no block
 abbrev pub caller_shown : Caller → Option Cut → Shown
 caller_shown t cut = record {
   running = unless_cut cut (unless_over t.ending (Some (caller_wait t.state)));
   longer = unless_cut cut (unless_over t.ending (caller_longer_wait t.state));
   listens = V21;
   end = call_end t.ending cut;
+  accepted = None;
 }
 
 -- what a caller whose call can be stopped shows, by any tuple that its fields represent: the waits that run, none after the end, what it
 -- listens for, and its end
 abbrev pub CallerShows : StoppableCallerFields → Shown → Type 0
 CallerShows v shown = (t : Caller) → Represents v.station t → shown ≡ caller_shown t v.cut
+
+-- the mark of the block that an answerer has accepted last
+abbrev pub last_mark : Answerer → Option Mark
+last_mark s = option_map (λ (accepted : Accepted). accepted.mark) s.accepted
 
 -- what an answerer whose last reply this is shows of its call
 abbrev pub answerer_shown : Turn → Answerer → Option Cut → Shown
@@ -93,6 +100,7 @@ answerer_shown said s cut = record {
   longer = unless_cut cut (unless_over s.ending (answerer_longer_wait s.state));
   listens = listens_after said s;
   end = call_end s.ending cut;
+  accepted = last_mark s;
 }
 
 -- what an answerer with limits shows: the waits that run, none after the end, what it listens for, and its end

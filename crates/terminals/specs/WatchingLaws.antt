@@ -1,9 +1,16 @@
--- Laws of what is watched: DCSs that aren't allowed, and page numbers that jump, by their octets and in a whole call.
-use Rattle.std.specs.Prelude.{ℕ, ◌≡◌, true, false, cond, List, [], ◌∷◌, Option, Some, None}
-use Rattle.terminals.specs.Watching.{follows, no_numbers, numbered_after, page_of, refusal_of, refused_after, second_refusal}
+-- Laws of what is watched: DCSs that aren't allowed, page numbers that jump, and marks that are used again, by their octets and in a whole
+-- call.
+use Rattle.std.specs.Prelude.{ℕ, ◌≡◌, ◌||◌, Bool, true, false, cond, List, [], ◌∷◌, Option, Some, None, Result, Ok, Err}
+use Rattle.terminals.specs.Watching.{follows, no_numbers, nothing_used, numbered_after, page_of, refusal_of, refused_after, second_refusal}
+use Rattle.terminals.specs.Watching.{used_after, used_now}
 use Rattle.terminals.specs.declared.watching.Refusal.{Refusal}
 use Rattle.terminals.specs.declared.watching.Refusal.TheVariants.{NoErrorCorrection, NotOffered}
 use Rattle.terminals.specs.declared.watching.Refused.TheVariants.{Never}
+use Rattle.signals.specs.Marks.{same_mark}
+use Rattle.signals.specs.Reading.{read_content}
+use Rattle.signals.specs.Signals.{PlainSignal, fcd, pps}
+use Rattle.signals.specs.declared.fault.SignalFault.{SignalFault}
+use Rattle.signals.specs.declared.mark.Mark.{Mark}
 use Rattle.signals.specs.declared.params.Caps.{Caps}
 use Rattle.signals.specs.declared.params.Modems.TheVariants.{V29, V17}
 use Rattle.signals.specs.declared.params.PageWidth.TheVariants.{W1728, W2432}
@@ -94,6 +101,66 @@ pub record GapsByOctets : Type 0 where
   pub goes_back : gap_in (mps_octets 0 ∷ mps_octets 1 ∷ eop_octets 0 ∷ []) ≡ Some 0
   -- the first jump of two
   pub first_of_two : gap_in (mps_octets 0 ∷ mps_octets 7 ∷ eop_octets 9 ∷ []) ≡ Some 7
+
+-- an FCD of frame 0 with one octet
+abbrev pub fcd_octets : List ℕ
+fcd_octets = 0xFF ∷ 0x03 ∷ 0x06 ∷ 0x00 ∷ 0x5A ∷ []
+
+-- a PPS-NULL of page 0: its block 1, of 256 frames, with which the page goes on
+abbrev pub null_octets : List ℕ
+null_octets = 0xFF ∷ 0x13 ∷ 0xBF ∷ 0x00 ∷ 0x00 ∷ 0x01 ∷ 0xFF ∷ []
+
+-- the mark of block 0 of page 0
+abbrev pub first_mark : Option Mark
+first_mark = Some (record { page = 0; block = 0 })
+
+-- a signal is an FCD
+abbrev pub is_fcd : Result PlainSignal SignalFault → Bool
+is_fcd (Ok (fcd number octets)) = true
+is_fcd (Ok signal) = false
+is_fcd (Err fault) = false
+
+-- a signal is a PPS of this mark
+abbrev pub is_pps_of : Mark → Result PlainSignal SignalFault → Bool
+is_pps_of mark (Ok (pps ends page block last)) = same_mark mark (record { page = page; block = block })
+is_pps_of mark (Ok signal) = false
+is_pps_of mark (Err fault) = false
+
+-- whether a page came under a used number in contents, after that block was accepted
+abbrev pub comes_again : Option Mark → List (List ℕ) → Bool
+comes_again mark contents = (used_after (used_now mark nothing_used) contents).again
+
+-- The law: pages under the number of the last one, by octets (T.30, A.4.3.2).
+pub record UsedByOctets : Type 0 where
+  -- a PPS that is repeated brings no frame; nor does the first one of a call
+  pub repeated : comes_again first_mark (mps_octets 0 ∷ mps_octets 0 ∷ []) ≡ false
+  pub first : comes_again None (fcd_octets ∷ mps_octets 0 ∷ []) ≡ false
+  -- a frame and the same mark: by the same PPS, and by the PPS of the last page
+  pub brought : comes_again first_mark (fcd_octets ∷ mps_octets 0 ∷ []) ≡ true
+  pub of_the_last : comes_again first_mark (fcd_octets ∷ eop_octets 0 ∷ []) ≡ true
+  -- another end alone brings no frame
+  pub of_another_end : comes_again first_mark (eop_octets 0 ∷ []) ≡ false
+  -- the next page and the next block; a frame alone
+  pub next_page : comes_again first_mark (fcd_octets ∷ mps_octets 1 ∷ []) ≡ false
+  pub next_block : comes_again first_mark (fcd_octets ∷ null_octets ∷ []) ≡ false
+  pub none_before : comes_again first_mark (fcd_octets ∷ []) ≡ false
+  -- frames that came before a block was accepted are its own; those after it stay known until another block is
+  pub another_now : (used_now first_mark (used_after nothing_used (fcd_octets ∷ []))).frames ≡ false
+  pub still_so : (used_now first_mark (used_after (used_now first_mark nothing_used) (fcd_octets ∷ []))).frames ≡ true
+
+-- the contents after the first FCD among these
+abbrev pub after_fcd : List (List ℕ) → List (List ℕ)
+after_fcd [] = []
+after_fcd (content ∷ contents) = cond (is_fcd (read_content content)) contents (after_fcd contents)
+
+-- whether one of contents is a PPS of this mark
+abbrev pub names_mark : Mark → List (List ℕ) → Bool
+names_mark mark [] = false
+names_mark mark (content ∷ contents) = is_pps_of mark (read_content content) || names_mark mark contents
+
+-- The law: after a block was accepted, a page came under its number exactly if one of the contents after the first FCD is a PPS of its mark.
+abbrev pub UsedIsBrought : Type 0
+UsedIsBrought = (mark : Mark) (contents : List (List ℕ)) → comes_again (Some mark) contents ≡ names_mark mark (after_fcd contents)
 
 -- a number before others, if there is one
 abbrev pub put_number : Option ℕ → List ℕ → List ℕ

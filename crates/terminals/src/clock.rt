@@ -17,8 +17,10 @@ use stations::Wait;
 pub enum LineState {
     /// Nothing is on the line.
     Quiet,
-    /// A carrier of the other side is on, or has just ended.
+    /// A carrier of the other side is on, or has ended, and the program doesn't say so.
     Carrier,
+    /// A carrier of the other side has just ended: it is this side's turn.
+    Ended,
     /// Neither is said.
     Unsaid,
 }
@@ -95,7 +97,7 @@ impl Clock {
     {
         let calm = match line {
             LineState::Quiet => Some(self.calm.unwrap_or(at)),
-            LineState::Carrier => None,
+            LineState::Carrier | LineState::Ended => None,
             LineState::Unsaid => self.calm,
         };
         Clock {
@@ -232,7 +234,7 @@ impl Clock {
     }
 
     /// True if a duration has passed since a time.
-    fn is_past(self, since: Option<u64>, duration: u32) -> bool
+    pub(crate) fn is_past(self, since: Option<u64>, duration: u32) -> bool
         ensures { result ≡ is_past self.now since duration }
     {
         match since {
@@ -243,7 +245,7 @@ impl Clock {
 }
 
 /// When a duration since a time has passed.
-fn due(since: Option<u64>, duration: u32) -> Option<u128>
+pub(crate) fn due(since: Option<u64>, duration: u32) -> Option<u128>
     ensures { result ≡ due since duration }
 {
     match since {
@@ -253,7 +255,7 @@ fn due(since: Option<u64>, duration: u32) -> Option<u128>
 }
 
 /// The earlier one of two times.
-fn earlier(one: Option<u128>, other: Option<u128>) -> Option<u128>
+pub(crate) fn earlier(one: Option<u128>, other: Option<u128>) -> Option<u128>
     ensures { result ≡ earlier one other }
 {
     match (one, other) {

@@ -11,7 +11,8 @@ ghost use Rattle.terminals.specs.Saying.{AnswerersHangUp, AnswerersLose, Answere
 ghost use Rattle.terminals.specs.Saying.{TurnsAreLeft, WaitsAreShown};
 ghost use Rattle.terminals.specs.StationsAfter.{AnswererIsAfter, CallerIsAfter};
 ghost use Rattle.terminals.specs.Stopping.{AnswerersSendDcn, CallersSendDcn};
-ghost use Rattle.terminals.specs.WatchingLaws.{GapIsFirstJump, GapsByOctets, RefusedByOctets, SecondIsRefused};
+ghost use Rattle.terminals.specs.Timeouts.{LimitsHold, TimeoutsAreDue};
+ghost use Rattle.terminals.specs.WatchingLaws.{GapIsFirstJump, GapsByOctets, RefusedByOctets, SecondIsRefused, UsedByOctets, UsedIsBrought};
 ghost use Rattle.terminals.specs.Writable.{AnswerersCanBeWritten, AnswerersSendWhole, CallersCanBeWritten, CallersSendWhole};
 ghost use Rattle.terminals.specs.Writable.{KeptMapsAreWhole, MapsAreWhole};
 
@@ -67,6 +68,13 @@ pub fn waits_are_shown()
 /// time.
 pub fn waits_are_named()
     ensures { WaitsAreNamed }
+{}
+
+/// Something is to be done at a time exactly if the time at which it is due has come, whatever the line is. So a program that waits for that
+/// time and tells it never spins; and a call that has a limit ends by it, by DCN once the line is quiet, or else in silence.
+pub fn timeouts_are_due()
+    ensures due { TimeoutsAreDue }
+    ensures limits { LimitsHold }
 {}
 
 /// T2 and T4 are never over while a carrier is on, nor before the line has been quiet since a carrier of either side.
@@ -162,4 +170,11 @@ pub fn second_is_refused()
 pub fn gaps_are_jumps()
     ensures octets { GapsByOctets }
     ensures first { GapIsFirstJump }
+{}
+
+/// A page under the number of the last one, and a PPS that is repeated, by octets; and such a page came exactly if a PPS of the last block's
+/// mark comes after an FCD.
+pub fn used_by_octets()
+    ensures octets { UsedByOctets }
+    ensures brought { UsedIsBrought }
 {}

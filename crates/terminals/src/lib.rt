@@ -6,23 +6,27 @@ mod clock;
 mod fault;
 mod input;
 pub mod laws;
+mod passing;
 mod sending;
 mod speaking;
 mod station;
 mod stopping;
 mod terminal;
+mod timeout;
 mod timing;
 mod watching;
 
 pub use crate::clock::{Clock, Durations, LineState};
 pub use crate::fault::HearFault;
 pub use crate::input::Input;
+pub use crate::passing::{Moment, is_awaited, pass};
 pub use crate::sending::SentBurst;
 pub use crate::station::Station;
 pub use crate::stopping::{Shown, Stoppable};
 pub use crate::terminal::{AnswererTerminal, CallerTerminal, Terminal};
+pub use crate::timeout::{Limit, Timeout};
 pub use crate::timing::{
     BETWEEN_CARRIERS_MILLIS, T1_MILLIS, T2_MILLIS, T4_MILLIS, T5_MILLIS, flags_after, flags_before,
     wait_millis,
 };
-pub use crate::watching::{PageNumbers, Refusal, Refused, Watched, page_of, refusal_of};
+pub use crate::watching::{PageNumbers, Refusal, Refused, UsedMark, Watch, Watched, note};

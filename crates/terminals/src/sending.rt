@@ -6,12 +6,14 @@ ghost use Rattle.signals.specs.Signals.{plain};
 ghost use Rattle.signals.specs.Writing.{IsWritable};
 ghost use Rattle.std.specs.Prelude.{◌≡◌, ◌↔◌, ◌*◌, [], List, Bool, drop, replicate, false, IfOk, IsTrue, OnOk};
 ghost use Rattle.stations.specs.Bursts.{PlainBurst, items_of};
-ghost use Rattle.stations.specs.GivenBursts.{plain_burst};
+ghost use Rattle.stations.specs.GivenBursts.{GivesBurst, plain_burst};
 ghost use Rattle.stations.specs.Inputs.{PlainItem};
 ghost use Rattle.stations.specs.Lending.{TellsLast, plain_item};
 ghost use Rattle.terminals.specs.Sending.{AreBits, AreBitsOf, IsSent, idle};
+ghost use Rattle.terminals.specs.Watching.{SawFirst, SawItem, SawItems};
 
 use crate::timing::{flags_after, flags_before};
+use crate::watching::Watch;
 use hdlc::write_frame;
 use run_tables::{BitWriter, Order};
 use signals::{Side, Signal};
@@ -128,4 +130,41 @@ fn write_items(writer: &mut BitWriter, side: Side, items: BurstItems<'_>) -> Res
         write_item(writer, side, item)?;
     }
     Ok(())
+}
+
+/// An item that is said is seen, if it is a frame.
+fn see_item<W: Watch>(side: Side, item: Item<'_>, watch: &mut W)
+    ensures { (following : List PlainItem) → TellsLast item.entry following →
+        SawItem W.saw_said side (plain_item item.entry) following watch.old watch.new }
+{
+    match item {
+        Item::Frame { signal, last } => {
+            if is_writable(signal) {
+                let said = signals::write(&signal, side, last);
+                watch.see_said(said.as_slice(), signal);
+            }
+        }
+        Item::Training(_) => {}
+    }
+}
+
+/// The frames of a burst that is said are seen.
+fn see_items<W: Watch>(side: Side, items: BurstItems<'_>, watch: &mut W)
+    ensures { SawItems W.saw_said side items.entry.burst items.entry.after watch.old watch.new }
+{
+    let mut left = items;
+    while let Some(item) = left.take_next() {
+        see_item(side, item, watch);
+    }
+}
+
+/// The frames of a burst that is said are seen, if there is one.
+pub(crate) fn see_burst<W: Watch>(side: Side, burst: Option<Burst<'_>>, watch: &mut W)
+    ensures { (bursts later : List PlainBurst) → GivesBurst bursts burst.entry later →
+        SawFirst W.saw_said side bursts watch.old watch.new }
+{
+    match burst {
+        Some(burst) => see_items(side, burst.items, watch),
+        None => {}
+    }
 }

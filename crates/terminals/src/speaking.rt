@@ -1,20 +1,22 @@
 //! A station with the turn that it has to say.
 
-ghost use Rattle.std.specs.Prelude.{◌≡◌, [], OnOk, OnErr, true, false};
-ghost use Rattle.signals.specs.Reading.{read_content};
+ghost use Rattle.std.specs.Prelude.{◌≡◌, [], List, OnOk, OnErr, drop, true, false};
+ghost use Rattle.signals.specs.Signals.{plain_read};
+ghost use Rattle.stations.specs.Bursts.{PlainBurst};
 ghost use Rattle.terminals.specs.Hearing.{heard, heard_if, plain_input};
 ghost use Rattle.terminals.specs.Runs.{TakesAll, TakesSome};
 ghost use Rattle.terminals.specs.Sending.{HasBurst, Sends};
-ghost use Rattle.terminals.specs.Speaking.{Takes, is_silent, spoken};
+ghost use Rattle.terminals.specs.Speaking.{AreLent, Takes, is_mcf, is_silent, spoken};
 ghost use Rattle.terminals.specs.Stopping.{hung_up, silenced, stopped};
-ghost use Rattle.terminals.specs.Watching.{seen_after};
+ghost use Rattle.terminals.specs.Watching.{SawFirst, SawSent, saw_all, seen_reading};
 
 use crate::input::Input;
-use crate::sending::{SentBurst, pass, send};
+use crate::sending::{SentBurst, pass, see_burst, send};
 use crate::station::Station;
 use crate::stopping::Stoppable;
-use crate::watching::{Watched, see};
+use crate::watching::{Watch, Watched};
 use hdlc::Deframer;
+use signals::{Signal, SignalFault};
 use stations::Turn;
 use std::alloc::{AllocError, Global};
 use std::marker::Model;
@@ -69,10 +71,26 @@ impl<S: Station> Speaker<S> {
         Ok(())
     }
 
-    /// The next burst of the turn that is kept, as it is sent; None if all were taken. `AllocError` if memory is
-    /// refused; nothing changes.
-    pub(crate) fn next_burst(&mut self, alloc: Global) -> Result<Option<SentBurst>, AllocError>
-        ensures { Sends S.sends S.lends self.old self.new result }
+    /// The frames of the next burst of the turn that is kept are seen, if one is left.
+    fn see_next<W: Watch>(&self, watch: &mut W)
+        ensures { (bursts : List PlainBurst) × AreLent S.lends self.now.station self.now.turn bursts
+            × SawFirst W.saw_said S.sends (drop self.now.taken bursts) watch.old watch.new }
+    {
+        let mut bursts = self.station.lend(&self.turn);
+        pass(&mut bursts, self.taken);
+        let next = bursts.take_next();
+        see_burst(self.station.side(), next, watch);
+    }
+
+    /// The next burst of the turn that is kept, as it is sent; None if all were taken. Its frames are seen once it is whole. `AllocError` if
+    /// memory is refused; nothing changes.
+    pub(crate) fn next_burst<W: Watch>(
+        &mut self,
+        alloc: Global,
+        watch: &mut W,
+    ) -> Result<Option<SentBurst>, AllocError>
+        ensures sends { Sends S.sends S.lends self.old self.new result }
+        ensures says { SawSent W.saw_said S.sends S.lends self.old watch.old watch.new result }
     {
         // As the station has them now: a silent input since, such as the MCF of a group's last block, can leave nothing
         // of the turn.
@@ -85,8 +103,16 @@ impl<S: Station> Speaker<S> {
             return Ok(None);
         };
         let sent = send(alloc, self.station.side(), burst)?;
+        self.see_next(watch);
         self.taken = next;
         Ok(Some(sent))
+    }
+
+    /// Whether the turn that is kept is MCF.
+    pub(crate) fn confirms(&self) -> bool
+        ensures { result ≡ is_mcf self.now.turn }
+    {
+        matches!(self.turn, Turn::Mcf)
     }
 
     /// Whether a burst of the turn that is kept is left to be sent.
@@ -101,13 +127,12 @@ impl<S: Station> Speaker<S> {
         bursts.take_next().is_some()
     }
 
-    /// The station hears what a content says; a content that says no signal is left out. Returns false if memory was
-    /// refused; nothing has changed.
-    fn hear_content(&mut self, content: &[u8]) -> bool
-        ensures heard { result ≡ true → TakesAll S.steps self.old (heard_if (read_content content.now)) self.new }
+    /// The station hears what a content says; nothing if it says no signal. Returns false if memory was refused; nothing has changed.
+    pub(crate) fn hear_said(&mut self, said: Result<Signal<'_>, SignalFault>) -> bool
+        ensures heard { result ≡ true → TakesAll S.steps self.old (heard_if (plain_read said.entry)) self.new }
         ensures lost { result ≡ false → self.new ≡ self.old }
     {
-        let Ok(signal) = signals::read(content) else {
+        let Ok(signal) = said else {
             return true;
         };
         match self.hear(Input::Heard(signal)) {
@@ -148,22 +173,26 @@ impl<S: Stoppable> Speaker<S> {
     }
 }
 
-/// The station hears what each content that waits says, and what is watched of each is seen. Returns false if memory was refused; some
+/// The station hears what each content that waits says, and each is seen, read once. Returns false if memory was refused; some
 /// contents are lost to the station.
-pub(crate) fn hear_waiting<S: Station>(
+pub(crate) fn hear_waiting<S: Station, W: Watch>(
     deframer: &mut Deframer,
     speaker: &mut Speaker<S>,
     watched: &mut Option<Watched>,
+    watch: &mut W,
 ) -> bool
     ensures all { result ≡ true → TakesAll S.steps speaker.old (heard deframer.old.queue) speaker.new }
     ensures some { TakesSome S.steps speaker.old (heard deframer.old.queue) speaker.new }
-    ensures seen { watched.new ≡ seen_after watched.old deframer.old.queue }
+    ensures watched { watched.new ≡ saw_all seen_reading watched.old deframer.old.queue }
+    ensures seen { watch.new ≡ saw_all W.saw watch.old deframer.old.queue }
     ensures taken { deframer.new ≡ record deframer.old { queue = [] } }
 {
     let mut all = true;
     while let Some(content) = deframer.next() {
-        see(watched, content);
-        all &= speaker.hear_content(content);
+        let said = signals::read(content);
+        watched.see(content, said);
+        watch.see(content, said);
+        all &= speaker.hear_said(said);
     }
     all
 }

@@ -12,7 +12,7 @@ ghost use Rattle.terminals.specs.declared.stopping.Shown.{Shown};
 
 use crate::input::Input;
 use crate::station::{Station, answerer_input, caller_input};
-use signals::Side;
+use signals::{Mark, Side};
 use stations::{Bursts, CallEnd, LimitedAnswerer, Listening, StoppableCaller, Turn, Wait};
 use std::alloc::AllocError;
 
@@ -27,6 +27,8 @@ pub struct Shown {
     pub listens: Listening,
     /// Why the call ended, if it has.
     pub end: Option<CallEnd>,
+    /// The mark of the block that an answerer has accepted last; None before the first one, and of a caller.
+    pub accepted: Option<Mark>,
 }
 
 /// A station whose call can be stopped, or lost with its line.
@@ -100,6 +102,7 @@ impl Stoppable for StoppableCaller {
             longer: unless_ended(end, station.longer_wait()),
             listens: station.listens(),
             end,
+            accepted: None,
         }
     }
 }
@@ -150,6 +153,7 @@ impl Stoppable for LimitedAnswerer {
             longer: unless_ended(end, station.longer_wait()),
             listens: self.listens(),
             end,
+            accepted: station.last_mark(),
         }
     }
 }

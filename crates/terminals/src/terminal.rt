@@ -5,10 +5,10 @@ ghost use Rattle.hdlc.specs.DeframerState.{IsAfter};
 ghost use Rattle.terminals.specs.Hearing.{HasHeard, check, over, busy, good_frames};
 ghost use Rattle.terminals.specs.Runs.{Hears};
 ghost use Rattle.terminals.specs.Sending.{HasBurst, Sends};
-ghost use Rattle.terminals.specs.Speaking.{Takes};
+ghost use Rattle.terminals.specs.Speaking.{Takes, is_mcf};
 ghost use Rattle.terminals.specs.Stations.{without_pages};
 ghost use Rattle.terminals.specs.Stopping.{IsShown, hung_up, silenced, stopped, with_pages_taken};
-ghost use Rattle.terminals.specs.Watching.{SeesIfTaken};
+ghost use Rattle.terminals.specs.Watching.{SawSent, SeesByIfTaken, SeesIfTaken};
 
 use crate::fault::HearFault;
 use crate::input::Input;
@@ -16,7 +16,7 @@ use crate::sending::SentBurst;
 use crate::speaking::{Speaker, hear_waiting};
 use crate::station::Station;
 use crate::stopping::{Shown, Stoppable};
-use crate::watching::Watched;
+use crate::watching::{Watch, Watched};
 use hdlc::Deframer;
 use raster::Page;
 use stations::{Answerer, Caller, LimitedAnswerer, Turn, Wait};
@@ -101,10 +101,25 @@ impl<S: Station> Terminal<S> {
         ensures hears { Hears S.steps self.old octets.now self.new result }
         ensures sees { SeesIfTaken self.old.framing octets.now watched.old watched.new result }
     {
+        let mut nothing: Option<Watched> = None;
+        self.hear_by(octets, watched, &mut nothing)
+    }
+
+    /// Hears octets as `hear_watching` does; a second watch sees each good frame too, which is read once.
+    pub fn hear_by<W: Watch>(
+        &mut self,
+        octets: &[u8],
+        watched: &mut Option<Watched>,
+        watch: &mut W,
+    ) -> Result<(), HearFault>
+        ensures hears { Hears S.steps self.old octets.now self.new result }
+        ensures sees { SeesIfTaken self.old.framing octets.now watched.old watched.new result }
+        ensures seen { SeesByIfTaken W.saw self.old.framing octets.now watch.old watch.new result }
+    {
         if let Err(_) = self.deframer.feed(octets) {
             return Err(HearFault::NothingTaken);
         }
-        if hear_waiting(&mut self.deframer, &mut self.speaker, watched) {
+        if hear_waiting(&mut self.deframer, &mut self.speaker, watched, watch) {
             return Ok(());
         }
         Err(HearFault::FrameLost)
@@ -145,13 +160,33 @@ impl<S: Station> Terminal<S> {
         self.speaker.has_burst()
     }
 
+    /// Returns whether the turn that is kept is MCF, which confirms all blocks that were accepted so far. Takes no memory.
+    pub fn confirms(&self) -> bool
+        ensures { result ≡ is_mcf self.now.speaking.turn }
+    {
+        self.speaker.confirms()
+    }
+
     /// Takes the next burst of the turn that is kept, to be sent: flags, the frames of its items, flags; or the zeros
     /// of a training check. None if all were taken. `AllocError` if memory is refused; nothing changes.
     pub fn next_burst(&mut self) -> Result<Option<SentBurst>, AllocError>
         ensures sends { Sends S.sends S.lends self.old.speaking self.new.speaking result }
         ensures framing { self.new.framing ≡ self.old.framing }
     {
-        self.speaker.next_burst(self.alloc)
+        let mut nothing: Option<Watched> = None;
+        self.next_burst_by(&mut nothing)
+    }
+
+    /// Takes the next burst as `next_burst` does; a watch sees each of its frames once the burst is whole.
+    pub fn next_burst_by<W: Watch>(
+        &mut self,
+        watch: &mut W,
+    ) -> Result<Option<SentBurst>, AllocError>
+        ensures sends { Sends S.sends S.lends self.old.speaking self.new.speaking result }
+        ensures framing { self.new.framing ≡ self.old.framing }
+        ensures says { SawSent W.saw_said S.sends S.lends self.old.speaking watch.old watch.new result }
+    {
+        self.speaker.next_burst(self.alloc, watch)
     }
 }
 

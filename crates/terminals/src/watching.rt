@@ -1,19 +1,55 @@
-//! What an answerer watches its caller for: DCSs that it doesn't allow, and page numbers that jump.
+//! What an answerer watches its caller for: DCSs that it doesn't allow, page numbers that jump, and a page under the number of the last one.
 
 ghost use Rattle.signals.specs.Reading.{field_bit, late_bit, with_x};
-ghost use Rattle.std.specs.Prelude.{◌≡◌, ◌≤◌, Some, None, cond, drop};
-ghost use Rattle.terminals.specs.Watching.{first_gap, follows, numbered_by, page_of, refusal_of, refused_by, seen_by, watched_by};
-ghost use Rattle.terminals.specs.Watching.{no_numbers, nothing_watched, once_more, second_refusal, unknown_dcs};
+ghost use Rattle.signals.specs.Signals.{PlainSignal, plain, plain_read};
+ghost use Rattle.signals.specs.declared.fault.SignalFault.{SignalFault as AnyFault};
+ghost use Rattle.std.specs.Prelude.{◌≡◌, ◌≤◌, ◌||◌, ◌&&◌, List, Result as AnyResult, Some, None, cond, drop, ℕ};
+ghost use Rattle.terminals.specs.Watching.{first_gap, follows, numbered_by, page_read, refusal_read, refused_by, seen_reading};
+ghost use Rattle.terminals.specs.Watching.{is_marked, is_still, no_numbers, noted, nothing_used, nothing_watched, once_more, refusal_for};
+ghost use Rattle.terminals.specs.Watching.{refusal_of_seen, second_refusal, unknown_dcs, used_now, used_read, watched_reading};
 
-use signals::{Caps, Signal, allows};
+use signals::{Caps, Mark, Signal, SignalFault, allows};
 
-/// Why a DCS isn't allowed.
+/// What sees each good frame that a terminal hears, once, with what it says, and each frame that its station says: what is watched, notes.
+pub trait Watch {
+    // What it is after a content that was heard and what that says.
+    ghost saw: { Self → List ℕ → AnyResult PlainSignal AnyFault → Self };
+
+    // What it is after a content that the station says and its signal.
+    ghost saw_said: { Self → List ℕ → PlainSignal → Self };
+
+    /// Sees the content of a good frame, and what it says.
+    fn see(&mut self, content: &[u8], said: Result<Signal<'_>, SignalFault>)
+        ensures { self.new ≡ saw self.old content.now (plain_read said.entry) };
+
+    /// Sees the content of a frame that the station says, and its signal.
+    fn see_said(&mut self, content: &[u8], signal: Signal<'_>)
+        ensures { self.new ≡ saw_said self.old content.now (plain signal.entry) };
+}
+
+impl Watch for Option<Watched> {
+    ghost saw = { seen_reading };
+
+    ghost saw_said = { λ watched content signal. watched };
+
+    fn see(&mut self, content: &[u8], said: Result<Signal<'_>, SignalFault>) {
+        if let Some(before) = *self {
+            *self = Some(before.with(content, said));
+        }
+    }
+
+    fn see_said(&mut self, _content: &[u8], _signal: Signal<'_>) {}
+}
+
+/// Why a call is refused.
 #[derive(Clone, Copy, Debug, PartialEq, Eq)]
 pub enum Refusal {
-    /// Its pages would come without error correction.
+    /// Of a DCS: its pages would come without error correction.
     NoErrorCorrection,
-    /// The answerer has no such speed, width, lines or code.
+    /// Of a DCS: the answerer has no such speed, width, lines or code.
     NotOffered,
+    /// A page or block came under the numbers of the one that was accepted last, so that its PPS can't be told from a repeated one.
+    UsedNumber,
 }
 
 /// How often a DCS wasn't allowed.
@@ -36,6 +72,17 @@ pub struct PageNumbers {
     pub gap: Option<u8>,
 }
 
+/// The mark of the block that a station accepted last, and what has come since.
+#[derive(Clone, Copy, Debug, PartialEq, Eq)]
+pub struct UsedMark {
+    /// The mark; None before the first block.
+    pub mark: Option<Mark>,
+    /// Whether an FCD has come since.
+    pub frames: bool,
+    /// Whether a PPS with such a mark has come after an FCD: other content under used numbers.
+    pub again: bool,
+}
+
 /// What was seen of a caller in the frames that an answerer heard, apart from what the station makes of them.
 #[derive(Clone, Copy, Debug, PartialEq, Eq)]
 pub struct Watched {
@@ -45,6 +92,8 @@ pub struct Watched {
     pub refused: Refused,
     /// The page numbers.
     pub pages: PageNumbers,
+    /// The mark of the block that was accepted last.
+    pub used: UsedMark,
 }
 
 impl Watched {
@@ -56,29 +105,134 @@ impl Watched {
             caps,
             refused: Refused::Never,
             pages: PageNumbers::NONE,
+            used: UsedMark::NONE,
         }
     }
 
-    /// What was seen, with the content of a good frame.
-    pub fn with(self, content: &[u8]) -> Watched
-        ensures { result ≡ watched_by self content.now }
+    /// What was seen, with the content of a good frame and what it says.
+    fn with(self, content: &[u8], said: Result<Signal<'_>, SignalFault>) -> Watched
+        ensures { result ≡ watched_reading self content.now (plain_read said.entry) }
     {
         Watched {
             caps: self.caps,
-            refused: refused_by(self.refused, refusal_of(&self.caps, content)),
-            pages: self.pages.with(page_of(content)),
+            refused: refused_by(self.refused, refusal_read(&self.caps, content, said)),
+            pages: self.pages.with(page_read(said)),
+            used: self.used.with(said),
         }
     }
 
-    /// Why a second DCS wasn't allowed; None if there was none.
+    /// Why the call is refused: the second DCS wasn't allowed, or a page came under the number of the last one. None if it isn't.
     pub fn refusal(self) -> Option<Refusal>
-        ensures { result ≡ second_refusal self.refused }
+        ensures { result ≡ refusal_of_seen self }
     {
-        match self.refused {
+        refusal_for(self.refused.second(), self.used.again)
+    }
+
+    /// Why the call is refused, whatever DCSs there were: a page came under the number of the last one. None if it isn't.
+    pub fn reuse(self) -> Option<Refusal>
+        ensures { result ≡ refusal_for None self.used.again }
+    {
+        refusal_for(None, self.used.again)
+    }
+}
+
+impl Refused {
+    /// Why a second DCS wasn't allowed; None if there was none.
+    fn second(self) -> Option<Refusal>
+        ensures { result ≡ second_refusal self }
+    {
+        match self {
             Refused::Never | Refused::Once => None,
             Refused::Twice(why) => Some(why),
         }
     }
+}
+
+impl UsedMark {
+    /// No block was accepted yet.
+    const NONE: UsedMark = UsedMark {
+        mark: None,
+        frames: false,
+        again: false,
+    };
+
+    /// The used mark, if a station has accepted this block last: after another one no frame has come.
+    fn now(self, mark: Option<Mark>) -> UsedMark
+        ensures { result ≡ used_now mark self }
+    {
+        UsedMark {
+            mark,
+            frames: is_still(self.mark, mark) && self.frames,
+            again: self.again,
+        }
+    }
+
+    /// The used mark after a signal.
+    fn with(self, said: Result<Signal<'_>, SignalFault>) -> UsedMark
+        ensures { result ≡ used_read self (plain_read said.entry) }
+    {
+        match said {
+            Ok(Signal::Fcd { .. }) => UsedMark {
+                frames: true,
+                ..self
+            },
+            Ok(Signal::Pps { page, block, .. }) => self.named(Mark { page, block }),
+            _ => self,
+        }
+    }
+
+    /// The used mark after a PPS with this mark.
+    fn named(self, mark: Mark) -> UsedMark
+        ensures { result ≡ record self { again = self.again || (self.frames && is_marked self.mark mark) } }
+    {
+        UsedMark {
+            again: self.again || self.frames && is_marked(self.mark, mark),
+            ..self
+        }
+    }
+}
+
+/// Notes which block a station has accepted last, if anything is watched: before each input, so that a page under its number is seen. Octets
+/// that bring a page and at once another one under its number count as one page, and get one answer.
+pub fn note(watched: &mut Option<Watched>, mark: Option<Mark>)
+    ensures { watched.new ≡ noted mark watched.old }
+{
+    if let Some(before) = *watched {
+        *watched = Some(Watched {
+            used: before.used.now(mark),
+            ..before
+        });
+    }
+}
+
+/// Whether this is the mark of a block that was accepted.
+fn is_marked(accepted: Option<Mark>, mark: Mark) -> bool
+    ensures { result ≡ is_marked accepted mark }
+{
+    match accepted {
+        None => false,
+        Some(accepted) => accepted.is_same(mark),
+    }
+}
+
+/// Whether two blocks that were accepted last have one mark.
+fn is_still(before: Option<Mark>, now: Option<Mark>) -> bool
+    ensures { result ≡ is_still before now }
+{
+    match before {
+        None => false,
+        Some(mark) => is_marked(now, mark),
+    }
+}
+
+/// Why a call is refused: for a page under a used number, or for the second DCS that isn't allowed.
+fn refusal_for(second: Option<Refusal>, again: bool) -> Option<Refusal>
+    ensures { result ≡ refusal_for second again }
+{
+    if again {
+        return Some(Refusal::UsedNumber);
+    }
+    second
 }
 
 impl PageNumbers {
@@ -123,23 +277,13 @@ fn follows(last: Option<u8>, page: u8) -> bool
     }
 }
 
-/// Returns the page number of the content of a frame, from 0, modulo 256; None if it isn't a PPS.
-#[tactic(auto, unfolding(crate::specs::Watching::page_of))]
-pub fn page_of(content: &[u8]) -> Option<u8>
-    ensures { result ≡ page_of content.now }
+/// The page number of a signal; None if it isn't a PPS.
+fn page_read(said: Result<Signal<'_>, SignalFault>) -> Option<u8>
+    ensures { result ≡ page_read (plain_read said.entry) }
 {
-    match signals::read(content) {
+    match said {
         Ok(Signal::Pps { page, .. }) => Some(page),
         _ => None,
-    }
-}
-
-/// What was seen, with a content, if anything is watched.
-pub(crate) fn see(watched: &mut Option<Watched>, content: &[u8])
-    ensures { watched.new ≡ seen_by watched.old content.now }
-{
-    if let Some(before) = *watched {
-        *watched = Some(before.with(content));
     }
 }
 
@@ -164,13 +308,15 @@ fn once_more(refused: Refused, why: Refusal) -> Refused
     }
 }
 
-/// Returns why a frame's content is a DCS that an answerer with these capabilities doesn't allow; None if it allows it, or if the content is
-/// no DCS. ITU-T T.30, 5.3.6.2.
-#[tactic(auto, unfolding(crate::specs::Watching::refusal_of))]
-pub fn refusal_of(caps: &Caps, content: &[u8]) -> Option<Refusal>
-    ensures { result ≡ refusal_of caps.now content.now }
+/// Why a content that says this is a DCS that isn't allowed, if it is one (ITU-T T.30, 5.3.6.2).
+fn refusal_read(
+    caps: &Caps,
+    content: &[u8],
+    said: Result<Signal<'_>, SignalFault>,
+) -> Option<Refusal>
+    ensures { result ≡ refusal_read caps.now (drop 3 content.now) (plain_read said.entry) }
 {
-    match signals::read(content) {
+    match said {
         Ok(Signal::Dcs(params)) => {
             if allows(caps, &params) {
                 None

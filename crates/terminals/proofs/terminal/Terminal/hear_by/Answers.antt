@@ -1,5 +1,5 @@
-use Rattle.terminals.proofs.Fed.{hears_all, hears_some, sees}
-use Rattle.terminals.proofs.terminal.Terminal.hear_watching.Goals as goal
+use Rattle.terminals.proofs.Fed.{hears_all, hears_some, saw_watched, sees}
+use Rattle.terminals.proofs.terminal.Terminal.hear_by.Goals as goal
 
 pub returns-then-hear_waiting-clause-hears : goal.returns-then-hear_waiting-clause-hears
 returns-then-hear_waiting-clause-hears g c =
@@ -18,11 +18,23 @@ returns-clause-hears g c =
 pub returns-then-hear_waiting-clause-sees : goal.returns-then-hear_waiting-clause-sees
 returns-then-hear_waiting-clause-sees g c =
     rw (← c.self.view_is)
-    (sees c.args.octets.now c.self.inside.deframer c.feed.new.self c.args.watched.now c.hear_waiting.new.watched
+    (saw_watched c.args.octets.now c.self.inside.deframer c.feed.new.self c.args.watched.now c.hear_waiting.new.watched
+    c.in_default.ensures.ok c.hear_waiting.ensures.watched)
+
+pub returns-then-hear_waiting-clause-seen : goal.returns-then-hear_waiting-clause-seen
+returns-then-hear_waiting-clause-seen g c =
+    rw (← c.self.view_is)
+    (sees g.W.Watch.saw c.args.octets.now c.self.inside.deframer c.feed.new.self c.args.watch.now c.hear_waiting.new.watch
     c.in_default.ensures.ok c.hear_waiting.ensures.seen)
 
 pub returns-clause-sees : goal.returns-clause-sees
 returns-clause-sees g c =
     rw (← c.self.view_is)
-    (sees c.args.octets.now c.self.inside.deframer c.feed.new.self c.args.watched.now c.hear_waiting.new.watched
+    (saw_watched c.args.octets.now c.self.inside.deframer c.feed.new.self c.args.watched.now c.hear_waiting.new.watched
+    c.in_default.ensures.ok c.hear_waiting.ensures.watched)
+
+pub returns-clause-seen : goal.returns-clause-seen
+returns-clause-seen g c =
+    rw (← c.self.view_is)
+    (sees g.W.Watch.saw c.args.octets.now c.self.inside.deframer c.feed.new.self c.args.watch.now c.hear_waiting.new.watch
     c.in_default.ensures.ok c.hear_waiting.ensures.seen)
