@@ -10,7 +10,6 @@ pub mod Led
 mod LineOctets
 mod ServedLines
 pub mod OneLine
-pub mod Refusals
 pub mod SentFrames
 pub mod Stored
 pub mod StoredLines

@@ -13,7 +13,7 @@ use Rattle.terminals.specs.declared.watching.Refusal.{Refusal}
 use Rattle.conversations.specs.Conversations.{over_given, nothing, stopping, losing, frames, input}
 use Rattle.conversations.specs.Conversing.{AnswersAll, AnswersNext, TalkState}
 use Rattle.conversations.specs.Lines.{Says}
-use Rattle.conversations.specs.StoredLines.{AreOfLine, AreOfLines, IsNewAnswerer, LastIsSaid, RefusedIsLast, StoredIsSaid}
+use Rattle.conversations.specs.StoredLines.{AreOfLine, AreOfLines, IsNewAnswerer, LastIsSaid, LineIsSaid, RefusedIsLast, StoredIsSaid}
 use Rattle.conversations.specs.StoredLines.{received_octets, signals_in, storing}
 use Rattle.conversations.specs.Talking.{GivesAll, Withholds}
 use Rattle.conversations.specs.Hearing.{heard_as}
@@ -416,6 +416,23 @@ last_is_said cuts stored there limited stores refuses takes tells caps lines old
           each_append (IsReadOf caps (signals_in (a.here ++ one.here))) a.pages one.pages
           (all_read_among caps (signals_in a.here) (signals_in (a.here ++ one.here)) a.pages (before_more cuts a.here one.here) a.read)
           one.read;
+    }
+
+pub line_is_said : CutsChangeNothing → StoredIsRead → TakenAndThere → LimitedServes → {P : Type 0} (stores refuses : StoreStep P) →
+    LineIsSaid P stores refuses
+line_is_said cuts stored there limited stores refuses takes tells caps lines old mid line timed heard is all says taken =
+    let a = after_all cuts stored there limited stores refuses takes tells caps is.params lines [] old mid (starts_so caps old.conversation is) all in
+    let l = heard_line cuts caps is.params line a.here timed mid.conversation heard a.stands says taken in
+    record {
+      octets = a.here ++ l.here;
+      of_lines = of_more lines line a.here l.here a.of_lines l.of_it;
+      pages = a.pages;
+      stored = a.stored;
+      read =
+          each_append (IsReadOf caps (signals_in (a.here ++ l.here))) a.pages (pages_of (refused_so limited_behaviour heard))
+          (all_read_among caps (signals_in a.here) (signals_in (a.here ++ l.here)) a.pages (before_more cuts a.here l.here) a.read)
+          (pages_read stored there limited caps is.params (refused_so limited_behaviour heard).terminal.speaking.station (a.here ++ l.here)
+          l.stands.serves);
     }
 
 each_front : {A : Type 0} (P : A → Type 0) (xs ys : List A) → Each P (xs ++ ys) → Each P xs

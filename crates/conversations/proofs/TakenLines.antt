@@ -1,27 +1,28 @@
 -- A line that was taken, from what each step of the code leaves.
 use Rattle.std.proofs.Common.{◌≡◌, ◌⊎◌, ◌∙◌, Bool, true, ap, refl, subst}
 use Rattle.std.specs.Prelude.{Option, cond}
-use Rattle.conversations.specs.Conversations.{Behaviour, ConversationFields, Gives, IsInTime, IsRefused, PlainGiven, RefusesLine, TakesLine}
+use Rattle.conversations.specs.Conversations.{Behaviour, ConversationFields, Gives, IsInTime, IsRefused, PlainGiven, RefusesLine, SeesGiven, TakesLine}
 use Rattle.conversations.specs.Conversations.{begins, line_gives, state_of}
-use Rattle.conversations.specs.Refusing.{WatchFields, Watches, v21_octets}
 use Rattle.conversations.specs.declared.line.TimedLine.{TimedLine}
 use Rattle.signals.specs.declared.signal.Side.{Side}
 use Rattle.terminals.specs.Clocks.{asked_since, clock_at, heard_now}
 use Rattle.terminals.specs.Runs.{TerminalFields}
 use Rattle.terminals.specs.declared.clock.Clock.{Clock}
 use Rattle.terminals.specs.declared.stopping.Shown.{Shown}
+use Rattle.terminals.specs.Watching.{noted}
+use Rattle.terminals.specs.declared.watching.Watched.{Watched}
 
 pub line_taken :
     {S : Type 0} (b : Behaviour S) (old : ConversationFields S) (line : TimedLine) (terminal : TerminalFields S) (clock heard asked : Clock)
-    (begun brought : Bool) (given : PlainGiven) (shown later : Shown) (side : Side) (watch : Option WatchFields) →
+    (begun brought : Bool) (given : PlainGiven) (shown later : Shown) (side : Side) (watched : Option Watched) →
     IsInTime old line → b.shows old.terminal.speaking.station shown → side ≡ b.side → clock ≡ clock_at old.clock (state_of line.said) line.at →
     given ≡ line_gives old.begun side shown clock old.durations line.said → Gives b old.terminal given terminal brought →
     b.shows terminal.speaking.station later → heard ≡ heard_now brought clock → asked ≡ asked_since later.longer heard →
-    begun ≡ cond old.begun true (begins line.said line.at) → Watches old.watch (v21_octets old.begun line.said) watch →
+    begun ≡ cond old.begun true (begins line.said line.at) → SeesGiven old.terminal.framing given (noted shown.accepted old.watch.watched) watched →
     TakesLine S b old line
-    (record { terminal = terminal; clock = asked; durations = old.durations; begun = begun; says = old.says; watch = watch })
-line_taken b old line terminal clock heard asked begun brought given shown later side watch in_time shows side_is clock_is given_is gave
-    shows_later heard_is asked_is begun_is watched =
+    (record { terminal = terminal; clock = asked; durations = old.durations; begun = begun; says = old.says; watch = record old.watch { watched = watched } })
+line_taken b old line terminal clock heard asked begun brought given shown later side watched in_time shows side_is clock_is given_is gave
+    shows_later heard_is asked_is begun_is seen =
     record {
       shown = shown;
       later = later;
@@ -39,18 +40,24 @@ line_taken b old line terminal clock heard asked begun brought given shown later
       begun = begun_is;
       durations = refl;
       says = refl;
-      watches = watched;
+      refuses = refl;
+      sees =
+          subst (λ g. SeesGiven old.terminal.framing g (noted shown.accepted old.watch.watched) watched)
+          (given_is ∙
+          (ap (λ s. line_gives old.begun s shown clock old.durations line.said) side_is ∙
+          ap (λ c. line_gives old.begun b.side shown c old.durations line.said) clock_is))
+          seen;
     }
 
 -- a line for which memory was refused, from what each step of the code leaves
 pub line_refused :
     {S : Type 0} (b : Behaviour S) (old : ConversationFields S) (line : TimedLine) (terminal : TerminalFields S) (clock : Clock)
-    (given : PlainGiven) (shown : Shown) (side : Side) (watch : Option WatchFields) → IsInTime old line →
+    (given : PlainGiven) (shown : Shown) (side : Side) (watched : Option Watched) → IsInTime old line →
     b.shows old.terminal.speaking.station shown → side ≡ b.side → clock ≡ clock_at old.clock (state_of line.said) line.at →
     given ≡ line_gives old.begun side shown clock old.durations line.said → IsRefused b old.terminal given terminal →
-    (watch ≡ old.watch) ⊎ Watches old.watch (v21_octets old.begun line.said) watch →
-    RefusesLine S b old line (record old { terminal = terminal; watch = watch })
-line_refused b old line terminal clock given shown side watch in_time shows side_is clock_is given_is refused watched = record {
+    (watched ≡ noted shown.accepted old.watch.watched) ⊎ SeesGiven old.terminal.framing given (noted shown.accepted old.watch.watched) watched →
+    RefusesLine S b old line (record old { terminal = terminal; watch = record old.watch { watched = watched } })
+line_refused b old line terminal clock given shown side watched in_time shows side_is clock_is given_is refused seen = record {
   shown = shown;
   in_time = in_time;
   shows = shows;
@@ -60,6 +67,12 @@ line_refused b old line terminal clock given shown side watch in_time shows side
       (ap (λ s. line_gives old.begun s shown clock old.durations line.said) side_is ∙
       ap (λ c. line_gives old.begun b.side shown c old.durations line.said) clock_is))
       refused;
-  watched = watched;
+  refuses = refl;
+  sees =
+      subst (λ g. (watched ≡ noted shown.accepted old.watch.watched) ⊎ SeesGiven old.terminal.framing g (noted shown.accepted old.watch.watched) watched)
+      (given_is ∙
+      (ap (λ s. line_gives old.begun s shown clock old.durations line.said) side_is ∙
+      ap (λ c. line_gives old.begun b.side shown c old.durations line.said) clock_is))
+      seen;
   rest = refl;
 }

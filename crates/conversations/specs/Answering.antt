@@ -39,7 +39,7 @@ StoresAll stores refuses old new before after true = StoresEach stores before (p
 StoresAll stores refuses old new before after false =
     StoresSome stores refuses before (pages_of old) after × (new ≡ hung_up_so limited_cut_off (with_pages_taken old))
 
--- A line is taken, and the call is stopped if a second DCS wasn't allowed. Then, before anything is said, each page that was accepted is
+-- A line is taken, and the call is stopped if it is refused. Then, before anything is said, each page that was accepted is
 -- stored, and all were; or the first one that is refused makes the station hang up.
 abbrev pub AnswersLine :
     {P : Type 0} → StoreStep P → StoreStep P → ConversationFields LimitedFields → TimedLine → ConversationFields LimitedFields → P → P →

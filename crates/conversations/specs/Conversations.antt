@@ -1,7 +1,7 @@
 -- The conversation of a station as a process: what each line gives the station, and when its waits are over.
 use Rattle.std.specs.Prelude.{ℕ, ◌≡◌, ◌⊎◌, ◌<◌, ◌≤◌, ◌+◌, ◌++◌, [], ◌∷◌, Bool, true, false, cond, nat_le, nat_lt, List, Option, Some, None, Result, Ok, Err}
 use Rattle.conversations.specs.Hearing.{heard_as}
-use Rattle.conversations.specs.Refusing.{WatchFields, Watches, refusal_in, v21_octets}
+use Rattle.conversations.specs.Refusing.{no_watch, refusal_in}
 use Rattle.conversations.specs.declared.conversation.TakeFault.{TakeFault}
 use Rattle.conversations.specs.declared.conversation.TakeFault.TheVariants.{OutOfTime, NoMemory}
 use Rattle.conversations.specs.declared.giving.Given.{Given}
@@ -14,7 +14,9 @@ use Rattle.conversations.specs.declared.line.Said.{Said}
 use Rattle.conversations.specs.declared.line.Said.TheVariants.{Quiet, Busy, Received, NotReady, Ready, Missed, Told, Stop, End}
 use Rattle.conversations.specs.declared.line.TimedLine.{TimedLine}
 use Rattle.terminals.specs.declared.watching.Refusal.{Refusal}
+use Rattle.conversations.specs.declared.refusing.CallerWatch.{CallerWatch}
 use Rattle.conversations.specs.declared.writing.Says.{Says}
+use Rattle.hdlc.specs.DeframerState.{DeframerState}
 use Rattle.signals.specs.declared.signal.Side.{Side}
 use Rattle.stations.specs.declared.listening.Listening.{Listening}
 use Rattle.stations.specs.declared.listening.Listening.TheVariants.{V21, Training, V21OrPage, V21ThenPage}
@@ -29,13 +31,15 @@ use Rattle.terminals.specs.Speaking.{BurstsOf, StepOf, Takes}
 use Rattle.stations.specs.Limiting.{LimitedFields}
 use Rattle.terminals.specs.Stopping.{hung_up, silenced, stopped}
 use Rattle.terminals.specs.Stopping.{with_pages_taken as without_its_pages}
+use Rattle.terminals.specs.Watching.{Sees, noted}
 use Rattle.terminals.specs.declared.clock.Clock.{Clock}
 use Rattle.terminals.specs.declared.clock.Durations.{Durations}
 use Rattle.terminals.specs.declared.clock.LineState.{LineState}
-use Rattle.terminals.specs.declared.clock.LineState.TheVariants.{Quiet as IsQuiet, Carrier as HasCarrier, Unsaid}
+use Rattle.terminals.specs.declared.clock.LineState.TheVariants.{Quiet as IsQuiet, Carrier as HasCarrier, Ended as HasEnded, Unsaid}
 use Rattle.terminals.specs.declared.fault.HearFault.TheVariants.{FrameLost}
 use Rattle.terminals.specs.declared.sending.SentBurst.{SentBurst}
 use Rattle.terminals.specs.declared.stopping.Shown.{Shown}
+use Rattle.terminals.specs.declared.watching.Watched.{Watched}
 
 -- what a line gives a station: nothing, octets of frames, an input, or that its call is to be stopped or has lost its line
 pub data PlainGiven : Type 0 where
@@ -72,11 +76,11 @@ missed_given (Training speed) = input (check [])
 missed_given (V21OrPage speed) = nothing
 missed_given (V21ThenPage speed) = nothing
 
--- what a line says of the line of the call: `quiet` that nothing is on it, `busy` and `rx` that a carrier is on or has just ended
+-- what a line says of the line of the call: `quiet` that nothing is on it, `busy` that a carrier is on, `rx` that it has just ended
 abbrev pub state_of : Said → LineState
 state_of Quiet = IsQuiet
 state_of Busy = HasCarrier
-state_of (Received channel kind bits octets) = HasCarrier
+state_of (Received channel kind bits octets) = HasEnded
 state_of NotReady = Unsaid
 state_of Ready = Unsaid
 state_of Missed = Unsaid
@@ -151,6 +155,14 @@ Gives b old (frames octets) new brought =
 Gives {S} b old (input x) new brought =
     (new.framing ≡ old.framing) × Takes S b.steps old.speaking x new.speaking × (brought ≡ is_check x)
 
+-- what was seen in what a line gives a terminal: each good frame that its octets completed, and nothing in another input
+abbrev pub SeesGiven : DeframerState → PlainGiven → Option Watched → Option Watched → Type 0
+SeesGiven framing nothing old new = new ≡ old
+SeesGiven framing stopping old new = new ≡ old
+SeesGiven framing losing old new = new ≡ old
+SeesGiven framing (frames octets) old new = Sees framing octets old new
+SeesGiven framing (input x) old new = new ≡ old
+
 -- octets were heard, but frames among them were lost, since memory was refused
 abbrev pub LosesFrames : {S : Type 0} → Behaviour S → TerminalFields S → PlainGiven → TerminalFields S → Type 0
 LosesFrames b old (frames octets) new = Hears b.steps old octets new (Err FrameLost)
@@ -160,15 +172,14 @@ LosesFrames b old given new = ⊥
 abbrev pub IsRefused : {S : Type 0} → Behaviour S → TerminalFields S → PlainGiven → TerminalFields S → Type 0
 IsRefused b old given new = (new ≡ old) ⊎ LosesFrames b old given new
 
--- a conversation: its terminal, its clock, how long its waits run, if it has begun, what it says beside its bursts, and what is watched for
--- DCSs that aren't allowed, if anything is
+-- a conversation: its terminal, its clock, how long its waits run, if it has begun, what it says beside its bursts, and what is watched
 pub record ConversationFields (S : Type 0) : Type 0 where
   pub terminal : TerminalFields S
   pub clock : Clock
   pub durations : Durations
   pub begun : Bool
   pub says : Says
-  pub watch : Option WatchFields
+  pub watch : CallerWatch
 
 -- nothing is said beside bursts, in bits, and a word
 abbrev pub says_least : Says
@@ -177,7 +188,7 @@ says_least = record { hears = false; waits = false; frames = false }
 -- a new conversation of a station, at time 0
 abbrev pub IsNew : {S : Type 0} → TerminalFields S → Durations → Bool → ConversationFields S → Type 0
 IsNew terminal durations begun new =
-    new ≡ record { terminal = terminal; clock = new_clock; durations = durations; begun = begun; says = says_least; watch = None }
+    new ≡ record { terminal = terminal; clock = new_clock; durations = durations; begun = begun; says = says_least; watch = no_watch }
 
 -- the time of a line can follow that of the last one: it isn't before it, nor too late
 abbrev pub IsInTime : {S : Type 0} → ConversationFields S → TimedLine → Type 0
@@ -206,16 +217,20 @@ pub record TakesLine (S : Type 0) (b : Behaviour S) (old : ConversationFields S)
   pub begun : new.begun ≡ cond old.begun true (begins line.said line.at)
   pub durations : new.durations ≡ old.durations
   pub says : new.says ≡ old.says
-  pub watches : Watches old.watch (v21_octets old.begun line.said) new.watch
+  pub refuses : new.watch.refuses ≡ old.watch.refuses
+  pub sees : SeesGiven old.terminal.framing (gives b old shown line) (noted shown.accepted old.watch.watched) new.watch.watched
 
--- memory was refused at a line: all but the terminal and what is watched is as it was, and what is watched is too, unless it heard the line
+-- memory was refused at a line: all but the terminal and what is watched is as it was; what is watched has noted the last accepted block, and
+-- seen nothing, unless it heard the line
 pub record RefusesLine (S : Type 0) (b : Behaviour S) (old : ConversationFields S) (line : TimedLine) (new : ConversationFields S) :
     Type 0 where
   pub shown : Shown
   pub in_time : IsInTime old line
   pub shows : b.shows old.terminal.speaking.station shown
   pub given : IsRefused b old.terminal (gives b old shown line) new.terminal
-  pub watched : (new.watch ≡ old.watch) ⊎ Watches old.watch (v21_octets old.begun line.said) new.watch
+  pub refuses : new.watch.refuses ≡ old.watch.refuses
+  pub sees : (new.watch.watched ≡ noted shown.accepted old.watch.watched) ⊎
+      SeesGiven old.terminal.framing (gives b old shown line) (noted shown.accepted old.watch.watched) new.watch.watched
   pub rest : new ≡ record old { terminal = new.terminal; watch = new.watch }
 
 -- a line was taken; or its time can't follow that of the line before it, and nothing has changed; or memory was refused
@@ -257,6 +272,6 @@ abbrev pub stopped_for : {S : Type 0} → Behaviour S → Option Refusal → Con
 stopped_for b None old = old
 stopped_for b (Some why) old = stopped_so b old
 
--- a conversation whose call is stopped if a second DCS wasn't allowed
+-- a conversation whose call is stopped if it is refused
 abbrev pub refused_so : {S : Type 0} → Behaviour S → ConversationFields S → ConversationFields S
 refused_so b old = stopped_for b (refusal_in old.watch) old

@@ -1,7 +1,7 @@
 -- What an answerer stores of the lines that it answers, whoever is on the line.
 use Rattle.std.specs.Prelude.{ℕ, ◌≡◌, ◌⊎◌, ◌++◌, ◌∷◌, [], false, true, Bool, List}
-use Rattle.conversations.specs.Answering.{StoreStep, StoresAll, StoresEach, limited_behaviour}
-use Rattle.conversations.specs.Conversations.{ConversationFields}
+use Rattle.conversations.specs.Answering.{StoreStep, StoresAll, StoresEach, limited_behaviour, pages_of}
+use Rattle.conversations.specs.Conversations.{ConversationFields, TakesLine, refused_so}
 use Rattle.conversations.specs.Conversing.{AnswersAll, AnswersNext, TalkState, Talker, talker}
 use Rattle.conversations.specs.Lines.{Says}
 use Rattle.conversations.specs.Talking.{keeping}
@@ -85,3 +85,22 @@ RefusedIsLast P stores refuses =
     AnswersNext LimitedFields P (storing stores refuses takes tells) mid new line false over →
     (stored : P) × (page : PagePixels) × StoresWhatIsSaid P stores caps (lines ++ line ∷ []) old.keeper stored ×
     refuses stored page new.keeper
+
+-- Pages were stored, and others are there after a line more, and each of both is what data fields of FCDs, joined, read as by the parameters
+-- of a DCS that the answerer allows; all of these frames are good ones among the octets that the lines bring.
+pub record HearsWhatIsSaid (P : Type 0) (stores : StoreStep P) (caps : Caps) (lines : List (List ℕ)) (before after : P)
+    (there : List PagePixels) : Type 0 where
+  pub octets : List ℕ
+  pub of_lines : AreOfLines lines octets
+  pub pages : List PagePixels
+  pub stored : StoresEach stores before pages after
+  pub read : Each (IsReadOf caps (signals_in octets)) (pages ++ there)
+
+-- The law with one line more, that is taken: it holds of the pages that are in the answerer then, whatever is done with them.
+abbrev pub LineIsSaid : (P : Type 0) → StoreStep P → StoreStep P → Type 0
+LineIsSaid P stores refuses =
+    (takes : P → Said → Bool) (tells : P → List ℕ) (caps : Caps) (lines : List (List ℕ)) (old mid : TalkState LimitedFields P)
+    (line : List ℕ) (timed : TimedLine) (heard : ConversationFields LimitedFields) → IsNewAnswerer caps old.conversation →
+    AnswersAll (storing stores refuses takes tells) lines old mid → Says line timed →
+    TakesLine LimitedFields limited_behaviour mid.conversation timed heard →
+    HearsWhatIsSaid P stores caps (lines ++ line ∷ []) old.keeper mid.keeper (pages_of (refused_so limited_behaviour heard))

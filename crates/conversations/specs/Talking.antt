@@ -84,7 +84,7 @@ abbrev pub Withholds : {S : Type 0} → Side → BurstsOf S → ConversationFiel
 Withholds side lends old false new = new ≡ old
 Withholds side lends old true new = (bursts : List SentBurst) × GivesAll side lends old bursts new
 
--- A line is answered: it is taken, the call is stopped if a second DCS wasn't allowed, what it brought is kept, and only then is the answer
+-- A line is answered: it is taken, the call is stopped if it is refused, what it brought is kept, and only then is the answer
 -- written: what the keeper says, the line of each burst that is left, and the word. If the answer is too late its bursts are withheld.
 pub record Answers (S K : Type 0) (b : Behaviour S) (k : Keeping S K) (lends : BurstsOf S) (line : List ℕ)
     (old new : ConversationFields S) (keeper kept_in : K) (before after : Option (List ℕ)) (kept over : Bool) : Type 0 where

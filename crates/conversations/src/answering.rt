@@ -56,7 +56,7 @@ pub fn keep_pages<P: PageStore>(
     }
 }
 
-/// Takes a line, stops the call if a second DCS wasn't allowed, and stores each page that the answerer accepted at the line before any
+/// Takes a line, stops the call if it is refused, and stores each page that the answerer accepted at the line before any
 /// burst can be sent: a page is confirmed only once it is stored. Returns None if all pages are stored, in order: then the bursts are those
 /// of the answerer's turn. Returns the error of the first page that is refused: the pages before it are stored, and DCN is sent in place of
 /// the turn. Errs as `Conversation::take` does, with nothing stored.

@@ -2,20 +2,20 @@
 
 ghost use Rattle.conversations.specs.Conversations.{IsInTime, IsNew, IsOutOfTime, SendsIfBegun, TakesOrRefuses, behaviour, with_pages_taken, hung_up_so};
 ghost use Rattle.conversations.specs.Conversations.{next_quiet, refused_so, stopped_so};
-ghost use Rattle.conversations.specs.Refusing.{IsNewWatch, WatchFields, gap_in, refusal_in};
-ghost use Rattle.std.specs.Prelude.{◌≡◌, ◌↔◌, IsTrue, IsSome, Some, true, false};
+ghost use Rattle.conversations.specs.Refusing.{gap_in, new_watch, refusal_in};
+ghost use Rattle.std.specs.Prelude.{◌≡◌, ◌↔◌, IsTrue, IsSome, true, false};
 ghost use Rattle.terminals.specs.declared.stopping.Shown.{Shown as AnyShown};
 
 use crate::giving::{clock_at, give, has_begun, line_gives, most_step};
 use crate::line::TimedLine;
-use crate::refusing::{Watch, gap_in, refusal_in, v21_octets, watch_octets};
+use crate::refusing::CallerWatch;
 use crate::writing::Says;
 use raster::Page;
 use signals::Caps;
 use stations::{CallEnd, LimitedAnswerer, StoppableCaller};
-use std::alloc::{AllocError, Global};
+use std::alloc::AllocError;
 use std::marker::Model;
-use terminals::{Clock, Durations, Refusal, SentBurst, Shown, Station, Stoppable, Terminal};
+use terminals::{Clock, Durations, Refusal, SentBurst, Shown, Station, Stoppable, Terminal, note};
 use thiserror::Error;
 
 /// Why a line wasn't taken.
@@ -24,7 +24,7 @@ pub enum TakeFault {
     /// The line's time is before that of the line before it, or too late after it. Nothing has changed.
     #[error("time runs back or jumps")]
     OutOfTime,
-    /// Memory was refused. Nothing has changed, or frames that the line brought are lost.
+    /// Memory was refused. Nothing has changed but the note of the last accepted block, or frames that the line brought are lost.
     #[error("no memory")]
     NoMemory,
 }
@@ -48,7 +48,7 @@ pub struct Conversation<S: Stoppable> {
     durations: Durations,
     begun: bool,
     says: Says,
-    watch: Option<Watch>,
+    watch: CallerWatch,
 }
 
 impl<S: Stoppable> Model for Conversation<S> {
@@ -80,7 +80,7 @@ impl Conversation<StoppableCaller> {
             durations,
             begun: true,
             says: Says::LEAST,
-            watch: None,
+            watch: CallerWatch::NONE,
         }
     }
 }
@@ -100,17 +100,17 @@ impl Conversation<LimitedAnswerer> {
             durations,
             begun: false,
             says: Says::LEAST,
-            watch: None,
+            watch: CallerWatch::NONE,
         }
     }
 
-    /// The conversation, whose caller is watched from now on: its call is stopped at the second DCS that an answerer with these capabilities
-    /// doesn't allow, if it refuses. Takes no memory.
-    pub fn watching(self, alloc: Global, caps: Caps, refuses: bool) -> Conversation<LimitedAnswerer>
-        ensures { (watch : WatchFields) × IsNewWatch caps refuses watch × (result ≡ record self { watch = Some watch }) }
+    /// The conversation, whose caller is watched from now on: `refuse` stops its call at the second DCS that an answerer with these
+    /// capabilities doesn't allow, if it refuses, and at a page under the number of the last one. Takes no memory.
+    pub fn watching(self, caps: Caps, refuses: bool) -> Conversation<LimitedAnswerer>
+        ensures { result ≡ record self { watch = new_watch caps refuses } }
     {
         let mut conversation = self;
-        conversation.watch = Some(Watch::new(alloc, caps, refuses));
+        conversation.watch = CallerWatch::new(caps, refuses);
         conversation
     }
 
@@ -136,7 +136,8 @@ impl<S: Stoppable> Conversation<S> {
 
     /// Takes a line: gives the station what the line says, and sets the clock. Errs with `OutOfTime` if its time is before that of the line
     /// before it; if it is a quiet line after a quiet one, and later by more than T1 and 35 s; or if it is later by more than T1 and ten
-    /// minutes: nothing has changed. Errs with `NoMemory`: nothing has changed, or frames that the line brought are lost.
+    /// minutes: nothing has changed. Errs with `NoMemory`: nothing has changed but the note of the last accepted block, or
+    /// frames that the line brought are lost.
     pub fn take(&mut self, line: &TimedLine) -> Result<(), TakeFault>
         ensures { TakesOrRefuses (behaviour S.sends S.steps S.shows S.cut_off S.stop_says) self.old line.now self.new result }
     {
@@ -145,16 +146,10 @@ impl<S: Stoppable> Conversation<S> {
         }
         let clock = clock_at(self.clock, &line.said, line.at);
         let side = self.terminal.station().side();
-        let given = line_gives(
-            self.begun,
-            side,
-            self.terminal.shown(),
-            clock,
-            self.durations,
-            &line.said,
-        );
-        watch_octets(&mut self.watch, v21_octets(self.begun, &line.said))?;
-        let brought = give(&mut self.terminal, given)?;
+        let shown = self.terminal.shown();
+        let given = line_gives(self.begun, side, shown, clock, self.durations, &line.said);
+        note(&mut self.watch.watched, shown.accepted);
+        let brought = give(&mut self.terminal, &mut self.watch.watched, given)?;
         self.clock = clock.heard(brought).asked(self.terminal.shown().longer);
         self.begun = has_begun(self.begun, &line.said, line.at);
         Ok(())
@@ -191,7 +186,7 @@ impl<S: Stoppable> Conversation<S> {
         self.terminal.stop();
     }
 
-    /// Stops the call, as a line `stop` does, if a second DCS wasn't allowed.
+    /// Stops the call, as a line `stop` does, if it is refused.
     pub fn refuse(&mut self)
         ensures { self.new ≡ refused_so (behaviour S.sends S.steps S.shows S.cut_off S.stop_says) self.old }
     {
@@ -200,11 +195,12 @@ impl<S: Stoppable> Conversation<S> {
         }
     }
 
-    /// Returns why a second DCS wasn't allowed; None if there was none, or if nothing is refused.
+    /// Returns why the call is refused: a second DCS wasn't allowed, and such a call is refused, or a page came under the number of the last
+    /// one. None if it isn't.
     pub fn refusal(&self) -> Option<Refusal>
         ensures { result ≡ refusal_in self.now.watch }
     {
-        refusal_in(&self.watch)
+        self.watch.refusal()
     }
 
     /// Returns the page number, from 0 and modulo 256, of the first PPS whose number was neither that of the PPS before it nor the next; of
@@ -212,7 +208,7 @@ impl<S: Stoppable> Conversation<S> {
     pub fn gap(&self) -> Option<u8>
         ensures { result ≡ gap_in self.now.watch }
     {
-        gap_in(&self.watch)
+        self.watch.gap()
     }
 
     /// True if the station hears what is on the line: a caller from the first line on, an answerer once it has begun.

@@ -1,17 +1,18 @@
 //! What a line gives a station.
 
 ghost use Rattle.conversations.specs.Conversations.{begins, heard_given, line_gives, missed_given, over_given, plain_given, state_of};
-ghost use Rattle.conversations.specs.Conversations.{Gives, IsRefused, behaviour, frames, is_check, nothing};
+ghost use Rattle.conversations.specs.Conversations.{Gives, IsRefused, SeesGiven, behaviour, frames, is_check, nothing};
 ghost use Rattle.terminals.specs.Clocks.{clock_at, most_step};
 ghost use Rattle.terminals.specs.Hearing.{check as heard_check};
-ghost use Rattle.std.specs.Prelude.{◌≡◌, cond, true, IfOk, OnErr};
+ghost use Rattle.std.specs.Prelude.{◌≡◌, ◌⊎◌, cond, true, IfOk, OnErr, OnOk};
+ghost use Rattle.terminals.specs.Watching.{Sees};
 
 use crate::hearing::{Heard, heard_as};
 use crate::line::Said;
 use signals::Side;
 use stations::{Listening, Wait};
 use std::alloc::AllocError;
-use terminals::{Clock, Durations, LineState, Shown, Stoppable, Terminal};
+use terminals::{Clock, Durations, LineState, Shown, Stoppable, Terminal, Watched};
 
 /// The input that a line means for a station.
 #[derive(Clone, Copy, Debug, PartialEq, Eq)]
@@ -98,7 +99,8 @@ fn state_of(said: &Said) -> LineState
 {
     match said {
         Said::Quiet => LineState::Quiet,
-        Said::Busy | Said::Received { .. } => LineState::Carrier,
+        Said::Busy => LineState::Carrier,
+        Said::Received { .. } => LineState::Ended,
         Said::NotReady | Said::Ready | Said::Missed | Said::Told { .. } | Said::Stop | Said::End =>
             LineState::Unsaid,
     }
@@ -142,19 +144,24 @@ fn begins(said: &Said, at: u64) -> bool
     }
 }
 
-/// Gives the terminal an input. Returns true if it brought a good frame or an octet of the awaited training check. Errs if memory is refused.
+/// Gives the terminal an input, and sees what it brings. Returns true if it brought a good frame or an octet of the awaited training check.
+/// Errs if memory is refused.
 pub(crate) fn give<S: Stoppable>(
     terminal: &mut Terminal<S>,
+    watched: &mut Option<Watched>,
     given: Given<'_>,
 ) -> Result<bool, AllocError>
     ensures ok { IfOk result (λ brought.
         Gives (behaviour S.sends S.steps S.shows S.cut_off S.stop_says) terminal.old (plain_given given.entry) terminal.new brought) }
     ensures err { OnErr result (
         IsRefused (behaviour S.sends S.steps S.shows S.cut_off S.stop_says) terminal.old (plain_given given.entry) terminal.new) }
+    ensures sees { OnOk result (SeesGiven terminal.old.framing (plain_given given.entry) watched.old watched.new) }
+    ensures refused { OnErr result ((watched.new ≡ watched.old) ⊎
+        SeesGiven terminal.old.framing (plain_given given.entry) watched.old watched.new) }
 {
     match given {
         Given::Nothing => Ok(false),
-        Given::Frames(octets) => hear(terminal, octets),
+        Given::Frames(octets) => hear(terminal, watched, octets),
         Given::Check(octets) => {
             terminal.hear_training(octets)?;
             Ok(has_octets(octets))
@@ -188,15 +195,21 @@ fn has_octets(check: &[u8]) -> bool
     }
 }
 
-/// The terminal hears octets of frames. Returns true if they brought a good frame. Errs if memory is refused.
-fn hear<S: Stoppable>(terminal: &mut Terminal<S>, octets: &[u8]) -> Result<bool, AllocError>
+/// The terminal hears octets of frames, and each is seen. Returns true if they brought a good frame. Errs if memory is refused.
+fn hear<S: Stoppable>(
+    terminal: &mut Terminal<S>,
+    watched: &mut Option<Watched>,
+    octets: &[u8],
+) -> Result<bool, AllocError>
     ensures ok { IfOk result (λ brought.
         Gives (behaviour S.sends S.steps S.shows S.cut_off S.stop_says) terminal.old (frames octets.now) terminal.new brought) }
     ensures err { OnErr result (
         IsRefused (behaviour S.sends S.steps S.shows S.cut_off S.stop_says) terminal.old (frames octets.now) terminal.new) }
+    ensures sees { OnOk result (Sees terminal.old.framing octets.now watched.old watched.new) }
+    ensures refused { OnErr result ((watched.new ≡ watched.old) ⊎ Sees terminal.old.framing octets.now watched.old watched.new) }
 {
     let before = terminal.good_frames();
-    match terminal.hear(octets) {
+    match terminal.hear_watching(octets, watched) {
         Ok(()) => Ok(before < terminal.good_frames()),
         Err(_) => Err(AllocError),
     }

@@ -6,7 +6,7 @@ ghost use Rattle.conversations.specs.Given.{AnswerersHangUp, BeginsAt, CallersHa
 ghost use Rattle.conversations.specs.Hearing.{ExpectsWhatIsHeard};
 ghost use Rattle.conversations.specs.Holding.{HeldIsNotConfirmed};
 ghost use Rattle.conversations.specs.Led.{AnswerersAreLed, CallersAreLed, caller_behaviour};
-ghost use Rattle.conversations.specs.StoredLines.{LastIsSaid, RefusedIsLast, StoredIsSaid};
+ghost use Rattle.conversations.specs.StoredLines.{LastIsSaid, LineIsSaid, RefusedIsLast, StoredIsSaid};
 ghost use Rattle.stations.specs.Limiting.{LimitedFields};
 ghost use Rattle.stations.specs.Stopping.{StoppableCallerFields};
 
@@ -72,6 +72,7 @@ pub fn stored_is_said<P: PageStore>()
     ensures lines { StoredIsSaid P P.stores P.refuses }
     ensures last { LastIsSaid P P.stores P.refuses }
     ensures refused { RefusedIsLast P P.stores P.refuses }
+    ensures heard { LineIsSaid P P.stores P.refuses }
 {
     terminals::laws::cuts_change_nothing();
     stations::laws::stored_is_read();

@@ -24,4 +24,4 @@ pub use crate::holding::{PageHolder, can_come, hold_pages};
 pub use crate::line::{Fate, LineRefused, MOST_OCTETS, Said, TimedLine, read_line};
 pub use crate::talking::{AnswerFault, Answered, Follower, Keeper, answer};
 pub use crate::writing::Says;
-pub use terminals::{Refusal, Refused, refusal_of};
+pub use terminals::{Refusal, Refused};

@@ -167,7 +167,7 @@ fn withhold<S: Stoppable>(conversation: &mut Conversation<S>, late: bool) -> Res
     Err(AllocError)
 }
 
-/// Answers a line, which comes without its LF: takes it, stops the call if a second DCS wasn't allowed, keeps what it brought, and only
+/// Answers a line, which comes without its LF: takes it, stops the call if it is refused, keeps what it brought, and only
 /// then writes what the keeper says, the bursts of the turn and a word. If something can't be kept, the answer is what the conversation says
 /// after that; if it comes too late, its bursts aren't sent. Errs with `NoLine`, with `NotHeld` if the keeper can't take the line, or with
 /// `OutOfTime` if the time can't follow: nothing has changed. Errs with `NoMemory`, `Writer` or `Follower`: something is written only if what

@@ -1,10 +1,10 @@
 -- What the check asks of `take`.
-use Rattle.std.proofs.Common.{inr, subst, sym}
+use Rattle.std.proofs.Common.{◌≡◌, ◌⊎◌, Option, subst, sym}
 use Rattle.std.proofs.lemmas.Result.{err_from_is_err_and}
-use Rattle.conversations.specs.Conversations.{IsInTime, behaviour}
+use Rattle.conversations.specs.Conversations.{IsInTime, SeesGiven, behaviour}
 use Rattle.conversations.proofs.TakenLines.{line_refused, line_taken}
 use Rattle.conversations.specs.Conversations.{plain_given}
-use Rattle.conversations.specs.Refusing.{Watches}
+use Rattle.terminals.specs.declared.watching.Watched.{Watched}
 use Rattle.conversations.proofs.conversation.Conversation.take.Goals as goal
 
 pub returns : goal.returns
@@ -21,16 +21,17 @@ returns g c =
       watch = c.self.inside.watch;
     })
     c.args.line.now c.give.new.terminal c.clock_at-clock.result c.heard.result c.asked-self-inside.result c.has_begun-self-inside.result
-    c.in_ok-brought.brought (plain_given c.line_gives-given.result) c.shown.result c.shown-2.result c.side-side.result
-    c.watch_octets.new.watch
+    c.in_ok-brought.brought (plain_given c.line_gives-given.result) c.shown-shown.result c.shown.result c.side-side.result
+    c.give.new.watched
     (subst (λ v. IsInTime v c.args.line.now) (sym c.self.view_is) (c.is_out_of_time.ensures.no c.if-is_out_of_time.false))
-    c.shown.ensures c.side-side.ensures c.clock_at-clock.ensures c.line_gives-given.ensures c.in_ok-brought.ensures.ok
-    c.shown-2.ensures c.heard.ensures c.asked-self-inside.ensures c.has_begun-self-inside.ensures
-    (subst (λ octets. Watches c.self.inside.watch octets c.watch_octets.new.watch) c.v21_octets.ensures c.in_ok-watch_octets.ensures.ok))
+    c.shown-shown.ensures c.side-side.ensures c.clock_at-clock.ensures c.line_gives-given.ensures c.in_ok-brought.ensures.ok
+    c.shown.ensures c.heard.ensures c.asked-self-inside.ensures c.has_begun-self-inside.ensures
+    (subst (λ (w : Option Watched). SeesGiven c.self.inside.terminal.framing (plain_given c.line_gives-given.result) w c.give.new.watched)
+    c.note.ensures c.in_ok-brought.ensures.sees))
 
 pub returns-in_err-brought : goal.returns-in_err-brought
 returns-in_err-brought g c =
-    let p = err_from_is_err_and c.from_residual-in_err-brought.result c.from_residual-in_err-brought.ensures.1 in
+    let p = err_from_is_err_and c.from_residual.result c.from_residual.ensures.1 in
     rw (p.1, p.2, ← c.self.view_is)
     (line_refused
     (behaviour g.S.Station.sends g.S.Station.steps g.S.Stoppable.shows g.S.Stoppable.cut_off g.S.Stoppable.stop_says)
@@ -42,9 +43,10 @@ returns-in_err-brought g c =
       says = c.self.inside.says;
       watch = c.self.inside.watch;
     })
-    c.args.line.now c.give.new.terminal c.clock_at-clock.result (plain_given c.line_gives-given.result) c.shown.result c.side-side.result
-    c.watch_octets.new.watch
+    c.args.line.now c.give.new.terminal c.clock_at-clock.result (plain_given c.line_gives-given.result) c.shown-shown.result c.side-side.result
+    c.give.new.watched
     (subst (λ v. IsInTime v c.args.line.now) (sym c.self.view_is) (c.is_out_of_time.ensures.no c.if-is_out_of_time.false))
-    c.shown.ensures c.side-side.ensures c.clock_at-clock.ensures c.line_gives-given.ensures c.in_err-brought.ensures.err
-    (inr (subst (λ octets. Watches c.self.inside.watch octets c.watch_octets.new.watch) c.v21_octets.ensures
-    c.in_ok-watch_octets.ensures.ok)))
+    c.shown-shown.ensures c.side-side.ensures c.clock_at-clock.ensures c.line_gives-given.ensures c.in_err-brought.ensures.err
+    (subst (λ (w : Option Watched). (c.give.new.watched ≡ w) ⊎
+    SeesGiven c.self.inside.terminal.framing (plain_given c.line_gives-given.result) w c.give.new.watched)
+    c.note.ensures c.in_err-brought.ensures.refused))
