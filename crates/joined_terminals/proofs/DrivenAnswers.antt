@@ -20,14 +20,14 @@ use Rattle.terminals.specs.declared.fault.HearFault.TheVariants.{FrameLost}
 use Rattle.terminals.specs.declared.sending.SentBurst.{SentBurst}
 use Rattle.conversations.specs.declared.line.TimedLine.{TimedLine}
 use Rattle.joined_terminals.specs.Answered.{AnswererAnswers, AnswererBreaksOff, AnswererHasNoMemory, AnswererIsReady, GivesPart}
-use Rattle.joined_terminals.specs.Answered.{LeadsAnswerer, answerer_lends, answerer_steps, bursts_in, each_with, keeps_by, leaves, part_of}
+use Rattle.joined_terminals.specs.Answered.{LeadsAnswerer, answerer_lends, answerer_steps, bursts_in, each_with, hangs_by, hung_up_if, keeps_by, leaves, part_of}
 use Rattle.joined_terminals.specs.Answered.{turn_of, withheld}
 use Rattle.joined_terminals.specs.Driven.{Driven, answerer_speaks}
 use Rattle.joined_terminals.specs.Joining.{if_clear}
 use Rattle.joined_terminals.specs.Kept.{DrivesKept, IsKept}
 use Rattle.joined_terminals.specs.Octets.{HearingTakes, IsPiece}
 use Rattle.joined_terminals.specs.Steps.{AnswererRefusesLine, AnswererTakesLine, Comes, Does, Drives, Step, TurnsSo, appends, silent_unless}
-use Rattle.joined_terminals.specs.Steps.Step.{answerer_gives, answerer_line, answerer_refuses, answerer_watches, page_refused, pages_stored}
+use Rattle.joined_terminals.specs.Steps.Step.{answerer_gives, answerer_line, answerer_refuses, answerer_watches, page_refused, hung_up, pages_stored}
 use Rattle.joined_terminals.proofs.DrivenCallers.{given_next}
 use Rattle.std.specs.Prelude.{◌&&◌, map}
 use Rattle.std.proofs.lemmas.List.{map-append}
@@ -315,38 +315,63 @@ module _ (d : Driven) (ready : ConversationFields LimitedFields) (is : d.answere
           (subst (λ c. GivesAll AnswererSide answerer_lends c (bursts_in given) new) (sym f)
           (subst (λ l. GivesAll AnswererSide answerer_lends part.left l new) (sym e) all))
 
+-- once all pages are stored the answerer hangs up, or doesn't
+hang_goes : (hangs : Bool) (d : Driven) (mid : ConversationFields LimitedFields) (stored unkept : List PagePixels) →
+    d.answerer ≡ mid → d.stored ≡ stored → d.unkept ≡ unkept → (hangs ≡ true → unkept ≡ []) →
+    Goes (hangs_by hangs) d (hung_up_if hangs mid) stored unkept
+hang_goes false d mid stored unkept e f g none =
+    record { last = d; drives = refl; is = e; stored_is = f; unkept_is = g; caller_is = refl }
+hang_goes true d mid stored unkept e f g none =
+    subst (λ c. Goes (hung_up ∷ []) d (hung_up_so limited_cut_off c) stored unkept) e
+    (subst (λ s. Goes (hung_up ∷ []) d (hung_up_so limited_cut_off d.answerer) s unkept) f
+    (subst (λ u. Goes (hung_up ∷ []) d (hung_up_so limited_cut_off d.answerer) d.stored u) g
+    (goes_by hung_up d (answerer_speaks false (record d { answerer = hung_up_so limited_cut_off d.answerer })) (g ∙ none refl)
+    refl refl)))
+
+hung_left : (hangs : Bool) (mid : ConversationFields LimitedFields) → pages_of (hung_up_if hangs mid) ≡ pages_of mid
+hung_left true mid = refl
+hung_left false mid = refl
+
 -- what all of an answer leads to
-all_goes : {first said : List Step} {a ready new : ConversationFields LimitedFields} {s stored : List PagePixels} (kept : Bool) (old : Driven)
-    (one : Goes first old a s []) (two : Stored kept one.last ready stored) →
-    Goes said two.goes.last new two.goes.last.stored two.goes.last.unkept →
+all_goes : {first said : List Step} {a mid new : ConversationFields LimitedFields} {s stored : List PagePixels} (kept : Bool) (old : Driven)
+    (one : Goes first old a s []) (two : Stored kept one.last mid stored) →
+    Goes said two.goes.last new stored two.unkept →
     LeadsAnswerer (first ++ (keeps_by kept ∷ said)) kept old new stored
 all_goes {first} {said} kept old one two three = (
   three.last,
   kept_both first (keeps_by kept ∷ said) old one.last three.last one.drives
       (kept_both (keeps_by kept ∷ []) said one.last two.goes.last three.last two.goes.drives three.drives),
   three.is,
-  three.stored_is ∙ two.goes.stored_is,
+  three.stored_is,
   record {
     caller = three.caller_is ∙ (two.goes.caller_is ∙ one.caller_is);
-    unkept = λ e. three.unkept_is ∙ (two.goes.unkept_is ∙ two.none e);
+    unkept = λ e. three.unkept_is ∙ two.none e;
   },
 )
 
 pub answerer_fails : HearingTakes → (line : TimedLine) (kept : Bool) (old : Driven) (new : ConversationFields LimitedFields)
     (stored : List PagePixels) → old.unkept ≡ [] → (h : AnswererBreaksOff line kept old new stored) (given : List (SentBurst × Bool)) →
-    bursts_in given ≡ h.part.bursts → LeadsAnswerer (answerer_steps line kept (part_of h.part given)) kept old new stored
+    bursts_in given ≡ h.part.bursts → LeadsAnswerer (answerer_steps line kept h.is_ready.hangs (part_of h.part given)) kept old new stored
 answerer_fails law line kept old new stored none h given e =
     let r : AnswererIsReady line kept old h.ready stored = h.is_ready in
     let one : Goes (answerer_line line ∷ answerer_watches ∷ []) old (refused_so limited_behaviour r.heard) old.stored [] =
     goes_on old (line_goes law line kept old h.ready stored none r) (λ d e f g. watch_goes d r.heard old.stored e f g) in
-    let two : Stored kept one.last h.ready stored = pages_go kept one.last h.ready stored one.unkept_is
-    (subst (λ c. StoresAll appends leaves c h.ready one.last.stored stored kept) (sym one.is)
-    (subst (λ s. StoresAll appends leaves (refused_so limited_behaviour r.heard) h.ready s stored kept) (sym one.stored_is) r.keeps)) in
-    all_goes kept old one two (bursts_go two.goes.last h.ready two.goes.is two.left new h.part given e)
+    let two : Stored kept one.last r.mid stored = pages_go kept one.last r.mid stored one.unkept_is
+    (subst (λ c. StoresAll appends leaves c r.mid one.last.stored stored kept) (sym one.is)
+    (subst (λ s. StoresAll appends leaves (refused_so limited_behaviour r.heard) r.mid s stored kept) (sym one.stored_is) r.keeps)) in
+    let hung : Goes (hangs_by r.hangs) two.goes.last h.ready stored two.unkept =
+    subst (λ c. Goes (hangs_by r.hangs) two.goes.last c stored two.unkept) (sym r.is)
+    (hang_goes r.hangs two.goes.last r.mid stored two.unkept two.goes.is two.goes.stored_is two.goes.unkept_is
+    (λ e. two.none (r.only e))) in
+    let left : pages_of h.ready ≡ [] = ap pages_of r.is ∙ (hung_left r.hangs r.mid ∙ two.left) in
+    all_goes kept old one two
+    (goes_on two.goes.last hung
+    (λ x f g k. subst (λ s. Goes (steps_of (part_of h.part given)) x new s two.unkept) g
+    (subst (λ u. Goes (steps_of (part_of h.part given)) x new x.stored u) k (bursts_go x h.ready f left new h.part given e))))
 
 pub answerer_answers : HearingTakes → (line : TimedLine) (kept late : Bool) (old : Driven) (new : ConversationFields LimitedFields)
     (stored : List PagePixels) → old.unkept ≡ [] → (h : AnswererAnswers line kept late old new stored) →
-    LeadsAnswerer (answerer_steps line kept (turn_of h.turn)) kept old new stored
+    LeadsAnswerer (answerer_steps line kept h.is_ready.hangs (turn_of h.turn)) kept old new stored
 answerer_answers law line kept late old new stored none h =
     answerer_fails law line kept old new stored none
     (record {

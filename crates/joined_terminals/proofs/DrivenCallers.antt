@@ -257,7 +257,7 @@ module _ (d : Driven) where
           (subst (λ t. Way (terminals d) t) (sym (spoke p.1.silent d h.caller p.1.others))
           (lost_so h.caller.terminal (gives caller_behaviour d.caller h.refuses.shown line) p.1.others p.1.silent p.0 p.1.comes p.1.turns))
 
-  -- the call is stopped if a second DCS wasn't allowed
+  -- the call is stopped if it is refused
   watched_so : (why : Option Refusal) → Way (terminals d)
       (terminals
       (caller_speaks (silent_unless why (is_silent (caller_behaviour.stop_says d.caller.terminal.speaking.station)))

@@ -10,7 +10,7 @@ use Rattle.joined_terminals.specs.Driven.{Driven, joined, terminals}
 use Rattle.joined_terminals.specs.DrivenSafety.{ConversationsAreSafe}
 use Rattle.joined_terminals.specs.Steps.{Does, Drives, ItemsLose, Step}
 use Rattle.joined_terminals.specs.Steps.Step.{answerer_gives, answerer_line, answerer_refuses, answerer_watches, caller_gives, caller_line}
-use Rattle.joined_terminals.specs.Steps.Step.{caller_refuses, caller_watches, items_lost, page_lost, page_refused, page_unhanded}
+use Rattle.joined_terminals.specs.Steps.Step.{caller_refuses, caller_watches, items_lost, page_lost, page_refused, hung_up}
 use Rattle.joined_terminals.specs.Steps.Step.{pages_stored}
 use Rattle.joined_terminals.proofs.DrivenAnswerers as answerers
 use Rattle.joined_terminals.proofs.DrivenCallers as callers
@@ -40,7 +40,7 @@ one_way answerer_watches d new h = answerers.watches d new h
 one_way pages_stored d new h = answerers.stores d new h
 one_way page_refused d new h = answerers.refuses d new h
 one_way page_lost d new h = answerers.page_lost d new h
-one_way page_unhanded d new h = answerers.hangs_up d new h
+one_way hung_up d new h = answerers.hangs_up d new h
 one_way (caller_gives sent sends) d new h = callers.gives_burst d new sent sends h
 one_way (answerer_gives sent sends) d new h = answerers.gives_burst d new sent sends h
 one_way items_lost d new h = items_left d new h

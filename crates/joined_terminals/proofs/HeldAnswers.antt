@@ -26,7 +26,7 @@ use Rattle.terminals.specs.Speaking.{Speaking, is_silent}
 use Rattle.terminals.specs.Stopping.{limited_cut_off}
 use Rattle.terminals.specs.declared.sending.SentBurst.{SentBurst}
 use Rattle.terminals.specs.declared.watching.Refusal.{Refusal}
-use Rattle.joined_terminals.specs.Answered.{AnswererHasNoMemory, GivesPart, answerer_lends, bursts_in, each_with, leaves, part_of, turn_of, withheld}
+use Rattle.joined_terminals.specs.Answered.{AnswererHasNoMemory, GivesPart, answerer_lends, bursts_in, each_with, hangs_by, hung_up_if, leaves, part_of, turn_of, withheld}
 use Rattle.joined_terminals.specs.Driven.{Driven, answerer_speaks, joined}
 use Rattle.joined_terminals.specs.Held.{DrivesHeld, IsHeld}
 use Rattle.joined_terminals.specs.HeldAnswers.{HeldAnswersAreSteps, HolderAnswers, HolderBreaksOff, HolderIsReady, HoldsOne, LeadsHolder}
@@ -34,7 +34,7 @@ use Rattle.joined_terminals.specs.HeldAnswers.{hands_by, holder_steps, holds_by}
 use Rattle.joined_terminals.specs.Joining.{Begins, Joined, if_clear}
 use Rattle.joined_terminals.specs.Octets.{HearingTakes}
 use Rattle.joined_terminals.specs.Steps.{AnswererRefusesLine, AnswererTakesLine, Does, Step, appends, silent_unless}
-use Rattle.joined_terminals.specs.Steps.Step.{answerer_gives, answerer_line, answerer_refuses, answerer_watches, page_lost, page_unhanded}
+use Rattle.joined_terminals.specs.Steps.Step.{answerer_gives, answerer_line, answerer_refuses, answerer_watches, page_lost, hung_up}
 use Rattle.joined_terminals.specs.Steps.Step.{pages_stored}
 use Rattle.joined_terminals.proofs.DrivenAnswers.{lost_turns, none_given, one_given, same_bursts, turns_of}
 use Rattle.joined_terminals.proofs.DrivenCallers.{given_next}
@@ -188,9 +188,9 @@ module _ (law : HearingTakes) (known : HoldersKnown) where
   hands_go kept None [] d ready stored none one h = held_stays kept d ready stored none one h.0 h.1 h.2
   hands_go true None (page ∷ pages) d ready stored none one h = held_stays true d ready stored none one h.1 h.0 refl
   hands_go false None (page ∷ pages) d ready stored none one h =
-      subst (λ x. Goes (page_unhanded ∷ []) d x stored) (sym h.1)
-      (subst (λ x. Goes (page_unhanded ∷ []) d (hung_up_so limited_cut_off d.answerer) x) (sym h.0)
-      (goes_by page_unhanded d (answerer_speaks false (record d { answerer = hung_up_so limited_cut_off d.answerer })) tt refl refl none
+      subst (λ x. Goes (hung_up ∷ []) d x stored) (sym h.1)
+      (subst (λ x. Goes (hung_up ∷ []) d (hung_up_so limited_cut_off d.answerer) x) (sym h.0)
+      (goes_by hung_up d (answerer_speaks false (record d { answerer = hung_up_so limited_cut_off d.answerer })) tt refl refl none
       (hung_up_holds known d.answerer.terminal.speaking one)))
 
   holds_go : (said : Said) (kept : Bool) (held : Option (List ℕ)) (d : Driven) (ready : ConversationFields LimitedFields)
@@ -338,42 +338,57 @@ leads all = (
   },
 )
 
+-- after that the answerer hangs up, or doesn't
+hang_goes : HoldersKnown → (hangs : Bool) (d : Driven) (mid : ConversationFields LimitedFields) (stored : List PagePixels) →
+    d.answerer ≡ mid → d.stored ≡ stored → d.unkept ≡ [] → HoldsOne mid.terminal.speaking →
+    Goes (hangs_by hangs) d (hung_up_if hangs mid) stored
+hang_goes known false d mid stored e f none one = stays_by d mid stored e f none one
+hang_goes known true d mid stored e f none one =
+    subst (λ c. Goes (hung_up ∷ []) d (hung_up_so limited_cut_off c) stored) e
+    (subst (λ s. Goes (hung_up ∷ []) d (hung_up_so limited_cut_off d.answerer) s) f
+    (goes_by hung_up d (answerer_speaks false (record d { answerer = hung_up_so limited_cut_off d.answerer })) tt refl refl none
+    (hung_up_holds known d.answerer.terminal.speaking
+    (subst (λ (c : ConversationFields LimitedFields). HoldsOne c.terminal.speaking) (sym e) one))))
+
 module _ (law : HearingTakes) (known : HoldersKnown) where
   -- once the answerer has heard the line and the call was stopped if it is to be
   kept_goes : (line : TimedLine) (kept : Bool) (old : Driven) (new : ConversationFields LimitedFields) (stored : List PagePixels)
       (h : HolderBreaksOff line kept old new stored) (given : List (SentBurst × Bool)) → bursts_in given ≡ h.part.bursts →
       HoldsOne (refused_so limited_behaviour h.is_ready.heard).terminal.speaking → (x : Driven) →
       x.answerer ≡ refused_so limited_behaviour h.is_ready.heard → x.stored ≡ old.stored → x.unkept ≡ [] →
-      Goes (holds_by line.said kept ++ steps_of (part_of h.part given)) x new stored
+      Goes (holds_by line.said kept ++ (hangs_by h.is_ready.hangs ++ steps_of (part_of h.part given))) x new stored
   kept_goes line kept old new stored h given e one x is same none =
       let r : HolderIsReady line kept old h.ready stored = h.is_ready in
       let here : HoldsOne x.answerer.terminal.speaking =
       subst (λ (c : ConversationFields LimitedFields). HoldsOne c.terminal.speaking) (sym is) one in
-      let holds : HoldsPages leaves leaves appends r.held line.said x.answerer h.ready x.stored stored kept =
-      subst (λ c. HoldsPages leaves leaves appends r.held line.said c h.ready x.stored stored kept) (sym is)
-      (subst (λ s. HoldsPages leaves leaves appends r.held line.said (refused_so limited_behaviour r.heard) h.ready s stored kept) (sym same)
+      let holds : HoldsPages leaves leaves appends r.held line.said x.answerer r.mid x.stored stored kept =
+      subst (λ c. HoldsPages leaves leaves appends r.held line.said c r.mid x.stored stored kept) (sym is)
+      (subst (λ s. HoldsPages leaves leaves appends r.held line.said (refused_so limited_behaviour r.heard) r.mid s stored kept) (sym same)
       r.holds) in
-      let page : Goes (holds_by line.said kept) x h.ready stored = holds_go law known line.said kept r.held x h.ready stored none here holds in
-      goes_on x page (λ y f g n. subst (λ s. Goes (steps_of (part_of h.part given)) y new s) g
-      (bursts_go y h.ready f n page.one new h.part given e))
+      let page : Goes (holds_by line.said kept) x r.mid stored = holds_go law known line.said kept r.held x r.mid stored none here holds in
+      goes_on x page (λ y f g n.
+      let hung : Goes (hangs_by r.hangs) y h.ready stored = subst (λ c. Goes (hangs_by r.hangs) y c stored) (sym r.is)
+      (hang_goes known r.hangs y r.mid stored f g n page.one) in
+      goes_on y hung (λ z k l m. subst (λ s. Goes (steps_of (part_of h.part given)) z new s) l
+      (bursts_go z h.ready k m hung.one new h.part given e)))
 
   fails : (line : TimedLine) (kept : Bool) (old : Driven) (new : ConversationFields LimitedFields) (stored : List PagePixels) →
       old.unkept ≡ [] → HoldsOne old.answerer.terminal.speaking → (h : HolderBreaksOff line kept old new stored)
       (given : List (SentBurst × Bool)) → bursts_in given ≡ h.part.bursts →
-      LeadsHolder (holder_steps line kept (part_of h.part given)) old new stored
+      LeadsHolder (holder_steps line kept h.is_ready.hangs (part_of h.part given)) old new stored
   fails line kept old new stored none one h given e =
       let r : HolderIsReady line kept old h.ready stored = h.is_ready in
       let first : Goes (answerer_line line ∷ []) old r.heard old.stored = line_goes law known line kept old h.ready stored none one r in
       let stopped : HoldsOne (refused_so limited_behaviour r.heard).terminal.speaking =
       watched known r.heard first.one (refusal_in r.heard.watch) in
-      let all : Goes (holder_steps line kept (part_of h.part given)) old new stored =
+      let all : Goes (holder_steps line kept h.is_ready.hangs (part_of h.part given)) old new stored =
       goes_on old first (λ d is same n. goes_on d (watch_goes law known d r.heard old.stored is same n first.one)
       (λ x f g m. kept_goes line kept old new stored h given e stopped x f g m)) in
       leads all
 
   answers : (line : TimedLine) (kept late : Bool) (old : Driven) (new : ConversationFields LimitedFields) (stored : List PagePixels) →
       old.unkept ≡ [] → HoldsOne old.answerer.terminal.speaking → (h : HolderAnswers line kept late old new stored) →
-      LeadsHolder (holder_steps line kept (turn_of h.turn)) old new stored
+      LeadsHolder (holder_steps line kept h.is_ready.hangs (turn_of h.turn)) old new stored
   answers line kept late old new stored none one h =
       fails line kept old new stored none one
       (record {

@@ -66,7 +66,10 @@ holding_answers P hands refuses counts held stock l takes tells text old new kee
           others = others;
           comes = comes;
           held = held keeper;
+          mid = a.ready;
           holds = r.2;
+          hangs = false;
+          is = refl;
         };
         turn = record { left = a.left; withholds = a.withholds; bursts = a.writes.bursts; gives = a.writes.gives };
       },
@@ -88,7 +91,10 @@ holding_breaks_off P hands refuses counts held stock l takes tells text old new 
           others = others;
           comes = comes;
           held = held keeper;
+          mid = a.ready;
           holds = r.2;
+          hangs = false;
+          is = refl;
         };
         part = part_given t.station t.keeping t.lends a.ready new kept_in before after a.writes;
       },

@@ -44,7 +44,7 @@ use Rattle.joined_terminals.specs.Steps.{AnswererGives, AnswererIsGiven, Answere
 use Rattle.joined_terminals.specs.Steps.{CallerRefusesLine, Does, Drives, ItemsLose, RefusesPage, Step, StoresPages}
 use Rattle.joined_terminals.specs.Steps.{silent_unless}
 use Rattle.joined_terminals.specs.Steps.Step.{answerer_gives, answerer_line, answerer_refuses, answerer_watches, caller_gives, caller_line}
-use Rattle.joined_terminals.specs.Steps.Step.{caller_refuses, caller_watches, items_lost, page_lost, page_refused, page_unhanded}
+use Rattle.joined_terminals.specs.Steps.Step.{caller_refuses, caller_watches, items_lost, page_lost, page_refused, hung_up}
 use Rattle.joined_terminals.specs.Steps.Step.{pages_stored}
 use Rattle.joined_terminals.proofs.Counting.{CountsLine, NoMcf, counted, front_no, given_counts, left_no, lost_counts, stays_so}
 use Rattle.joined_terminals.proofs.Counting.{stopped_counts}
@@ -585,8 +585,8 @@ module _ (document : Document) (first : Driven) (safe : (steps : List Step) (d :
         answerer_goes page_lost d new s h (is_silent (limited_behaviour.stop_says d.answerer.terminal.speaking.station))
         (stopped_so limited_behaviour d.answerer) d.to_answerer
         (still_leaving d (stopped_so limited_behaviour d.answerer) s.leaving (gone_stopped d.answerer.terminal.speaking)) (stops d) h
-    goes page_unhanded d new s may h =
-        answerer_goes page_unhanded d new s h false (hung_up_so limited_cut_off d.answerer) d.to_answerer
+    goes hung_up d new s may h =
+        answerer_goes hung_up d new s h false (hung_up_so limited_cut_off d.answerer) d.to_answerer
         (inr (gone_hung_up d.answerer.terminal.speaking)) (hangs_up d) h
     goes (caller_gives sent sends) d new s may h = caller_gives_on d new s sent sends h
     goes (answerer_gives sent sends) d new s may h = gives_burst d new s sent sends h may

@@ -28,3 +28,4 @@ pub mod HoldsOne
 pub mod HeldAnswers
 pub mod HeldPromised
 pub mod OnePage
+pub mod Coming

@@ -19,7 +19,7 @@ use Rattle.joined_terminals.specs.HeldAnswers.{HoldsOne}
 use Rattle.joined_terminals.specs.Steps.{AnswererIsGiven, AnswererRefusesLine, CallerIsGiven, CallerRefusesLine, Does, Drives, Step}
 use Rattle.joined_terminals.specs.Steps.{silent_unless}
 use Rattle.joined_terminals.specs.Steps.Step.{answerer_gives, answerer_line, answerer_refuses, answerer_watches, caller_gives, caller_line}
-use Rattle.joined_terminals.specs.Steps.Step.{caller_refuses, caller_watches, items_lost, page_lost, page_refused, page_unhanded}
+use Rattle.joined_terminals.specs.Steps.Step.{caller_refuses, caller_watches, items_lost, page_lost, page_refused, hung_up}
 use Rattle.joined_terminals.specs.Steps.Step.{pages_stored}
 use Rattle.joined_terminals.proofs.DrivenCallers.{given_next}
 use Rattle.joined_terminals.proofs.HeldAnswers.{counted_on, new_holds, watched}
@@ -91,7 +91,7 @@ module _ (known : HoldersKnown) where
   stays_well page_lost d new well h =
       answerer_so (is_silent (limited_behaviour.stop_says d.answerer.terminal.speaking.station)) d new
       (stopped_so limited_behaviour d.answerer) d.to_answerer well (stopped_holds known d.answerer.terminal.speaking well) h
-  stays_well page_unhanded d new well h =
+  stays_well hung_up d new well h =
       answerer_so false d new (hung_up_so limited_cut_off d.answerer) d.to_answerer well
       (hung_up_holds known d.answerer.terminal.speaking well) h
   stays_well (caller_gives sent sends) d new well h =

@@ -75,7 +75,11 @@ storing_answers P stores refuses stock l takes tells text old new keeper kept_in
           takes = a.takes;
           others = others;
           comes = comes;
+          mid = a.ready;
           keeps = r.2;
+          hangs = false;
+          only = λ e. absurd (cc);
+          is = refl;
         };
         turn = record { left = a.left; withholds = a.withholds; bursts = a.writes.bursts; gives = a.writes.gives };
       },
@@ -94,7 +98,11 @@ storing_breaks_off P stores refuses stock l takes tells text old new keeper kept
           takes = a.takes;
           others = others;
           comes = comes;
+          mid = a.ready;
           keeps = r.2;
+          hangs = false;
+          only = λ e. absurd (cc);
+          is = refl;
         };
         part = part_given t.station t.keeping t.lends a.ready new kept_in before after a.writes;
       },

@@ -1,7 +1,7 @@
 -- What the contract of `answer` says of a line is a list of such steps.
 use Rattle.std.specs.Prelude.{◌≡◌, ◌⊎◌, ◌++◌, ◌∷◌, [], Bool, true, false, List, map}
 use Rattle.conversations.specs.Answering.{StoreStep, StoresAll, limited_behaviour}
-use Rattle.conversations.specs.Conversations.{ConversationFields, RefusesLine, TakesLine, gives, refused_so}
+use Rattle.conversations.specs.Conversations.{ConversationFields, RefusesLine, TakesLine, gives, hung_up_so, refused_so}
 use Rattle.conversations.specs.Led.{caller_behaviour}
 use Rattle.conversations.specs.Talking.{GivesAll, GivesSome, Withholds}
 use Rattle.conversations.specs.declared.line.TimedLine.{TimedLine}
@@ -13,13 +13,14 @@ use Rattle.stations.specs.Limiting.{LimitedFields}
 use Rattle.stations.specs.Stopping.{StoppableCallerFields}
 use Rattle.terminals.specs.Speaking.{BurstsOf}
 use Rattle.terminals.specs.Stations.{AnswererLends, CallerLends}
+use Rattle.terminals.specs.Stopping.{limited_cut_off}
 use Rattle.terminals.specs.declared.sending.SentBurst.{SentBurst}
 use Rattle.joined_terminals.specs.Driven.{Driven}
 use Rattle.joined_terminals.specs.Kept.{DrivesKept}
 use Rattle.joined_terminals.specs.Octets.{IsPiece}
 use Rattle.joined_terminals.specs.Steps.{Comes, IsOneAtMost, Step, appends}
 use Rattle.joined_terminals.specs.Steps.Step.{answerer_gives, answerer_line, answerer_refuses, answerer_watches, caller_gives, caller_line}
-use Rattle.joined_terminals.specs.Steps.Step.{caller_refuses, caller_watches, page_refused, pages_stored}
+use Rattle.joined_terminals.specs.Steps.Step.{caller_refuses, caller_watches, page_refused, hung_up, pages_stored}
 
 -- a page that is refused isn't stored
 abbrev pub leaves : StoreStep (List PagePixels)
@@ -33,7 +34,7 @@ caller_lends v turn bursts = CallerLends v.station turn bursts
 abbrev pub answerer_lends : BurstsOf LimitedFields
 answerer_lends v turn bursts = AnswererLends v.station turn bursts
 
--- The caller took a line, which comes of what is on its way, and the call is stopped if a second DCS wasn't allowed. It has nothing to keep.
+-- The caller took a line, which comes of what is on its way, and the call is stopped if it is refused. It has nothing to keep.
 pub record CallerIsReady (line : TimedLine) (old : Driven) (ready : ConversationFields StoppableCallerFields) : Type 0 where
   pub heard : ConversationFields StoppableCallerFields
   pub takes : TakesLine StoppableCallerFields caller_behaviour old.caller line heard
@@ -41,15 +42,24 @@ pub record CallerIsReady (line : TimedLine) (old : Driven) (ready : Conversation
   pub comes : Comes IsOneAtMost old.caller.terminal.framing old.to_caller (gives caller_behaviour old.caller takes.shown line) others
   pub is : ready ≡ refused_so caller_behaviour heard
 
--- The answerer took a line, which comes of what is on its way; the call is stopped if a second DCS wasn't allowed; and its pages are stored,
--- or one is refused.
+-- a conversation of an answerer that hangs up, if its program wants that
+abbrev pub hung_up_if : Bool → ConversationFields LimitedFields → ConversationFields LimitedFields
+hung_up_if true c = hung_up_so limited_cut_off c
+hung_up_if false c = c
+
+-- The answerer took a line, which comes of what is on its way; the call is stopped if it is refused; and its pages are stored, or one is
+-- refused. Once all are stored its program may hang up for a reason of its own, as where a call lasts too long.
 pub record AnswererIsReady (line : TimedLine) (kept : Bool) (old : Driven) (ready : ConversationFields LimitedFields)
     (stored : List PagePixels) : Type 0 where
   pub heard : ConversationFields LimitedFields
   pub takes : TakesLine LimitedFields limited_behaviour old.answerer line heard
   pub others : List PlainItem
   pub comes : Comes IsPiece old.answerer.terminal.framing old.to_answerer (gives limited_behaviour old.answerer takes.shown line) others
-  pub keeps : StoresAll appends leaves (refused_so limited_behaviour heard) ready old.stored stored kept
+  pub mid : ConversationFields LimitedFields
+  pub keeps : StoresAll appends leaves (refused_so limited_behaviour heard) mid old.stored stored kept
+  pub hangs : Bool
+  pub only : hangs ≡ true → kept ≡ true
+  pub is : ready ≡ hung_up_if hangs mid
 
 -- the bursts of an answer are given, and before them those that are withheld if it is late
 pub record GivesTurn (S : Type 0) (side : Side) (lends : BurstsOf S) (late : Bool) (ready new : ConversationFields S) : Type 0 where
@@ -153,10 +163,16 @@ abbrev pub keeps_by : Bool → Step
 keeps_by true = pages_stored
 keeps_by false = page_refused
 
+-- the step by which the answerer hangs up, if its program wants that
+abbrev pub hangs_by : Bool → List Step
+hangs_by true = hung_up ∷ []
+hangs_by false = []
+
 -- the steps of an answerer's answer
-abbrev pub answerer_steps : TimedLine → Bool → List (SentBurst × Bool) → List Step
-answerer_steps line kept given =
-    answerer_line line ∷ answerer_watches ∷ keeps_by kept ∷ map (λ (one : SentBurst × Bool). answerer_gives one.0 one.1) given
+abbrev pub answerer_steps : TimedLine → Bool → Bool → List (SentBurst × Bool) → List Step
+answerer_steps line kept hangs given =
+    answerer_line line ∷ answerer_watches ∷ keeps_by kept ∷
+    (hangs_by hangs ++ map (λ (one : SentBurst × Bool). answerer_gives one.0 one.1) given)
 
 -- steps by which pages are kept before anything is said lead to this conversation of the caller, and leave the answerer and its store
 abbrev pub LeadsCaller : List Step → Driven → ConversationFields StoppableCallerFields → Type 0
@@ -177,7 +193,7 @@ pub record AnswersAreSteps : Type 0 where
   pub answerer :
       (line : TimedLine) (kept late : Bool) (old : Driven) (new : ConversationFields LimitedFields) (stored : List PagePixels) →
       old.unkept ≡ [] → (answers : AnswererAnswers line kept late old new stored) →
-      LeadsAnswerer (answerer_steps line kept (turn_of answers.turn)) kept old new stored
+      LeadsAnswerer (answerer_steps line kept answers.is_ready.hangs (turn_of answers.turn)) kept old new stored
   pub caller_fails :
       (line : TimedLine) (old : Driven) (new : ConversationFields StoppableCallerFields) (breaks : CallerBreaksOff line old new)
       (given : List (SentBurst × Bool)) → bursts_in given ≡ breaks.part.bursts →
@@ -185,7 +201,7 @@ pub record AnswersAreSteps : Type 0 where
   pub answerer_fails :
       (line : TimedLine) (kept : Bool) (old : Driven) (new : ConversationFields LimitedFields) (stored : List PagePixels) →
       old.unkept ≡ [] → (breaks : AnswererBreaksOff line kept old new stored) (given : List (SentBurst × Bool)) →
-      bursts_in given ≡ breaks.part.bursts → LeadsAnswerer (answerer_steps line kept (part_of breaks.part given)) kept old new stored
+      bursts_in given ≡ breaks.part.bursts → LeadsAnswerer (answerer_steps line kept breaks.is_ready.hangs (part_of breaks.part given)) kept old new stored
   pub caller_refuses :
       (line : TimedLine) (old : Driven) (new : ConversationFields StoppableCallerFields) → CallerHasNoMemory line old new →
       LeadsCaller (caller_refuses line ∷ []) old new

@@ -22,13 +22,13 @@ use Rattle.stations.specs.declared.limiting.Limits.{Limits}
 use Rattle.stations.specs.declared.turn.Turn.TheVariants.{Mcf}
 use Rattle.terminals.specs.Speaking.{Speaking}
 use Rattle.terminals.specs.declared.sending.SentBurst.{SentBurst}
-use Rattle.joined_terminals.specs.Answered.{AnswererHasNoMemory, GivesPart, GivesTurn, answerer_lends, bursts_in, leaves, part_of, turn_of}
+use Rattle.joined_terminals.specs.Answered.{AnswererHasNoMemory, GivesPart, GivesTurn, answerer_lends, bursts_in, hangs_by, hung_up_if, leaves, part_of, turn_of}
 use Rattle.joined_terminals.specs.Driven.{Driven, joined}
 use Rattle.joined_terminals.specs.Held.{DrivesHeld}
 use Rattle.joined_terminals.specs.Joining.{Begins}
 use Rattle.joined_terminals.specs.Octets.{IsPiece}
 use Rattle.joined_terminals.specs.Steps.{Comes, Step, appends}
-use Rattle.joined_terminals.specs.Steps.Step.{answerer_gives, answerer_line, answerer_refuses, answerer_watches, page_lost, page_unhanded}
+use Rattle.joined_terminals.specs.Steps.Step.{answerer_gives, answerer_line, answerer_refuses, answerer_watches, page_lost, hung_up}
 use Rattle.joined_terminals.specs.Steps.Step.{pages_stored}
 
 -- An answerer that takes one page at a time: it has one at most, is busy while it has one, and has no MCF to say then.
@@ -40,7 +40,7 @@ pub record HoldsOne (now : Speaking LimitedFields) : Type 0 where
   pub busy : IsBusyIfFull now.station.limits now.station.station
   pub silent : (now.station.station.pages ≡ []) ⊎ (now.turn ≢ Mcf)
 
--- The answerer took a line, which comes of what is on its way, and the call is stopped if a second DCS wasn't allowed. Then its page is
+-- The answerer took a line, which comes of what is on its way, and the call is stopped if it is refused. Then its page is
 -- counted once it is kept; or the call is stopped since it is lost; or, after any other line, it is handed over if none is held.
 pub record HolderIsReady (line : TimedLine) (kept : Bool) (old : Driven) (ready : ConversationFields LimitedFields)
     (stored : List PagePixels) : Type 0 where
@@ -50,7 +50,11 @@ pub record HolderIsReady (line : TimedLine) (kept : Bool) (old : Driven) (ready 
   pub comes : Comes IsPiece old.answerer.terminal.framing old.to_answerer (gives limited_behaviour old.answerer takes.shown line) others
   -- the name of the file of the page that is held, if one is
   pub held : Option (List ℕ)
-  pub holds : HoldsPages leaves leaves appends held line.said (refused_so limited_behaviour heard) ready old.stored stored kept
+  pub mid : ConversationFields LimitedFields
+  pub holds : HoldsPages leaves leaves appends held line.said (refused_so limited_behaviour heard) mid old.stored stored kept
+  -- its program may hang up of its own after that, as where a call lasts too long
+  pub hangs : Bool
+  pub is : ready ≡ hung_up_if hangs mid
 
 -- the answerer answers a line as `answer` says
 pub record HolderAnswers (line : TimedLine) (kept late : Bool) (old : Driven) (new : ConversationFields LimitedFields)
@@ -69,7 +73,7 @@ pub record HolderBreaksOff (line : TimedLine) (kept : Bool) (old : Driven) (new 
 -- the step by which a page isn't handed over; none if it is, or there is none to be handed over
 abbrev pub hands_by : Bool → List Step
 hands_by true = []
-hands_by false = page_unhanded ∷ []
+hands_by false = hung_up ∷ []
 
 -- the step of what a line says of the page that is held, or of a page that isn't handed over
 abbrev pub holds_by : Said → Bool → List Step
@@ -78,10 +82,10 @@ holds_by (Told Lost file) kept = page_lost ∷ []
 holds_by said kept = hands_by kept
 
 -- the steps of the answer of an answerer whose pages are held
-abbrev pub holder_steps : TimedLine → Bool → List (SentBurst × Bool) → List Step
-holder_steps line kept given =
+abbrev pub holder_steps : TimedLine → Bool → Bool → List (SentBurst × Bool) → List Step
+holder_steps line kept hangs given =
     answerer_line line ∷ answerer_watches ∷
-    (holds_by line.said kept ++ map (λ (one : SentBurst × Bool). answerer_gives one.0 one.1) given)
+    (holds_by line.said kept ++ (hangs_by hangs ++ map (λ (one : SentBurst × Bool). answerer_gives one.0 one.1) given))
 
 -- the caller stays as it is, none of the pages is refused, and the answerer still takes one page at a time
 pub record HolderStays (old new : Driven) : Type 0 where
@@ -103,12 +107,12 @@ pub record HeldAnswersAreSteps : Type 0 where
   pub answerer :
       (line : TimedLine) (kept late : Bool) (old : Driven) (new : ConversationFields LimitedFields) (stored : List PagePixels) →
       old.unkept ≡ [] → HoldsOne old.answerer.terminal.speaking → (answers : HolderAnswers line kept late old new stored) →
-      LeadsHolder (holder_steps line kept (turn_of answers.turn)) old new stored
+      LeadsHolder (holder_steps line kept answers.is_ready.hangs (turn_of answers.turn)) old new stored
   pub answerer_fails :
       (line : TimedLine) (kept : Bool) (old : Driven) (new : ConversationFields LimitedFields) (stored : List PagePixels) →
       old.unkept ≡ [] → HoldsOne old.answerer.terminal.speaking → (breaks : HolderBreaksOff line kept old new stored)
       (given : List (SentBurst × Bool)) → bursts_in given ≡ breaks.part.bursts →
-      LeadsHolder (holder_steps line kept (part_of breaks.part given)) old new stored
+      LeadsHolder (holder_steps line kept breaks.is_ready.hangs (part_of breaks.part given)) old new stored
   pub answerer_refuses :
       (line : TimedLine) (old : Driven) (new : ConversationFields LimitedFields) → old.unkept ≡ [] →
       HoldsOne old.answerer.terminal.speaking → AnswererHasNoMemory line old new → LeadsHolder (answerer_refuses line ∷ []) old new old.stored

@@ -12,7 +12,7 @@ use Rattle.joined_terminals.specs.Driven.{Driven, joined}
 use Rattle.joined_terminals.specs.DrivenSafety.{IsSafeDriven}
 use Rattle.joined_terminals.specs.Steps.{Does, Drives, Step}
 use Rattle.joined_terminals.specs.Steps.Step.{answerer_gives, answerer_line, answerer_refuses, answerer_watches, caller_gives, caller_line}
-use Rattle.joined_terminals.specs.Steps.Step.{caller_refuses, caller_watches, items_lost, page_lost, page_refused, page_unhanded}
+use Rattle.joined_terminals.specs.Steps.Step.{caller_refuses, caller_watches, items_lost, page_lost, page_refused, hung_up}
 use Rattle.joined_terminals.specs.Steps.Step.{pages_stored}
 
 -- Where a step may be taken if each page is kept before anything is said after it: the answerer gives a burst only where no page is left in
@@ -28,7 +28,7 @@ IsKept answerer_watches d = d.unkept ≡ []
 IsKept pages_stored d = d.unkept ≡ []
 IsKept page_refused d = d.unkept ≡ []
 IsKept page_lost d = d.unkept ≡ []
-IsKept page_unhanded d = d.unkept ≡ []
+IsKept hung_up d = d.unkept ≡ []
 IsKept (caller_gives sent sends) d = Unit {0}
 IsKept (answerer_gives sent sends) d = pages_of d.answerer ≡ []
 IsKept items_lost d = Unit {0}

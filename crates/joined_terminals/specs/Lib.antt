@@ -11,3 +11,4 @@ pub mod Answered
 pub mod Promised
 pub mod Held
 pub mod HeldAnswers
+pub mod Coming

@@ -199,12 +199,14 @@ pub record ItemsLose (old new : Driven) : Type 0 where
 pub data Step : Type 0 where
   -- a line is written to a station and taken; or memory is refused while it is taken
   caller_line answerer_line caller_refuses answerer_refuses : TimedLine → Step
-  -- the call of a station is stopped if a second DCS wasn't allowed
+  -- the call of a station is stopped if it is refused
   caller_watches answerer_watches : Step
   -- the pages of the answerer are stored, or kept by others; or one is refused
   pages_stored page_refused : Step
-  -- a page that others store is lost, and the call is stopped; or it can't be handed over, and the answerer hangs up
-  page_lost page_unhanded : Step
+  -- a page that others store is lost, and the call is stopped
+  page_lost : Step
+  -- the answerer hangs up: a page can't be handed over, or its program wants that, as where a call lasts too long
+  hung_up : Step
   -- a station gives a burst, and whether it goes onto the line, or is withheld since the answer is late
   caller_gives answerer_gives : SentBurst → Bool → Step
   -- items on their way are lost
@@ -232,7 +234,7 @@ Does page_lost old new =
     new ≡
     answerer_speaks (is_silent (limited_behaviour.stop_says old.answerer.terminal.speaking.station))
     (record old { answerer = stopped_so limited_behaviour old.answerer })
-Does page_unhanded old new = new ≡ answerer_speaks false (record old { answerer = hung_up_so limited_cut_off old.answerer })
+Does hung_up old new = new ≡ answerer_speaks false (record old { answerer = hung_up_so limited_cut_off old.answerer })
 Does (caller_gives sent sends) old new = CallerGives sent sends old new
 Does (answerer_gives sent sends) old new = AnswererGives sent sends old new
 Does items_lost old new = ItemsLose old new

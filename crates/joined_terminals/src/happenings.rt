@@ -3,9 +3,11 @@
 
 ghost use Rattle.joined_terminals.specs.Calls.{AnswererGives, AreNew, CallerGives, CheckComes, HappensToAnswerer, HappensToCaller, TakesOut};
 ghost use Rattle.joined_terminals.specs.Calls.{HappensToHearingAnswerer, HappensToHearingCaller};
+ghost use Rattle.joined_terminals.specs.Coming.{DisComes};
+ghost use Rattle.hdlc.specs.DeframerState.{IsAfter};
 ghost use Rattle.joined_terminals.specs.Happening.Happening.{answerer_hangs_up, answerer_lost, answerer_stops, answerer_waits};
 ghost use Rattle.joined_terminals.specs.Happening.Happening.{caller_hangs_up, caller_lost, caller_stops, caller_waits, program_says};
-ghost use Rattle.std.specs.Prelude.{◌≡◌, ◌<◌, true, IfOk, OnOk};
+ghost use Rattle.std.specs.Prelude.{◌≡◌, ◌<◌, [], true, IfOk, OnOk};
 
 use raster::{Document, Page};
 use signals::{Caps, Wish};
@@ -26,13 +28,38 @@ pub fn new_terminals(
     requires ecm { caps.ecm ≡ true }
     requires pages { 0 < limits.pages }
     requires octets { 0 < limits.octets }
-    ensures { IfOk result (λ both.
+    ensures new { IfOk result (λ both.
         AreNew document wish caps limits both.0.speaking both.1.speaking) }
+    ensures silent { IfOk result (λ both. IsAfter both.0.framing [] 0 × IsAfter both.1.framing [] 0) }
 {
     let caller = Caller::new(alloc, document, wish)?;
     let caller = Terminal::new(alloc, StoppableCaller::new(caller), Turn::Silent);
     let (answerer, first) = LimitedAnswerer::new(alloc, caps, limits);
     Ok((caller, Terminal::new(alloc, answerer, first)))
+}
+
+/// A call begins: the answerer's terminal gives its DIS, and the caller's hears it. True if that was done, false if memory is refused or
+/// the document has no width of a call.
+pub fn dis_comes(alloc: Global, document: Document, wish: Wish, caps: Caps, limits: Limits) -> bool
+    requires receiver { caps.receiver ≡ true }
+    requires ecm { caps.ecm ≡ true }
+    requires pages { 0 < limits.pages }
+    requires octets { 0 < limits.octets }
+    ensures { result ≡ true → DisComes document wish caps limits }
+{
+    crate::laws::bursts_are_pieces();
+    crate::laws::sent_bursts_come();
+    crate::laws::terminals_are_safe();
+    let Ok((mut caller, mut answerer)) = new_terminals(alloc, document, wish, caps, limits) else {
+        return false;
+    };
+    let Ok(Some(sent)) = answerer.next_burst() else {
+        return false;
+    };
+    match caller.hear(&sent.octets) {
+        Ok(()) => true,
+        Err(_) => false,
+    }
 }
 
 /// Calls `hear` of a caller's terminal, with its faults: what happens when the octets bring a piece of the line.

@@ -2,6 +2,7 @@
 
 ghost use Rattle.joined_terminals.specs.Answered.{AnswersAreSteps};
 ghost use Rattle.joined_terminals.specs.Promised.{CallersAnswer, CallersBreakOff, StoringAnswers, StoringBreaksOff};
+ghost use Rattle.joined_terminals.specs.Coming.{SentBurstsCome};
 ghost use Rattle.joined_terminals.specs.DrivenSafety.{ConversationsAreSafe};
 ghost use Rattle.joined_terminals.specs.Held.{HeldAreDriven, HeldAreStored, OnePageIsStored};
 ghost use Rattle.joined_terminals.specs.HeldAnswers.{HeldAnswersAreSteps, HoldingAnswers, HoldingBreaksOff};
@@ -51,6 +52,16 @@ pub fn bursts_are_pieces()
     ensures pieces { BurstsArePieces }
     ensures sends { SendingSends }
 {
+    stations::laws::bursts_cut();
+}
+
+/// Each burst of frames, as a terminal gives it, comes whole as such a piece. So what the laws of joined terminals ask of octets can be met.
+pub fn sent_bursts_come()
+    ensures { SentBurstsCome }
+{
+    bursts_are_heard();
+    bursts_are_pieces();
+    terminals::laws::turns_are_sent_whole();
     stations::laws::bursts_cut();
 }
 

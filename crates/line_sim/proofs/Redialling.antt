@@ -10,8 +10,9 @@ use Rattle.stations.specs.Layers.{Document, IsFullPage}
 use Rattle.stations.specs.declared.turn.End.{End}
 use Rattle.stations.specs.declared.turn.End.TheVariants.{Normal}
 use Rattle.line_sim.specs.Headline.{IsSafeWorld, Promised, RunsAreSafe}
-use Rattle.line_sim.specs.Line.{World, new_world}
-use Rattle.line_sim.specs.Redialling.{AreDelivered, AreRedialled, CallsAreRedialled, IsCall, coming, confirmed_in, failed, failures}
+use Rattle.line_sim.specs.Line.{Outcome, World, happens, new_world, run}
+use Rattle.line_sim.specs.declared.event.Event.{Event}
+use Rattle.line_sim.specs.Redialling.{AreDelivered, AreRedialled, CallsAreRedialled, CallsGoOn, IsCall, coming, confirmed_in, failed, failures}
 use Rattle.line_sim.proofs.LineKeeps.{new_world_facts}
 use Rattle.line_sim.proofs.Lists.{each_map}
 use Rattle.line_sim.proofs.WholeRuns.{run_same}
@@ -188,3 +189,22 @@ calls_are_redialled laws law document (w ∷ next ∷ calls) full dialled =
     one_more document w (next ∷ calls) (call_safe law document w full dialled.0)
     (calls_are_redialled laws law (drop k document) (next ∷ calls) (each_drop IsFullPage k document full) next_dialled)
     (λ e. absurd (cc))
+
+run_more : (steps : List (Event × Outcome)) (w : World) (event : Event) (outcome : Outcome) →
+    run (steps ++ (event, outcome) ∷ []) w ≡ happens (run steps w) event outcome
+run_more [] w event outcome = refl
+run_more (step ∷ steps) w event outcome = run_more steps (happens w step.0 step.1) event outcome
+
+pub calls_go_on : CallsGoOn
+calls_go_on = record {
+  begins = λ document wish caps. record { wish = wish; caps = caps; steps = []; comes = refl };
+  goes_on =
+      λ document w event outcome is. record {
+        wish = is.wish;
+        caps = is.caps;
+        steps = is.steps ++ (event, outcome) ∷ [];
+        comes =
+            ap (λ (v : World). happens v event outcome) is.comes ∙
+            sym (run_more is.steps (new_world document is.wish is.caps) event outcome);
+      };
+}

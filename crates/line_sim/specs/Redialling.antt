@@ -9,7 +9,7 @@ use Rattle.stations.specs.Layers.{Document, IsFullPage}
 use Rattle.stations.specs.declared.turn.End.{End}
 use Rattle.stations.specs.declared.turn.End.TheVariants.{Normal}
 use Rattle.line_sim.specs.declared.event.Event.{Event}
-use Rattle.line_sim.specs.Line.{World, Outcome, new_world, run}
+use Rattle.line_sim.specs.Line.{World, Outcome, happens, new_world, run}
 
 -- a world that a call of a document has come to, whatever was wished, whoever answered, and whatever happened on the line
 pub record IsCall (document : Document) (w : World) : Type 0 where
@@ -17,6 +17,12 @@ pub record IsCall (document : Document) (w : World) : Type 0 where
   pub caps : Caps
   pub steps : List (Event × Outcome)
   pub comes : w ≡ run steps (new_world document wish caps)
+
+-- The law: a new world is one that a call has come to, and so is what an event leaves of one.
+pub record CallsGoOn : Type 0 where
+  pub begins : (document : Document) (wish : Wish) (caps : Caps) → IsCall document (new_world document wish caps)
+  pub goes_on :
+      (document : Document) (w : World) (event : Event) (outcome : Outcome) → IsCall document w → IsCall document (happens w event outcome)
 
 -- the pages of the document that a caller hasn't confirmed, which the next call sends
 abbrev pub unconfirmed : Caller → Document

@@ -9,7 +9,7 @@ ghost use Rattle.line_sim.specs.EventsMean.{EventsMake, EventsRefuse, EventsTouc
 ghost use Rattle.line_sim.specs.Polite.{GroupsAreAgreed, PoliteCalls, PoliteEvents};
 ghost use Rattle.line_sim.specs.Headline.{EventsMove, LineHolds, LinesCanBeWritten, RunsAreSafe, RunsMove, StationsInStep};
 ghost use Rattle.line_sim.specs.Headline.{WholeBlocksAccepted};
-ghost use Rattle.line_sim.specs.Redialling.{CallsAreRedialled};
+ghost use Rattle.line_sim.specs.Redialling.{CallsAreRedialled, CallsGoOn};
 ghost use Rattle.line_sim.specs.Streams.{CutsChangeNothing, StoredIsSaid};
 
 /// Over every schedule of losses, spoiled training checks, time-outs, waits and refused growths: the facts of the line hold, and both
@@ -41,6 +41,11 @@ pub fn polite_calls()
     stations::laws::layers_hold();
     stations::laws::signals_hold();
 }
+
+/// A call begins with a new world, and what happens on its line leaves one that the call has come to: of these `redialled` speaks.
+pub fn calls_go_on()
+    ensures { CallsGoOn }
+{}
 
 /// Several calls send a document, each over any line and to any answerer, and each further one sends the pages that the call before it has
 /// not confirmed. The pages stored in all of them, in order, are the first of the document; at most one of them comes again for each call

@@ -207,8 +207,8 @@ impl Answerer {
         self.accepted
     }
 
-    /// The mark of the last accepted block.
-    pub(crate) fn last_mark(&self) -> Option<Mark>
+    /// Returns the mark of the last accepted block: its page and its place, both modulo 256; None before the first one. Takes no memory.
+    pub fn last_mark(&self) -> Option<Mark>
         ensures { result ≡ option_map (λ (accepted : AcceptedBlock). accepted.mark) self.now.accepted }
     {
         match self.accepted {
