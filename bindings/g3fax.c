@@ -17,6 +17,9 @@ g3_status g3_core_page_encode(handle *, uint32_t, uint32_t, handle *);
 g3_status g3_core_page_decode(const uint8_t *, size_t, const g3_code *, handle *, uint64_t *);
 g3_status g3_core_page_salvage(const uint8_t *, size_t, const g3_code *, handle *);
 g3_status g3_core_page_repair(const uint8_t *, size_t, const g3_code *, handle *, uint64_t *);
+g3_status g3_core_page_next(uint8_t *, size_t, const g3_code *, uint64_t, uint64_t *);
+/* of what octets are it reaches what is between its size and the name of a format, which is passed beside it */
+g3_status g3_core_identify(const uint8_t *, size_t, void *, uint8_t *, size_t);
 g3_status g3_core_page_read_pbm(const uint8_t *, size_t, uint32_t, handle *, uint64_t *);
 g3_status g3_core_page_write_pbm(handle *, handle *);
 g3_status g3_core_octets_len(handle *, uint64_t *);
@@ -83,6 +86,7 @@ LIES(g3_burst, bits, 24);
 LIES(g3_state, pages, 40);
 LIES(g3_progress, pages, 80);
 LIES(g3_signal, length, 80 + 296);
+LIES(g3_found, place, 40 + 48);
 /* the size of g3_progress in its first form, which ends before `refused` */
 #define PROGRESS_FIRST (__builtin_offsetof(g3_progress, refused))
 
@@ -143,6 +147,18 @@ g3_status g3_page_repair(const uint8_t *octets, size_t length, const g3_code *co
 {
     OCTETS(octets, length); PLACE(code); HANDLE(out); PLACE(count);
     return g3_core_page_repair(octets, length, code, (handle *)out, count);
+}
+g3_status g3_identify(const uint8_t *octets, size_t length, g3_found *found)
+{
+    OCTETS(octets, length); SIZED(found);
+    g3_status status = g3_core_identify(octets, length, REST(found), (uint8_t *)found->format, sizeof found->format - 1);
+    if (status == G3_OK) found->format[found->length] = 0;
+    return status;
+}
+g3_status g3_page_next(uint8_t *octets, size_t length, const g3_code *code, uint64_t used, uint64_t *next)
+{
+    OCTETS(octets, length); PLACE(code); PLACE(next);
+    return g3_core_page_next(octets, length, code, used, next);
 }
 g3_status g3_page_read_pbm(const uint8_t *octets, size_t length, uint32_t fine, g3_page *out, uint64_t *count)
 {
@@ -410,7 +426,7 @@ const char *g3_end_text(uint32_t end)
     case G3_END_NO_REPLY: return "a command had no reply, three times";
     case G3_END_UNREADABLE: return "a block was asked for a fourth time";
     case G3_END_STILL_BUSY: return "the answerer was busy for too long";
-    case G3_END_PEER_LEFT: return "the other station hung up";
+    case G3_END_PEER_LEFT: return "the other station left before all pages were confirmed";
     case G3_END_BAD_PAGE: return "a page couldn't be read";
     case G3_END_PAGE_TOO_LONG: return "a page's code is too long";
     case G3_END_STOPPED: return "the call was stopped here";

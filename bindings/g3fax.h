@@ -143,6 +143,34 @@ G3_CHECK g3_status g3_page_salvage(const uint8_t *octets, size_t length, const g
  * one before it. *count: how many rows are such. 4 and 10 to 18 where no row can be read. G3_BAD_CHOICE: G3_MMR has no repair. */
 G3_CHECK g3_status g3_page_repair(const uint8_t *octets, size_t length, const g3_code *code, g3_page *out, uint64_t *count);
 
+/* what octets are: a page, or pages, that read in one way; a file of another format; a page whose width isn't known, since several fit;
+ * nothing that is known; a page that can't be read to its end */
+enum { G3_FOUND_PAGE = 1, G3_FOUND_FORMAT = 2, G3_FOUND_SEVERAL = 3, G3_FOUND_NOTHING = 4, G3_FOUND_BEGUN = 5 };
+
+/* what octets are; what doesn't belong to the kind is 0 */
+typedef struct g3_found {
+    uint64_t size;   /* of this struct */
+    uint64_t place;  /* of a page, the bits of its code, the first page's of several; or the bit of the fault, from 0 */
+    uint32_t kind;   /* G3_FOUND_.. */
+    uint32_t coding; /* of a page: G3_MH or G3_MMR */
+    uint32_t order;  /* G3_MSB_FIRST or G3_LSB_FIRST */
+    uint32_t width;  /* pixels */
+    uint32_t rows;   /* of the first page, or those before the fault */
+    uint32_t fault;  /* of a page, 0: g3_page_decode reads it. G3_MISSING_EOFB: g3_page_salvage does. Else g3_page_repair, and copies no row */
+    uint32_t repaired; /* the rows that g3_page_repair gives */
+    uint32_t length;   /* of a format: the letters of its name */
+    char format[48];   /* of a format: its name in English, as "TIFF", and a 0 after it; else "" */
+} g3_found;
+/* Says how octets read, as faxtool identify does: both codes in both orders of bits are tried, G3_MH at the width that its first row says,
+ * else at the usual ones. A format is known by the octets that its files begin with. */
+G3_CHECK g3_status g3_identify(const uint8_t *octets, size_t length, g3_found *found);
+/* Finds the next page of a file, after its first `used` bits: those of the page before, which g3_page_decode tells as *place. *next: the
+ * bit at which it begins. In that bit's octet the bits before it are made 0, and no other octet changes: so g3_page_decode reads the page
+ * from the octet *next / 8 on. After a page of G3_MMR nothing is written, since the next one begins in an octet of its own. Width and `fine`
+ * of the code are ignored. G3_NOTHING: no page follows, only EOLs and 0 bits.
+ * Of many pages in G3_LSB_FIRST turn each octet first, and read them in G3_MSB_FIRST: g3_page_decode turns up to 4 MiB for each page. */
+G3_CHECK g3_status g3_page_next(uint8_t *octets, size_t length, const g3_code *code, uint64_t used, uint64_t *next);
+
 /* The first image of a raw PBM file in memory, and how many images it has; and a page as such an image. */
 G3_CHECK g3_status g3_page_read_pbm(const uint8_t *octets, size_t length, uint32_t fine, g3_page *out, uint64_t *count);
 G3_CHECK g3_status g3_page_write_pbm(const g3_page *page, g3_octets *out);
@@ -220,7 +248,8 @@ G3_CHECK g3_status g3_answerer_new(g3_terminal *out, const g3_caps *caps);
 G3_CHECK g3_status g3_caller_new(g3_terminal *out, g3_document *document, const g3_wish *wish);
 
 /* Hears octets that came by V.21 or by the carrier of a page: flags and frames, the least significant bit of each first, in pieces of any
- * size. G3_NO_MEMORY: nothing was taken; give the octets again. G3_FRAME_LOST: don't. */
+ * size, but of one burst. An answerer that hears a page under the number of the last one, which it can't tell from that, stops its call.
+ * G3_NO_MEMORY: nothing was taken; give the octets again. G3_FRAME_LOST: don't. */
 G3_CHECK g3_status g3_terminal_hear(g3_terminal *terminal, const uint8_t *octets, size_t length);
 /* Hears a good frame by its content, 3 to 300 octets, as g3_terminal_hear hears the octets of this frame between two flags: for a modem that
  * finds the frames itself. G3_NO_MEMORY: nothing was taken; give it again. G3_FRAME_LOST: don't. */
@@ -241,11 +270,11 @@ enum { G3_QUIET = 1, G3_CARRIER = 2 };
  * it when the line changes, after each burst that was sent, and when g3_terminal_due says; g3_terminal_wait_over isn't called then. Frames and
  * checks that were heard since the last tick are heard now. G3_BAD_CHOICE: no such line, or a time before that of the last tick. */
 G3_CHECK g3_status g3_terminal_tick(g3_terminal *terminal, uint64_t now, uint32_t line);
-/* When the next wait is over, or the call has lasted as long as it may, by the time of the ticks, if the line stays as it is and nothing
- * comes. G3_NOTHING: no wait runs, and no limit. */
+/* When the next tick does something, by the time of the ticks, if the line stays as it is and nothing comes: a wait is over, or the call has
+ * lasted as long as it may. G3_NOTHING: never; so on a carrier, before the first tick, and after a burst until the next, if there is no limit. */
 G3_CHECK g3_status g3_terminal_due(const g3_terminal *terminal, uint64_t *at);
 /* How many seconds the call may last, by the time of the ticks; 0 for no limit, as in the beginning. The first tick of a quiet line from then
- * on does what g3_terminal_stop does. */
+ * on does what g3_terminal_stop does. If the line doesn't fall quiet, the first tick 10 s later does what g3_terminal_lost does. */
 G3_CHECK g3_status g3_terminal_most_seconds(g3_terminal *terminal, uint32_t seconds);
 /* Whether an answerer can't take pages for now. */
 G3_CHECK g3_status g3_terminal_set_busy(g3_terminal *terminal, uint32_t is);
@@ -291,10 +320,10 @@ enum {
     G3_END_NO_REPLY = 5,       /* a command had no reply, three times */
     G3_END_UNREADABLE = 6,     /* a block was asked for a fourth time */
     G3_END_STILL_BUSY = 7,     /* the answerer was busy for too long */
-    G3_END_PEER_LEFT = 8,
+    G3_END_PEER_LEFT = 8,      /* it left before all pages were confirmed: an answerer's are by the MCF taken by g3_terminal_next_burst */
     G3_END_BAD_PAGE = 9,       /* a page couldn't be read */
     G3_END_PAGE_TOO_LONG = 10, /* a page's code is too long */
-    G3_END_STOPPED = 11,       /* by g3_terminal_stop */
+    G3_END_STOPPED = 11,       /* by g3_terminal_stop or _hang_up, by the limit of seconds, or at a page under a used number */
     G3_END_LINE_LOST = 12      /* by g3_terminal_lost */
 };
 
@@ -313,14 +342,15 @@ typedef struct g3_state {
 } g3_state;
 G3_CHECK g3_status g3_terminal_state(const g3_terminal *terminal, g3_state *state);
 
-/* why an answerer doesn't allow a DCS: it is without error correction, or has a speed, a width, lines or a code that aren't offered */
-enum { G3_REFUSED_NO_ECM = 1, G3_REFUSED_NOT_OFFERED = 2 };
+/* why a call is refused: a second DCS is without error correction, or has a speed, a width, lines or a code that aren't offered; or a page has
+ * come under the number of the last one, from which it can't be told, so that the terminal has stopped the call in place of confirming it */
+enum { G3_REFUSED_NO_ECM = 1, G3_REFUSED_NOT_OFFERED = 2, G3_REFUSED_USED_NUMBER = 3 };
 
 /* how far a call is; what belongs to the other station is 0. The size may be 72 octets too, as before `refused` was added */
 typedef struct g3_progress {
     uint64_t size;           /* of this struct */
     uint64_t pages;          /* of a caller's document; or those that an answerer has stored and that weren't taken */
-    uint64_t confirmed;      /* pages of a caller that are confirmed: the one under way is the next */
+    uint64_t confirmed;      /* pages that are confirmed: of a caller, the one under way is the next; of an answerer, by the MCFs taken to be sent */
     uint64_t block;          /* the block of its page that a caller sends, from 1; 0 in phase B and after the end */
     uint64_t blocks;         /* how many blocks that page has; 0 where block is */
     uint64_t octets;         /* octets of code that an answerer has of the page under way, in the blocks that it accepted */
@@ -331,7 +361,7 @@ typedef struct g3_progress {
     uint32_t accepted_page;  /* the number of its page modulo 256 */
     uint32_t accepted_block; /* its number in that page modulo 256 */
     uint32_t refused;        /* how often an answerer had a DCS that it doesn't allow: 0 to 2, which is twice or more */
-    uint32_t refused_why;    /* of the second one G3_REFUSED_..; 0 where there was none. The program may stop the call then */
+    uint32_t refused_why;    /* G3_REFUSED_.., or 0. For a DCS the program may stop the call; for a used number the terminal has */
     uint32_t gap;            /* 1: the page numbers that an answerer hears have jumped, so a page may be missing */
     uint32_t gap_page;       /* the first number modulo 256, from 0, that was neither the last one nor the next */
 } g3_progress;

@@ -31,11 +31,14 @@ static void codes(size_t length, uint32_t coding)
     g3_octets octets = G3_EMPTY, text = G3_EMPTY;
     g3_code form = {coding, G3_LSB_FIRST, 315, 0};
     g3_raster raster = {64, 315, 10, 0};
+    g3_found found = G3_INIT(g3_found);
     uint64_t count = 0, size = 0, place = 0;
     DOES(g3_page_read_pbm(image, length, 0, &page, &count));
     DOES(g3_page_encode(&page, coding, G3_LSB_FIRST, &octets));
     DOES(g3_octets_copy(&octets, code, sizeof code, &size));
     DOES(g3_page_decode(code, size, &form, &back, &place));
+    DOES(g3_identify(code, size, &found));
+    if (found.kind != (coding == G3_MH ? G3_FOUND_PAGE : G3_FOUND_SEVERAL)) printf("growth %lu refused: another kind\n", refused), bad = 1;
     DOES(g3_page_push_row(&back, image, 40));
     DOES(g3_page_salvage(code, size / 2, &form, &kept));
     g3_page_free(&kept);

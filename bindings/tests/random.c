@@ -43,12 +43,14 @@ static g3_status call(uint32_t which, void *a, void *b)
     static g3_signal signal;
     static g3_params params;
     static g3_progress far;
+    static g3_found found;
     static uint32_t why;
     uint32_t sizes = below(50); /* of structs: right ones, but for some calls */
     static const uint8_t heads[] = {0x80, 0x83, 0x84, 0x44, 0x06, 0x86, 0xBF, 0xBC, 0x8C, 0xEC, 0x6F, 0xFB};
     size.size = sizes ? sizeof size : below(500), counts.size = sizes ? sizeof counts : below(500);
     burst.size = sizes ? sizeof burst : below(500), shown.size = sizes ? sizeof shown : below(500);
     signal.size = sizes ? sizeof signal : below(500), params.size = sizes ? sizeof params : below(500);
+    found.size = sizes ? sizeof found : below(500);
     far.size = sizes ? (sizes % 4 ? sizeof far : 72) : below(500);
     g3_dis dis = {below(9) != 0, 0, below(2), below(9) ? 2432 : below(3000), below(2), below(9) != 0};
     g3_caps caps = {below(5), below(2), below(2), below(8) ? 1728 : below(3000), below(4)};
@@ -132,6 +134,8 @@ static g3_status call(uint32_t which, void *a, void *b)
     case 60: /* texts, of any number */
         return g3_carrier_rate(below(12)) <= 14400 && g3_carrier_name(below(12)) != NULL && g3_end_text(below(20)) != NULL
             && g3_status_text(below(120)) != NULL ? G3_OK : UINT32_MAX;
+    case 61: return g3_identify(octets, length, below(50) ? &found : NULL);
+    case 62: return g3_page_next(octets, length, below(50) ? &code : NULL, below(4) ? below(2000) : stride, number);
     default: g3_page_free(a); return G3_OK;
     }
 }
@@ -143,7 +147,7 @@ int main(int argc, char **argv)
     for (int calls = argc == 2 ? atoi(argv[1]) : 0; calls > 0; calls--) {
         uint32_t first = below(8), second = (first + 1 + below(7)) % 8;
         if (below(20) == 0) refused = grown + 1 + below(4);
-        g3_status status = call(below(64), below(50) ? &handles[first] : NULL, below(50) ? &handles[second] : NULL);
+        g3_status status = call(below(66), below(50) ? &handles[first] : NULL, below(50) ? &handles[second] : NULL);
         int is_known = status <= G3_TOO_MANY_CODED_ROWS || (status >= G3_BAD_ADDRESS && status <= G3_SHORT_FIELD)
             || status == G3_NOT_CALLABLE || status == G3_NOT_COMPATIBLE || status == G3_FRAME_LOST
             || (status >= G3_EMPTY_HANDLE && status <= G3_BAD_SIZE);

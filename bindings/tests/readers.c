@@ -70,7 +70,7 @@ static uint64_t reads(const shared *of)
         || g3_octets_data(&of->octets, &data, &seen) != G3_OK || g3_document_pages(&of->document, &pages) != G3_OK
         || g3_deframer_counts(&of->deframer, &counts) != G3_OK || g3_terminal_state(&of->terminal, &state) != G3_OK
         || g3_terminal_progress(&of->terminal, &far) != G3_OK || g3_terminal_params(&of->terminal, &params) != G3_NOTHING
-        || g3_terminal_peer(&of->terminal, &peer) != G3_NOTHING || g3_terminal_due(&of->terminal, &due) != G3_OK)
+        || g3_terminal_peer(&of->terminal, &peer) != G3_NOTHING || g3_terminal_due(&of->terminal, &due) != G3_NOTHING)
         return 0;
     for (uint64_t at = 0; at < raster; at++) sum += (at + 1) * buffer[at];
     if (g3_octets_copy(&of->octets, buffer, sizeof buffer, &copied) != G3_OK || copied != length || seen != length) return 0;

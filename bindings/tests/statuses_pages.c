@@ -120,6 +120,75 @@ static void coded(void)
     g3_page_free(&a);
 }
 
+/* Puts a bit after those that are there. */
+static void put(uint8_t *to, uint64_t *count, int bit)
+{
+    to[*count / 8] |= (uint8_t)(bit << (7 - *count % 8));
+    ++*count;
+}
+
+/* Octets with two pages of T.4, each of one row of 8 white pixels, the second one from the bit after the first on; 89 bits each. */
+static void join(uint8_t to[24])
+{
+    uint64_t count = 0;
+    for (int page = 0; page < 2; page++) {
+        for (int bit = 1; bit <= 12; bit++) put(to, &count, bit == 12);
+        for (int bit = 0; bit < 5; bit++) put(to, &count, 0x13 >> (4 - bit) & 1);
+        for (int bit = 1; bit <= 72; bit++) put(to, &count, bit % 12 == 0);
+    }
+}
+
+static void identified(void)
+{
+    g3_found found = G3_INIT(g3_found);
+    uint8_t two[24] = {0}, white[8] = {0x80, 0x08, 0x00, 0x80, 0x80};
+    IS(G3_BAD_LENGTH, g3_identify(two, 24, NULL));
+    IS(G3_BAD_LENGTH, g3_identify(NULL, 24, &found));
+    SIZES(found, g3_identify(two, 24, &found));
+    memset(found.format, 0x5A, sizeof found.format);
+    IS(G3_OK, g3_identify(NULL, 0, &found));
+    IS(1, found.kind == G3_FOUND_NOTHING && found.place == 0 && found.width == 0 && found.rows == 0 && found.format[0] == 0);
+    IS(G3_OK, g3_identify((const uint8_t *)"\x7e\x7e\x7e", 3, &found));
+    IS(1, found.kind == G3_FOUND_FORMAT && found.length == 27 && strcmp(found.format, "bits of a line (HDLC flags)") == 0);
+    IS(1, found.format[28] == 0x5A); /* no octet is written after the name and its 0 */
+    IS(G3_OK, g3_identify(white, 4, &found)); /* a white row of T.6, as wide as one likes */
+    IS(1, found.kind == G3_FOUND_SEVERAL && found.length == 0 && found.format[0] == 0);
+    join(two);
+    IS(G3_OK, g3_identify(two, 24, &found));
+    IS(1, found.kind == G3_FOUND_PAGE && found.coding == G3_MH && found.order == G3_MSB_FIRST && found.width == 8);
+    IS(1, found.place == 89 && found.rows == 1 && found.fault == 0 && found.repaired == 0 && found.length == 0);
+}
+
+static void files(void)
+{
+    g3_page a = G3_EMPTY;
+    g3_code odd = {3, G3_MSB_FIRST, 8, 0}, other = {G3_MH, 2, 8, 0};
+    g3_code mh = {G3_MH, G3_MSB_FIRST, 8, 0}, mmr = {G3_MMR, G3_MSB_FIRST, 8, 0};
+    uint64_t next = 77, place = 0;
+    uint8_t two[24] = {0}, same[24], white[8] = {0x80, 0x08, 0x00, 0x80, 0, 0, 0x80, 0x08};
+    join(two);
+    memcpy(same, two, sizeof same);
+    IS(G3_BAD_LENGTH, g3_page_next(two, 24, NULL, 89, &next));
+    IS(G3_BAD_LENGTH, g3_page_next(NULL, 24, &mh, 89, &next));
+    IS(G3_BAD_LENGTH, g3_page_next(two, 24, &mh, 89, NULL));
+    IS(G3_BAD_CHOICE, g3_page_next(two, 24, &odd, 89, &next));
+    IS(G3_BAD_CHOICE, g3_page_next(two, 24, &other, 89, &next));
+    IS(G3_NOTHING, g3_page_next(two, 24, &mh, 178, &next));
+    IS(G3_NOTHING, g3_page_next(two, 24, &mh, UINT64_MAX, &next));
+    IS(G3_NOTHING, g3_page_next(NULL, 0, &mmr, 0, &next));
+    IS(1, next == 77 && memcmp(two, same, sizeof same) == 0);
+    IS(G3_OK, g3_page_next(two, 24, &mh, 89, &next));
+    same[11] = 0; /* where the last EOL of the first page had its 1 */
+    IS(1, next == 89 && memcmp(two, same, sizeof same) == 0);
+    IS(G3_OK, g3_page_decode(two + next / 8, 24 - next / 8, &mh, &a, &place));
+    IS(90, (g3_status)place);
+    g3_page_free(&a);
+    memcpy(same, white, sizeof white);
+    IS(G3_OK, g3_page_next(white, 8, &mmr, 25, &next));
+    IS(1, next == 48 && memcmp(white, same, sizeof white) == 0);
+    IS(G3_NOTHING, g3_page_next(white, 6, &mmr, 25, &next));
+}
+
 static void frames(void)
 {
     g3_deframer d = G3_EMPTY;
@@ -146,6 +215,8 @@ int main(void)
     pages();
     rasters();
     coded();
+    identified();
+    files();
     frames();
     return bad;
 }

@@ -103,8 +103,8 @@ static void clocks(void)
     IS(G3_OK, g3_terminal_next_burst(&t, &o, &burst));
     g3_octets_free(&o);
     IS(G3_OK, g3_terminal_tick(&t, 1000, G3_CARRIER));
-    IS(G3_OK, g3_terminal_due(&t, &at));
-    IS(35000, (g3_status)at); /* T1, from the beginning */
+    IS(G3_NOTHING, g3_terminal_due(&t, &at)); /* no wait ends on a carrier */
+    IS(77, (g3_status)at);
     IS(G3_BAD_CHOICE, g3_terminal_tick(&t, 999, G3_QUIET));
     IS(G3_OK, g3_terminal_tick(&t, 2000, G3_QUIET));
     IS(G3_OK, g3_terminal_due(&t, &at));
@@ -178,7 +178,7 @@ static void agreed(void)
     g3_terminal_free(&t);
 }
 
-/* most seconds of a call: it is stopped at the first quiet tick from then on, and `due` tells it on a calm line */
+/* most seconds of a call: it is stopped at the first quiet tick from then on, and given up 10 s later on any line; `due` tells it */
 static void limits(void)
 {
     g3_terminal t = G3_EMPTY;
@@ -192,17 +192,18 @@ static void limits(void)
     IS(G3_OK, g3_answerer_new(&t, &caps));
     IS(G3_OK, g3_terminal_most_seconds(&t, 5));
     IS(G3_OK, g3_terminal_due(&t, &at));
-    IS(35000, (g3_status)at); /* T1: no line was calm yet */
+    IS(15000, (g3_status)at); /* no line was calm yet */
     IS(G3_OK, g3_terminal_tick(&t, 1000, G3_QUIET));
     IS(G3_OK, g3_terminal_due(&t, &at));
     IS(5000, (g3_status)at);
     IS(G3_OK, g3_terminal_tick(&t, 4999, G3_QUIET));
     IS(G3_OK, g3_terminal_tick(&t, 6000, G3_CARRIER));
     IS(G3_OK, g3_terminal_due(&t, &at));
-    IS(35000, (g3_status)at);
+    IS(15000, (g3_status)at);
     IS(G3_OK, g3_terminal_state(&t, &state));
     IS(0, state.end);
     IS(G3_OK, g3_terminal_most_seconds(&t, 0)); /* no limit */
+    IS(G3_NOTHING, g3_terminal_due(&t, &at));
     IS(G3_OK, g3_terminal_tick(&t, 6500, G3_QUIET));
     IS(G3_OK, g3_terminal_state(&t, &state));
     IS(0, state.end);
@@ -219,6 +220,38 @@ static void limits(void)
     g3_terminal_free(&t);
 }
 
+/* A carrier of a day, of a line that is ticked when `due` says, and a second later where that has passed already: by a limit of ten minutes the
+ * call is given up 10 s after them, in silence, and without a limit nothing is ever due. */
+static void carriers(void)
+{
+    g3_terminal t = G3_EMPTY;
+    g3_octets o = G3_EMPTY;
+    g3_burst burst = G3_INIT(g3_burst);
+    g3_state state = G3_INIT(g3_state);
+    g3_caps caps = {G3_V17, 1, 1, 2432, 1};
+    const uint64_t day = 24 * 3600 * 1000;
+    for (uint32_t most = 0; most <= 600; most += 600) {
+        uint64_t at = 0, now = 1000;
+        int woken = 0;
+        IS(G3_OK, g3_answerer_new(&t, &caps));
+        IS(G3_OK, g3_terminal_most_seconds(&t, most));
+        IS(G3_OK, g3_terminal_next_burst(&t, &o, &burst)); /* DIS */
+        g3_octets_free(&o);
+        IS(G3_OK, g3_terminal_tick(&t, now, G3_CARRIER));
+        while (now < day && g3_terminal_due(&t, &at) == G3_OK) {
+            now = at > now ? at : now + 1000;
+            woken++;
+            IS(G3_OK, g3_terminal_tick(&t, now, G3_CARRIER));
+        }
+        IS(G3_OK, g3_terminal_state(&t, &state));
+        IS(most == 0 ? 0 : G3_END_LINE_LOST, state.end);
+        IS(most == 0 ? 0 : 1, (g3_status)woken);
+        IS(most == 0 ? 1000 : 610000, (g3_status)now);
+        IS(G3_NOTHING, g3_terminal_next_burst(&t, &o, &burst));
+        g3_terminal_free(&t);
+    }
+}
+
 /* Hears a signal. */
 static void say(g3_terminal *t, const g3_signal *signal)
 {
@@ -227,10 +260,12 @@ static void say(g3_terminal *t, const g3_signal *signal)
     IS(G3_OK, g3_terminal_hear_frame(t, octets, n));
 }
 
+/* a DCS of three octets: no bit 27 */
+static const uint8_t by_g3[] = {0xFF, 0x13, 0x83, 0x00, 0x22, 0x78};
+
 /* what an answerer says of its caller: DCSs that it doesn't allow, and page numbers that jump */
 static void watched(void)
 {
-    static const uint8_t by_g3[] = {0xFF, 0x13, 0x83, 0x00, 0x22, 0x78}; /* a DCS of three octets: no bit 27 */
     g3_terminal t = G3_EMPTY;
     g3_caps caps = {G3_V29, 1, 0, 1728, 1};
     g3_progress far = G3_INIT(g3_progress);
@@ -322,6 +357,87 @@ static void held(void)
     g3_page_free(&page), g3_terminal_free(&caller), g3_terminal_free(&answerer);
 }
 
+/* How many pages of an answerer are confirmed, and why its call ended. */
+static void confirmed(const g3_terminal *t, uint64_t pages, uint32_t end)
+{
+    g3_progress far = G3_INIT(g3_progress);
+    g3_state state = G3_INIT(g3_state);
+    IS(G3_OK, g3_terminal_progress(t, &far));
+    IS((g3_status)pages, (g3_status)far.confirmed);
+    IS(G3_OK, g3_terminal_state(t, &state));
+    IS(end, state.end);
+}
+
+/* Begins a call of an answerer by V.17 and T.6. */
+static void begin(g3_terminal *t)
+{
+    static const uint8_t check[2700];
+    g3_caps caps = {G3_V17, 1, 1, 2432, 3}; /* RNR is sent while that many pages wait */
+    g3_signal dcs = G3_INIT(g3_signal);
+    dcs.kind = G3_DCS, dcs.dcs.carrier = G3_V17_14400, dcs.dcs.width = 1728, dcs.dcs.coding = G3_MMR, dcs.dcs.frame = 64;
+    IS(G3_OK, g3_answerer_new(t, &caps));
+    say(t, &dcs);
+    IS(G3_OK, g3_terminal_hear_training(t, check, sizeof check));
+}
+
+/* Says a page of a white row in one frame (V0 and EOFB: 1, and 000000000001 twice), and its PPS. */
+static void say_page(g3_terminal *t, uint32_t page, uint32_t ends)
+{
+    static const uint8_t fcd[4 + 64] = {0xFF, 0x03, 0x06, 0x00, 0x01, 0x10, 0x00, 0x01};
+    g3_signal pps = G3_INIT(g3_signal);
+    pps.kind = G3_PPS, pps.pps.ends = ends, pps.pps.page = page;
+    IS(G3_OK, g3_terminal_hear_frame(t, fcd, sizeof fcd));
+    say(t, &pps);
+}
+
+/* The one burst of the turn, which is sent, is taken. */
+static void sent(g3_terminal *t)
+{
+    g3_octets o = G3_EMPTY;
+    g3_burst burst = G3_INIT(g3_burst);
+    IS(G3_OK, g3_terminal_next_burst(t, &o, &burst));
+    IS(1, burst.carrier == G3_V21 && burst.last == 1);
+    g3_octets_free(&o);
+    IS(G3_NOTHING, g3_terminal_next_burst(t, &o, &burst));
+}
+
+/* A page is confirmed by the MCF that is taken; a caller that leaves before that has left too soon. A page under the number of the last one is
+ * not confirmed: the terminal stops the call. */
+static void confirms(void)
+{
+    g3_terminal t = G3_EMPTY;
+    g3_progress far = G3_INIT(g3_progress);
+    g3_signal dcn = G3_INIT(g3_signal), pps = G3_INIT(g3_signal);
+    dcn.kind = G3_DCN, pps.kind = G3_PPS, pps.pps.ends = G3_MPS;
+    for (int taken = 0; taken < 2; taken++) {
+        begin(&t);
+        say_page(&t, 0, G3_MPS), confirmed(&t, 0, 0), sent(&t), confirmed(&t, 1, 0);
+        say(&t, &pps), sent(&t), confirmed(&t, 1, 0); /* the same PPS again */
+        say_page(&t, 1, G3_EOP), confirmed(&t, 1, 0);
+        if (taken) sent(&t);
+        say(&t, &dcn), confirmed(&t, 1 + taken, taken ? G3_END_NORMAL : G3_END_PEER_LEFT);
+        IS(G3_OK, g3_terminal_lost(&t));
+        confirmed(&t, 1 + taken, taken ? G3_END_NORMAL : G3_END_PEER_LEFT);
+        g3_terminal_free(&t);
+    }
+    begin(&t);
+    say_page(&t, 0, G3_MPS), sent(&t);
+    say_page(&t, 0, G3_EOP), confirmed(&t, 1, G3_END_STOPPED);
+    IS(G3_OK, g3_terminal_progress(&t, &far));
+    IS(1, far.refused == 0 && far.refused_why == G3_REFUSED_USED_NUMBER && far.pages == 1);
+    sent(&t); /* DCN */
+    confirmed(&t, 1, G3_END_STOPPED);
+    g3_terminal_free(&t);
+    /* two DCSs that aren't allowed were no reason to stop, so the number is told */
+    begin(&t);
+    for (int times = 0; times < 2; times++) IS(G3_OK, g3_terminal_hear_frame(&t, by_g3, sizeof by_g3));
+    say_page(&t, 0, G3_MPS), sent(&t);
+    say_page(&t, 0, G3_EOP), confirmed(&t, 1, G3_END_STOPPED);
+    IS(G3_OK, g3_terminal_progress(&t, &far));
+    IS(1, far.refused == 2 && far.refused_why == G3_REFUSED_USED_NUMBER);
+    g3_terminal_free(&t);
+}
+
 int main(void)
 {
     documents();
@@ -329,7 +445,9 @@ int main(void)
     clocks();
     agreed();
     limits();
+    carriers();
     watched();
     held();
+    confirms();
     return bad;
 }

@@ -135,7 +135,9 @@ refuses 1 "end line-lost pages 0" --answer "$work" --rx /dev/null --tx /dev/null
 refuses 1 "end no-answer confirmed 0" --call "$work/1.pbm" --rx /dev/zero --tx /dev/null
 refuses 1 "end no-answer pages 0" --answer "$work" --rx /dev/zero --tx "$work/said.raw"
 # who listens goes away: the call goes on as on a line that carries nothing that way
-(timeout 60 "$softfax" --answer "$work" --rx /dev/zero --tx - 2> "$work/said" || true) | head -c 1000 > /dev/null
+rm -f "$work/status"
+{ timeout 60 "$softfax" --answer "$work" --rx /dev/zero --tx - 2> "$work/said" || echo $? > "$work/status"; } | head -c 1000 > /dev/null
+[ "$(cat "$work/status")" = 1 ] || fails "softfax with a closed pipe ended with status $(cat "$work/status")"
 grep -q "end no-answer pages 0" "$work/said" || fails "softfax said of a closed pipe: $(cat "$work/said")"
 
 # a stream that stalls ends no signal's work, nor does a pipe that nobody opens; and --most-seconds ends both

@@ -213,6 +213,15 @@ static void note_correction(terminal *it, const uint8_t *content, uint64_t lengt
     is_done(it, g3_terminal_stop(it->station));
 }
 
+/* Notes a page that came under the number of the last one: the library has stopped the call. */
+static void note_used_number(terminal *it)
+{
+    g3_progress far = G3_INIT(g3_progress);
+    if (it->why != NULL || !is_done(it, g3_terminal_progress(it->station, &far)) || far.refused_why != G3_REFUSED_USED_NUMBER) return;
+    it->why = "a page came under the number of the last one";
+    tell(it, it->why, NULL, 0);
+}
+
 /* Hears the content of a good frame. */
 static void hear_content(terminal *it, int receiver, const uint8_t *content, uint64_t length)
 {
@@ -225,6 +234,7 @@ static void hear_content(terminal *it, int receiver, const uint8_t *content, uin
         note_correction(it, content, length);
     }
     is_done(it, g3_terminal_hear_frame(it->station, content, length)); /* as a line of its own: two receivers never mix */
+    if (!it->calls && receiver == BY_V21) note_used_number(it);
 }
 
 /* Hears octets of a receiver as flags and frames. */

@@ -6,6 +6,8 @@ T.6 (MMR), salvage and repair of broken pages, raw PBM in memory, HDLC frames, s
     pixels = g3fax.to_pixels(rows, width=1728)   # one octet a pixel, 0 white and 1 black: rows and 1,728 of each
     code = g3fax.encode(rows, width=1728)
     code = g3fax.encode_pixels(pixels)
+    for page in g3fax.pages(octets):             # all pages of a file, whose code, order of bits and width are found by identify
+        image = page.pbm()
 
 Rows are packed: eight pixels an octet, the leftmost in the highest bit, 1 black; a row has (width + 7) // 8 octets. `width` is in pixels, 1
 to 2,432. `fine` says how far rows are apart: True 7.7 a millimeter, False 3.85. Octets come in as any buffer: bytes, bytearray, mmap, a
@@ -21,13 +23,14 @@ from ._calls import Answerer, Burst, Caller, Document, Terminal
 from ._frames import Deframer, agree, frames, read_signal, write_frame, write_signal
 from ._native import __version__ as __version__
 from ._native import _library
-from ._names import (Carrier, Coding, Counts, Dis, End, Frame, Kind, Listens, Modems, Order, PageEnd, Params, Pps, Progress, Reason,
-                     Refusal, Side, Signal, State, Wait)
+from ._names import (Carrier, Coding, Counts, Dis, End, FileKind, Found, Frame, Kind, Listens, Modems, Order, PageEnd, Params, Pps,
+                     Progress, Reason, Refusal, Side, Signal, State, Wait)
 from ._owning import Closed, CodeFault, Fault, FrameLost, NoMemory, NotCompatible
-from ._pages import Page, RowCoder, RowReader, decode, encode, encode_pixels, repair, salvage, to_pixels
+from ._pages import Page, RowCoder, RowReader, decode, encode, encode_pixels, identify, pages, repair, salvage, to_pixels
 
 __all__ = ["Coding", "Order", "Fault", "Closed", "CodeFault", "NoMemory", "Counts", "Frame", "Page", "RowCoder", "RowReader", "Deframer",
            "decode", "encode", "encode_pixels", "to_pixels", "salvage", "repair", "write_frame", "frames", "version"]
+__all__ += ["FileKind", "Found", "identify", "pages"]
 __all__ += ["FrameLost", "NotCompatible", "Modems", "Carrier", "Wait", "Listens", "End", "State", "Progress", "Burst", "Document",
             "Terminal", "Caller", "Answerer", "Kind", "Side", "PageEnd", "Reason", "Refusal", "Dis", "Params", "Pps", "Signal", "read_signal",
             "write_signal", "agree"]

@@ -101,8 +101,9 @@ class Terminal(_Owner):
 
     @property
     def due(self) -> Optional[int]:
-        """When the next wait is over, or the call has lasted as long as it may, by the time of the ticks, if the line stays as it is and
-        nothing comes; None if no wait runs, and there is no limit."""
+        """When the next tick does something, by the time of the ticks, if the line stays as it is and nothing comes: a wait is over, or the
+        call has lasted as long as it may. None: never; so on a carrier, before the first tick, and after a burst until the next, if there
+        is no limit."""
         at = _u64()
         with self._lock:
             status = _library.g3_terminal_due(self._at, ctypes.byref(at))
@@ -112,7 +113,8 @@ class Terminal(_Owner):
         return at.value
 
     def most_seconds(self, seconds: int) -> None:
-        """How many seconds the call may last, by the time of the ticks; 0 for no limit. The first tick of a quiet line from then on stops it."""
+        """How many seconds the call may last, by the time of the ticks; 0 for no limit. The first tick of a quiet line from then on stops it;
+        if the line doesn't fall quiet, it is lost 10 s later."""
         with self._lock:
             _done(_library.g3_terminal_most_seconds(self._at, _number(seconds, "seconds")))
 

@@ -32,6 +32,34 @@ class Order(_Choice):
     LSB_FIRST = 1
 
 
+class FileKind(_Choice):
+    """What octets are: a page, or pages, that read in one way; a file of another format; a page whose width isn't known, since several fit;
+    nothing that is known; a page that can't be read to its end."""
+
+    PAGE = 1
+    FORMAT = 2
+    SEVERAL = 3
+    NOTHING = 4
+    BEGUN = 5
+
+
+class Found(NamedTuple):
+    """What octets are. Of a page: its code, order and width, the rows of the first one, and the bits of its code. Where its code ends by a
+    fault, `bits` is None and `fault` the number of that: with 17 its EOFB is missing, and `rows` are those that Page.salvage gives; else
+    `repaired` are the rows that Page.repair gives, none of them a copy. Of a page without an end: `rows` are those before its `fault`. Of another
+    format: its name, as "TIFF"."""
+
+    kind: FileKind
+    coding: Optional[Coding] = None
+    order: Optional[Order] = None
+    width: int = 0
+    rows: int = 0
+    bits: Optional[int] = None
+    fault: Optional[int] = None
+    repaired: int = 0
+    format: str = ""
+
+
 class Counts(NamedTuple):
     """How many gaps between flags there were of each class."""
 
@@ -143,18 +171,20 @@ class State(NamedTuple):
 
 
 class Refusal(_Choice):
-    """Why an answerer doesn't allow a DCS: it is without error correction, or has a speed, a width, lines or a code that aren't offered."""
+    """Why a call is refused: a second DCS is without error correction, or has a speed, a width, lines or a code that aren't offered; or a page
+    has come under the number of the last one, so that the terminal has stopped the call."""
 
     NO_ECM = 1
     NOT_OFFERED = 2
+    USED_NUMBER = 3
 
 
 class Progress(NamedTuple):
     """How far a call is; what belongs to the other station is 0. Of a caller: the `pages` of its document, how many are `confirmed`, the
     `block` of the next one that it sends, from 1, of so many `blocks`, its `resends`, and the `tries` of the last command. Of an answerer:
-    the `pages` that it has stored and that weren't taken, the `octets` of the page under way, the `frames` of the block under way, and the
+    the `pages` that it has stored and that weren't taken, how many of all are `confirmed`, the `octets` of the page under way, the `frames` of the block under way, and the
     page and block that it has `accepted` last, by their numbers modulo 256, or None; how often it had a DCS that it doesn't allow, `refused`,
-    0 to 2 for twice or more, and why the second one, `refused_why`, or None; and the first page number modulo 256, from 0, that was neither
+    0 to 2 for twice or more, and why the call is refused, `refused_why`, or None; and the first page number modulo 256, from 0, that was neither
     the last one nor the next, `gap`, or None."""
 
     pages: int

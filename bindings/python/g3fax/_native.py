@@ -6,7 +6,7 @@ import os
 #: the version of the library that this package is for
 __version__ = "0.1.0"
 
-_OK, _NO_ROWS, _NO_MEMORY, _NOT_COMPATIBLE, _EMPTY_HANDLE, _NOTHING, _FRAME_LOST = 0, 4, 9, 28, 100, 106, 108
+_OK, _NO_ROWS, _NO_MEMORY, _MISSING_EOFB, _NOT_COMPATIBLE, _EMPTY_HANDLE, _NOTHING, _FRAME_LOST = 0, 4, 9, 17, 28, 100, 106, 108
 _u32, _u64, _size, _address = ctypes.c_uint32, ctypes.c_uint64, ctypes.c_size_t, ctypes.c_void_p
 
 
@@ -28,6 +28,12 @@ class _Size(_Sized):
 
 class _Code(ctypes.Structure):
     _fields_ = [("coding", _u32), ("order", _u32), ("width", _u32), ("fine", _u32)]
+
+
+class _Found(_Sized):
+    _fields_ = [("size", _u64), ("place", _u64)] + [
+        (name, _u32) for name in ("kind", "coding", "order", "width", "rows", "fault", "repaired", "length")] + [
+        ("format", ctypes.c_char * 48)]
 
 
 class _Raster(ctypes.Structure):
@@ -92,6 +98,8 @@ _FUNCTIONS = {
     "g3_page_decode": [_address, _size, _address, _address, _address],
     "g3_page_salvage": [_address, _size, _address, _address],
     "g3_page_repair": [_address, _size, _address, _address, _address],
+    "g3_identify": [_address, _size, _address],
+    "g3_page_next": [_address, _size, _address, _u64, _address],
     "g3_page_read_pbm": [_address, _size, _u32, _address, _address],
     "g3_page_write_pbm": [_address, _address],
     "g3_row_coder_new": [_address, _address],

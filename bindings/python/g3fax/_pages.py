@@ -2,14 +2,15 @@
 
 from __future__ import annotations
 
+import contextlib
 import ctypes
 import importlib
 import operator
 import sys
 from typing import Any, Iterator, Optional, Tuple, Union, overload
 
-from ._native import _NOTHING, _Code, _Handle, _Raster, _Size, _library, _u64
-from ._names import Coding, Order
+from ._native import _MISSING_EOFB, _NOTHING, _Code, _Found, _Handle, _Raster, _Size, _library, _u64
+from ._names import Coding, FileKind, Found, Order
 from ._owning import CodeFault, _done, _flag, _number, _octets, _Owner, _pack, _packed, _room, _row, _taken, _unpack
 
 if sys.version_info >= (3, 12):
@@ -33,13 +34,19 @@ class Page(_Owner):
         self.repaired: Optional[int] = None
         #: the images of the file, where it was read from one
         self.images: Optional[int] = None
+        #: its code, its order of bits and the bit at which it begins, where `pages` found it in a file
+        self.coding: Optional[Coding] = None
+        self.order: Optional[Order] = None
+        self.start: Optional[int] = None
+        #: why its code has no end, where `pages` has all of its rows nevertheless
+        self.fault: Optional[CodeFault] = None
         _done(_library.g3_page_new(self._at, _number(width, "width"), _flag(fine, "fine")))
 
     @classmethod
     def _empty(cls) -> Page:
         page = cls.__new__(cls)
         _Owner.__init__(page, "g3_page_free")
-        page.bits = page.repaired = page.images = None
+        page.bits = page.repaired = page.images = page.coding = page.order = page.start = page.fault = None
         return page
 
     @classmethod
@@ -352,3 +359,85 @@ def repair(octets: Buffer, width: int = 1728, order: Order = Order.MSB_FIRST) ->
     """The rows of a repaired page of Coding.MH, and how many of them are the one before."""
     with Page.repair(octets, width, order) as page:
         return page.rows(), page.repaired or 0
+
+
+# ---- files
+
+#: each octet with its bits in the other order
+_TURNED = bytes(int(f"{octet:08b}"[::-1], 2) for octet in range(256))
+
+
+def identify(octets: Buffer) -> Found:
+    """What octets are, as `faxtool identify` finds it: they are tried as pages in both codes and both orders of bits, Coding.MH at the
+    width that its first row says, else at the usual ones."""
+    found, (address, length) = _Found(), _octets(octets)
+    _done(_library.g3_identify(address, length, ctypes.byref(found)))
+    kind = FileKind(found.kind)
+    if kind not in (FileKind.PAGE, FileKind.BEGUN):
+        return Found(kind, format=found.format.decode())
+    bits, fault = (None, found.fault) if found.fault else (found.place, None)
+    return Found(kind, Coding(found.coding), Order(found.order), found.width, found.rows, bits, fault, found.repaired)
+
+
+def _form(octets: Buffer, width: Optional[int], coding: Optional[Coding], order: Optional[Order]) -> Tuple[int, Coding, Order]:
+    """How a file's pages are read: as is said; if no code is, as `identify` finds it."""
+    if coding is not None:
+        return 1728 if width is None else width, Coding(coding), Order.MSB_FIRST if order is None else Order(order)
+    if width is not None or order is not None:
+        raise ValueError("a width or an order needs a code")
+    found = identify(octets)
+    if found.kind != FileKind.PAGE or found.coding is None or found.order is None:
+        why = {FileKind.FORMAT: f"it is {found.format}", FileKind.SEVERAL: "several ways fit", FileKind.NOTHING: "no way fits",
+               FileKind.BEGUN: "no way reads it to a page's end"}
+        raise ValueError(f"its code isn't known: {why[found.kind]}")
+    return found.width, found.coding, found.order
+
+
+def _whole(octets: memoryview, width: int, coding: Coding, fine: bool) -> Page:
+    """The page that octets begin with, most significant bit first. If nothing but its EOFB is missing, or if repair of Coding.MH reads it
+    and copies no row, it has `fault`."""
+    try:
+        return Page.decode(octets, width, coding, Order.MSB_FIRST, fine)
+    except CodeFault as refused:
+        fault = refused
+    page = Page._empty()
+    if coding == Coding.MMR and fault.number == _MISSING_EOFB:
+        page = Page.salvage(octets, width, coding, Order.MSB_FIRST, fine)
+    elif coding == Coding.MH:
+        with contextlib.suppress(CodeFault):
+            page = Page.repair(octets, width, Order.MSB_FIRST, fine)
+    if page.closed or page.repaired or not len(page):
+        page.close()
+        raise fault
+    page.fault = fault
+    return page
+
+
+def pages(octets: Buffer, width: Optional[int] = None, coding: Optional[Coding] = None, order: Optional[Order] = None,
+          fine: bool = False) -> Iterator[Page]:
+    """The pages of a file, one after another, each with its `coding`, `order`, `start` and `bits`. If no code is said, all are as
+    `identify` finds it: ValueError if that is no page. A page with a `fault` is the last one: only its EOFB is missing, or repair reads it and copies
+    no row. Raises CodeFault, with the bit of the file, at a page that can't be read."""
+    width, coding, order = _form(octets, width, coding, order)
+    code, next_at = _code(coding, Order.MSB_FIRST, width, fine), _u64()
+    # a copy, in which g3_page_next sets bits to 0; turned once for all pages, and not for each
+    file = bytearray(memoryview(octets).tobytes().translate(_TURNED if order == Order.LSB_FIRST else None))
+    address, length = _octets(file)
+    while True:
+        start = next_at.value
+        at = start // 8
+        try:
+            page = _whole(memoryview(file)[at:], width, coding, fine)
+        except CodeFault as fault:
+            raise CodeFault(fault.number, None if fault.bit is None else 8 * at + fault.bit) from None
+        page.coding, page.order, page.start = coding, order, start
+        if page.bits is None:
+            yield page
+            return
+        end = 8 * at + page.bits
+        page.bits = end - start
+        yield page
+        status = _library.g3_page_next(address, length, ctypes.byref(code), end, ctypes.byref(next_at))
+        if status == _NOTHING:
+            return
+        _done(status)

@@ -1,4 +1,5 @@
 pub mod BurstLemmas
+pub mod HeardLemmas
 pub mod LooseValues
 pub mod RasterLemmas
 pub mod SignalLemmas

@@ -1,10 +1,11 @@
 -- The terminals of callers and answerers in handles.
-use Rattle.std.specs.Prelude.{ℕ, List, Option}
+use Rattle.std.specs.Prelude.{ℕ, ◌+◌, ◌-◌, ◌^◌, Bool, true, false, List, Option, length, min, nat_le}
 use Rattle.raster.specs.Pages.{PagePixels}
 use Rattle.stations.specs.Limiting.{LimitedFields}
 use Rattle.stations.specs.Stopping.{StoppableCallerFields}
 use Rattle.terminals.specs.Runs.{TerminalFields}
 use Rattle.terminals.specs.declared.watching.Watched.{Watched}
+use Rattle.g3fax.specs.declared.answering.Tally.{Tally}
 use Rattle.g3fax.specs.declared.timing.Timing.{Timing}
 
 -- the terminal of a caller, and its clock
@@ -13,10 +14,36 @@ pub record CallingFields : Type 0 where
   pub timing : Timing
 
 -- the terminal of an answerer, its clock, what it was made to see of its caller, the pages that were taken out of it and not handed out yet,
--- the oldest first, and how many pages it stores before it is busy
+-- the oldest first, how many pages it stores before it is busy, and how many were handed out and confirmed
 pub record AnsweringFields : Type 0 where
   pub terminal : TerminalFields LimitedFields
   pub timing : Timing
   pub watched : Option Watched
   pub waiting : List PagePixels
   pub limit : ℕ
+  pub tally : Tally
+
+-- no page yet
+abbrev pub no_tally : Tally
+no_tally = record { handed = 0; confirmed = 0 }
+
+-- one more page was handed out
+abbrev pub with_handed : Tally → Tally
+with_handed tally = record tally { handed = min (tally.handed + 1) (2 ^ 64 - 1) }
+
+-- how many pages of an answerer are stored and not handed out
+abbrev pub count_left : AnsweringFields → ℕ
+count_left a = length a.waiting + length a.terminal.speaking.station.station.pages
+
+-- how many pages an answerer has stored so far: those that were handed out, and those that are left
+abbrev pub stored_so_far : AnsweringFields → ℕ
+stored_so_far a = a.tally.handed + count_left a
+
+-- each page that an answerer has stored was confirmed
+abbrev pub all_confirmed : AnsweringFields → Bool
+all_confirmed a = nat_le (stored_so_far a) a.tally.confirmed
+
+-- MCF goes out, which confirms all pages that were stored so far
+abbrev pub with_confirmed : Bool → AnsweringFields → Tally
+with_confirmed false a = a.tally
+with_confirmed true a = record a.tally { confirmed = min (stored_so_far a) (2 ^ 64 - 1) }

@@ -16,7 +16,7 @@ use Rattle.stations.specs.CallerFields.{AreCallable, NewCaller}
 use Rattle.stations.specs.CallerStep.{no_params}
 use Rattle.stations.specs.declared.turn.Turn.TheVariants.{Dis, Silent}
 use Rattle.terminals.specs.Watching.{nothing_watched}
-use Rattle.g3fax.specs.Answering.{AnsweringFields, CallingFields}
+use Rattle.g3fax.specs.Answering.{AnsweringFields, CallingFields, no_tally}
 use Rattle.g3fax.specs.Codes.{coding_of}
 use Rattle.g3fax.specs.Documents.{pages_of}
 use Rattle.g3fax.specs.Handles.{Fills, HasAnswerer, HasCaller, HasDocument, OfDocument}
@@ -84,6 +84,7 @@ pub record IsNewAnswerer (caps : Caps) (limit : ℕ) (answering : AnsweringField
   pub watched : answering.watched ≡ Some (nothing_watched caps)
   pub waiting : answering.waiting ≡ []
   pub stores : answering.limit ≡ limit
+  pub tally : answering.tally ≡ no_tally
   pub timing : answering.timing ≡ new_timing
 
 -- An empty handle is filled with the terminal of a new answerer, which sends DIS first. 104 exactly if the number of the modems or of the

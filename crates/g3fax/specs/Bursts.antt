@@ -4,17 +4,20 @@ use Rattle.std.specs.declared.alloc.AllocError.{AllocError}
 use Rattle.std.specs.declared.option.Option.{Option}
 use Rattle.std.specs.declared.option.Option.TheVariants.{None, Some}
 use Rattle.signals.specs.declared.signal.Side.{Side}
+use Rattle.signals.specs.declared.signal.Side.TheVariants.{Answerer, Caller}
 use Rattle.stations.specs.Limiting.{LimitedFields}
 use Rattle.stations.specs.Stopping.{StoppableCallerFields}
 use Rattle.terminals.specs.Runs.{TerminalFields}
 use Rattle.terminals.specs.Sending.{HasBurst, Sends}
-use Rattle.terminals.specs.Speaking.{BurstsOf}
+use Rattle.terminals.specs.Speaking.{BurstsOf, is_mcf}
 use Rattle.terminals.specs.Stations.{AnswererLends, CallerLends}
 use Rattle.terminals.specs.declared.sending.SentBurst.{SentBurst}
+use Rattle.g3fax.specs.Answering.{AnsweringFields, CallingFields, with_confirmed}
 use Rattle.g3fax.specs.Codes.{Tells}
 use Rattle.g3fax.specs.Handles.{Fills, HasOctets}
 use Rattle.g3fax.specs.Numbers.{carrier_number, check_number, flag_number}
 use Rattle.g3fax.specs.Statuses.{ok, no_memory, nothing_there}
+use Rattle.g3fax.specs.Ticking.{NotesBurst}
 use Rattle.g3fax.specs.declared.bursts.G3Burst.{G3Burst}
 use Rattle.g3fax.specs.declared.handle.Kept.{Kept}
 
@@ -54,3 +57,16 @@ pub record NextBurst (S : Type 0) (side : Side) (lends : BurstsOf S) (old new : 
   pub nothing : status ≡ nothing_there → Sends {E = AllocError} side lends old.speaking new.speaking (Ok None)
   pub exactly : before ≡ None → IsNothing lends old status
   pub only : before ≡ None → (status ≡ ok) ⊎ ((status ≡ nothing_there) ⊎ (status ≡ no_memory))
+
+-- the next burst of a caller was taken, and noted
+pub record CallerBurst (old new : CallingFields) (before after : Option Kept) (burst : G3Burst) (status : ℕ) : Type 0 where
+  pub next : NextBurst StoppableCallerFields Caller caller_bursts old.terminal new.terminal before after burst status
+  pub noted : NotesBurst status old.timing new.timing
+
+-- The next burst of an answerer was taken, and noted. If it was MCF, all pages stored so far are confirmed.
+pub record AnswererBurst (old new : AnsweringFields) (before after : Option Kept) (burst : G3Burst) (status : ℕ) : Type 0 where
+  pub next : NextBurst LimitedFields Answerer answerer_bursts old.terminal new.terminal before after burst status
+  pub noted : NotesBurst status old.timing new.timing
+  pub confirms : status ≡ ok → new.tally ≡ with_confirmed (is_mcf old.terminal.speaking.turn) old
+  pub kept : status ≢ ok → new.tally ≡ old.tally
+  pub rest : new ≡ record old { terminal = new.terminal; timing = new.timing; tally = new.tally }

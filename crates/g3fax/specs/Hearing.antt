@@ -1,5 +1,5 @@
 -- What calls answer and make of the terminal of a station: what it hears, and how its call is stopped.
-use Rattle.std.specs.Prelude.{ℕ, ◌≡◌, ◌≢◌, ◌<◌, ◌≤◌, ◌⊎◌, List, Ok, Err, length}
+use Rattle.std.specs.Prelude.{ℕ, ◌≡◌, ◌≢◌, ◌<◌, ◌≤◌, ◌⊎◌, Bool, true, false, List, Ok, Err, length}
 use Rattle.std.specs.declared.option.Option.{Option}
 use Rattle.std.specs.declared.option.Option.TheVariants.{None, Some}
 use Rattle.hdlc.specs.DeframerState.{DeframerState}
@@ -11,9 +11,9 @@ use Rattle.stations.specs.declared.waiting.Wait.{Wait}
 use Rattle.terminals.specs.Hearing.{PlainInput, over}
 use Rattle.terminals.specs.Runs.{Hears, TerminalFields}
 use Rattle.terminals.specs.Speaking.{StepOf, Takes}
-use Rattle.terminals.specs.Stopping.{CallerStepsUnlessCut, LimitedStepsUnlessCut, hung_up, silenced, stopped}
+use Rattle.terminals.specs.Stopping.{CallerStepsUnlessCut, LimitedStepsUnlessCut, hung_up, last_mark, limited_cut_off, limited_stop_says, silenced, stopped}
 use Rattle.terminals.specs.declared.fault.HearFault.TheVariants.{FrameLost}
-use Rattle.terminals.specs.Watching.{Sees}
+use Rattle.terminals.specs.Watching.{Sees, noted}
 use Rattle.terminals.specs.declared.watching.Watched.{Watched}
 use Rattle.g3fax.specs.Answering.{AnsweringFields}
 use Rattle.g3fax.specs.Frames.{HoldsFrame, longest_content}
@@ -43,11 +43,31 @@ pub record SeesOctets (framing : DeframerState) (octets : List ℕ) (was is : Op
 abbrev pub CallerHears : TerminalFields StoppableCallerFields → List ℕ → TerminalFields StoppableCallerFields → ℕ → Type 0
 CallerHears = HearsOctets StoppableCallerFields caller_steps
 
--- an answerer has taken each signal in the octets, and what they brought was seen; all else of it stays
+-- a page came under the number of the last one
+abbrev pub is_reused : Option Watched → Bool
+is_reused None = false
+is_reused (Some w) = w.used.again
+
+-- an answerer whose call is stopped if a page came under the number of the last one
+abbrev pub stopped_if_reused : Bool → AnsweringFields → AnsweringFields
+stopped_if_reused false a = a
+stopped_if_reused true a =
+    record a { terminal = record a.terminal { speaking = stopped limited_cut_off limited_stop_says a.terminal.speaking } }
+
+-- an answerer has taken each signal in the octets, and what they brought was seen; all else of it stays. Then its call is stopped if a page
+-- came under the number of the last one.
+pub record HearsAndStops (old : AnsweringFields) (octets : List ℕ) (new : AnsweringFields) (status : ℕ) : Type 0 where
+  pub heard : AnsweringFields
+  pub hears : HearsOctets LimitedFields answerer_steps old.terminal octets heard.terminal status
+  pub sees : Sees old.terminal.framing octets (noted (last_mark old.terminal.speaking.station.station) old.watched) heard.watched
+  pub same : heard ≡ record old { terminal = heard.terminal; watched = heard.watched }
+  pub stops : new ≡ stopped_if_reused (is_reused heard.watched) heard
+
+-- an answerer has heard octets; by 9 nothing was taken
 pub record AnswererHears (old : AnsweringFields) (octets : List ℕ) (new : AnsweringFields) (status : ℕ) : Type 0 where
-  pub hears : HearsOctets LimitedFields answerer_steps old.terminal octets new.terminal status
-  pub sees : SeesOctets old.terminal.framing octets old.watched new.watched status
-  pub same : new ≡ record old { terminal = new.terminal; watched = new.watched }
+  pub heard : status ≢ no_memory → HearsAndStops old octets new status
+  pub kept : status ≡ no_memory → new ≡ old
+  pub only : (status ≡ ok) ⊎ ((status ≡ no_memory) ⊎ (status ≡ frame_lost))
 
 -- octets that hold the frame of a content, and how many bits it has, were heard
 abbrev pub HearsItsOctets : (T : Type 0) → (T → List ℕ → T → ℕ → Type 0) → T → List ℕ → T → ℕ → Type 0

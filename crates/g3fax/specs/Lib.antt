@@ -8,7 +8,9 @@ pub mod Documents
 pub mod Frames
 pub mod Handles
 pub mod Hearing
+pub mod Identifying
 pub mod Images
+pub mod NextPages
 pub mod NumberRows
 pub mod Numbers
 pub mod Owned

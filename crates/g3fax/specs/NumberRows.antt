@@ -1,6 +1,12 @@
 -- Laws of the numbers that C knows, in the order in which g3fax.h has them.
-use Rattle.std.specs.Prelude.{◌≡◌, List, [], ◌∷◌, map}
+use Rattle.std.specs.Prelude.{ℕ, ◌≡◌, List, [], ◌∷◌, map}
 use Rattle.std.specs.declared.option.Option.TheVariants.{None, Some}
+use Rattle.raster.specs.declared.coding.Coding.{Coding}
+use Rattle.raster.specs.declared.packed.Order.{Order}
+use Rattle.page_files.specs.Found.{IsFormat}
+use Rattle.page_files.specs.declared.found.Found.{Found}
+use Rattle.page_files.specs.declared.found.Found.TheVariants as found
+use Rattle.page_files.specs.declared.identify.Tried.{Tried}
 use Rattle.signals.specs.Training.{bits_a_second}
 use Rattle.signals.specs.declared.params.Speed.{Speed}
 use Rattle.signals.specs.declared.params.Speed.TheVariants.{V27At2400, V27At4800, V29At7200, V29At9600, V17At7200, V17At9600, V17At12000}
@@ -13,8 +19,11 @@ use Rattle.stations.specs.declared.turn.End.TheVariants.{Normal, NoAnswer, NotCo
 use Rattle.stations.specs.declared.turn.End.TheVariants.{StillBusy, PeerLeft, BadPage, PageTooLong}
 use Rattle.stations.specs.declared.waiting.Wait.{Wait}
 use Rattle.stations.specs.declared.waiting.Wait.TheVariants.{T1, T2, T4, T5}
+use Rattle.g3fax.specs.Codes.{coding_of, order_of}
+use Rattle.g3fax.specs.Identifying.{found_told, order_number}
 use Rattle.g3fax.specs.Numbers.{carrier_number, check_number, end_number, listens_carrier, listens_number, millis_of, reason_number}
 use Rattle.g3fax.specs.Numbers.{wait_number, wait_of}
+use Rattle.g3fax.specs.SignalNumbers.{coding_number}
 use Rattle.g3fax.specs.Statuses.{bad_choice, bad_length, empty_handle, frame_lost, full_handle, no_memory, no_room, not_callable}
 use Rattle.g3fax.specs.Statuses.{not_compatible, nothing_there, ok, other_handle}
 
@@ -60,3 +69,13 @@ pub record WaitsByOrder : Type 0 where
   pub back : (wait : Wait) → wait_of (wait_number (Some wait)) ≡ Some wait
   pub none : map wait_of (0 ∷ 3 ∷ 6 ∷ []) ≡ None ∷ None ∷ None ∷ []
   pub last : map (λ number. millis_of (wait_of number)) (1 ∷ 2 ∷ 3 ∷ 4 ∷ 5 ∷ []) ≡ 35000 ∷ 7000 ∷ 0 ∷ 3000 ∷ 60000 ∷ []
+
+-- The law: what octets are, from 1 on: pages, another format, a page of which several widths fit, nothing known, a page without an end. The
+-- numbers of a page's code and order are read as these again.
+pub record FoundsByOrder : Type 0 where
+  pub page : (one : Tried) → (found_told (found.Page one)).kind ≡ 1
+  pub begun : (one : Tried) → (found_told (found.Begun one)).kind ≡ 5
+  pub format : (name : List ℕ) (what : Found) → IsFormat name what → (found_told what).kind ≡ 2
+  pub others : map (λ what. (found_told what).kind) (found.Several ∷ found.Nothing ∷ []) ≡ 3 ∷ 4 ∷ []
+  pub coding : (coding : Coding) → coding_of (coding_number coding) ≡ Some coding
+  pub order : (order : Order) → order_of (order_number order) ≡ Some order

@@ -1,5 +1,5 @@
 -- What a call tells of how far a terminal is.
-use Rattle.std.specs.Prelude.{ℕ, ◌≡◌, ◌+◌, length}
+use Rattle.std.specs.Prelude.{ℕ, ◌≡◌}
 use Rattle.std.specs.declared.option.Option.{Option}
 use Rattle.std.specs.declared.option.Option.TheVariants.{None, Some}
 use Rattle.stations.specs.CallerFields.{Represents}
@@ -11,11 +11,13 @@ use Rattle.stations.specs.declared.howfar.BlockProgress.{BlockProgress}
 use Rattle.stations.specs.declared.howfar.CallerProgress.{CallerProgress}
 use Rattle.signals.specs.declared.mark.Mark.{Mark}
 use Rattle.terminals.specs.Runs.{TerminalFields}
-use Rattle.terminals.specs.declared.watching.Refusal.TheVariants.{NoErrorCorrection, NotOffered}
+use Rattle.terminals.specs.Watching.{refusal_of_seen}
+use Rattle.terminals.specs.declared.watching.Refusal.{Refusal}
+use Rattle.terminals.specs.declared.watching.Refusal.TheVariants.{NoErrorCorrection, NotOffered, UsedNumber}
 use Rattle.terminals.specs.declared.watching.Refused.{Refused}
 use Rattle.terminals.specs.declared.watching.Refused.TheVariants.{Never, Once, Twice}
 use Rattle.terminals.specs.declared.watching.Watched.{Watched}
-use Rattle.g3fax.specs.Answering.{AnsweringFields}
+use Rattle.g3fax.specs.Answering.{AnsweringFields, count_left}
 use Rattle.g3fax.specs.Codes.{Tells}
 use Rattle.g3fax.specs.Statuses.{ok}
 use Rattle.g3fax.specs.declared.progress.G3Progress.{G3Progress}
@@ -49,11 +51,11 @@ with_block (Some far) told = record told { block = far.number; blocks = far.bloc
 abbrev pub calling_told : CallerProgress → G3Progress
 calling_told far = with_block far.block (calling_without far)
 
--- how far an answerer with these pages is beside its mark, by numbers; 0 for all that belongs to a caller
-abbrev pub answering_without : AnswererProgress → ℕ → G3Progress
-answering_without far pages = record {
+-- how far an answerer with these pages, and so many of all confirmed, is beside its mark, by numbers; 0 for all that belongs to a caller
+abbrev pub answering_without : AnswererProgress → ℕ → ℕ → G3Progress
+answering_without far pages confirmed = record {
   pages = pages;
-  confirmed = 0;
+  confirmed = confirmed;
   block = 0;
   blocks = 0;
   octets = far.octets;
@@ -80,12 +82,13 @@ refused_times Never = 0
 refused_times Once = 1
 refused_times (Twice why) = 2
 
--- why the second DCS wasn't allowed: 1 without error correction, 2 for what isn't offered; 0 where there was no second
-abbrev pub refused_why : Refused → ℕ
-refused_why Never = 0
-refused_why Once = 0
-refused_why (Twice NoErrorCorrection) = 1
-refused_why (Twice NotOffered) = 2
+-- why a call is refused: 1 for a DCS without error correction, 2 for one of what isn't offered, 3 for a page under the number of the last one; 0
+-- if it isn't
+abbrev pub refused_why : Option Refusal → ℕ
+refused_why None = 0
+refused_why (Some NoErrorCorrection) = 1
+refused_why (Some NotOffered) = 2
+refused_why (Some UsedNumber) = 3
 
 -- the page number that came first after a jump, if one did
 abbrev pub with_gap : Option ℕ → G3Progress → G3Progress
@@ -96,20 +99,22 @@ with_gap (Some page) told = record told { gap = 1; gap_page = page }
 abbrev pub with_watch : Option Watched → G3Progress → G3Progress
 with_watch None told = told
 with_watch (Some w) told =
-    with_gap w.pages.gap (record told { refused = refused_times w.refused; refused_why = refused_why w.refused })
+    with_gap w.pages.gap (record told { refused = refused_times w.refused; refused_why = refused_why (refusal_of_seen w) })
 
--- how far an answerer with these pages is, by numbers
-abbrev pub answering_told : AnswererProgress → ℕ → G3Progress
-answering_told far pages = with_mark far.accepted (answering_without far pages)
+-- how far an answerer with these pages, and so many of all confirmed, is, by numbers
+abbrev pub answering_told : AnswererProgress → ℕ → ℕ → G3Progress
+answering_told far pages confirmed = with_mark far.accepted (answering_without far pages confirmed)
 
 -- the numbers of a progress say how far a caller is; those of an answerer are 0
 pub record TellsCalling (terminal : TerminalFields StoppableCallerFields) (progress : G3Progress) (status : ℕ) : Type 0 where
   pub done : status ≡ ok
   pub told : (t : Caller) → Represents terminal.speaking.station.station t → progress ≡ calling_told (caller_progress t)
 
--- the numbers of a progress say how far an answerer is, with the pages stored and not handed out, and what it saw; those of a caller are 0
+-- the numbers of a progress say how far an answerer is, with the pages stored and not handed out, those confirmed, and what it saw; those of a
+-- caller are 0
 pub record TellsAnswering (answering : AnsweringFields) (progress : G3Progress) (status : ℕ) : Type 0 where
   pub done : status ≡ ok
   pub told : progress ≡
-      with_watch answering.watched (answering_told (answerer_progress answering.terminal.speaking.station.station) progress.pages)
-  pub pages : Tells (length answering.waiting + length answering.terminal.speaking.station.station.pages) progress.pages
+      with_watch answering.watched
+      (answering_told (answerer_progress answering.terminal.speaking.station.station) progress.pages answering.tally.confirmed)
+  pub pages : Tells (count_left answering) progress.pages

@@ -1,14 +1,17 @@
 -- What a call tells of the state of a terminal.
-use Rattle.std.specs.Prelude.{ℕ, ◌≡◌, ◌+◌, List, length}
+use Rattle.std.specs.Prelude.{ℕ, ◌≡◌, Bool, false, List, Option, Some}
 use Rattle.hdlc.specs.DeframerState.{DeframerState}
 use Rattle.stations.specs.CallerFields.{Represents}
 use Rattle.stations.specs.CallerStep.{Caller, confirmed}
 use Rattle.stations.specs.Stopping.{StoppableCallerFields}
+use Rattle.stations.specs.declared.stopping.CallEnd.{CallEnd}
+use Rattle.stations.specs.declared.stopping.CallEnd.TheVariants.{By}
+use Rattle.stations.specs.declared.turn.End.TheVariants.{Normal, PeerLeft}
 use Rattle.terminals.specs.Hearing.{HasHeard, good_frames}
 use Rattle.terminals.specs.Runs.{TerminalFields}
 use Rattle.terminals.specs.Stopping.{CallerShows, IsShown, LimitedShows}
 use Rattle.terminals.specs.declared.stopping.Shown.{Shown}
-use Rattle.g3fax.specs.Answering.{AnsweringFields}
+use Rattle.g3fax.specs.Answering.{AnsweringFields, all_confirmed, count_left}
 use Rattle.g3fax.specs.Codes.{Tells}
 use Rattle.g3fax.specs.Numbers.{end_number, listens_carrier, listens_number, wait_number}
 use Rattle.g3fax.specs.Statuses.{ok}
@@ -35,12 +38,18 @@ pub record TellsCaller (terminal : TerminalFields StoppableCallerFields) (state 
   pub pages : (t : Caller) → Represents terminal.speaking.station.station t → state.pages ≡ confirmed t
   pub frames : TellsFrames terminal.framing state
 
--- the numbers of a state are those of what an answerer shows of its call, of the pages stored and not handed out, and of the good frames it
--- has heard
+-- why the call of an answerer ended, by whether each page that it has stored was confirmed: a caller that left after its last page, and wasn't
+-- told that this has arrived, left too soon
+abbrev pub known_end : Bool → Option CallEnd → Option CallEnd
+known_end false (Some (By Normal)) = Some (By PeerLeft)
+known_end _ end = end
+
+-- the numbers of a state are those of what an answerer shows of its call, its end as is known by what was confirmed, of the pages stored and
+-- not handed out, and of the good frames it has heard
 pub record TellsAnswerer (answering : AnsweringFields) (state : G3State) (status : ℕ) : Type 0 where
   pub done : status ≡ ok
   pub shown : Shown
   pub shows : IsShown LimitedShows answering.terminal.speaking.station shown
-  pub told : TellsShown shown state
-  pub pages : Tells (length answering.waiting + length answering.terminal.speaking.station.station.pages) state.pages
+  pub told : TellsShown (record shown { end = known_end (all_confirmed answering) shown.end }) state
+  pub pages : Tells (count_left answering) state.pages
   pub frames : TellsFrames answering.terminal.framing state

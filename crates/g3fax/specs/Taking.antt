@@ -7,7 +7,7 @@ use Rattle.stations.specs.Limiting.{LimitedFields}
 use Rattle.terminals.specs.Hearing.{busy}
 use Rattle.terminals.specs.Speaking.{Takes}
 use Rattle.terminals.specs.Stopping.{with_pages_taken}
-use Rattle.g3fax.specs.Answering.{AnsweringFields}
+use Rattle.g3fax.specs.Answering.{AnsweringFields, with_handed}
 use Rattle.g3fax.specs.Handles.{Fills, HasPage}
 use Rattle.g3fax.specs.Hearing.{answerer_steps}
 use Rattle.g3fax.specs.Statuses.{ok, no_memory, bad_choice, nothing_there}
@@ -24,6 +24,7 @@ pub record HandsOutPage (old : AnsweringFields) (page : PagePixels) (new : Answe
   pub timing : new.timing ≡ old.timing
   pub waited : old.waiting ≢ [] → new.terminal ≡ old.terminal
   pub taken : old.waiting ≡ [] → new.terminal.speaking ≡ with_pages_taken old.terminal.speaking
+  pub tally : new.tally ≡ with_handed old.tally
 
 -- The oldest page was handed out, and the answerer is busy until the program says otherwise: first its station has taken that it is.
 pub record HoldsPage (old : AnsweringFields) (page : PagePixels) (new : AnsweringFields) : Type 0 where

@@ -7,7 +7,7 @@ ghost use Rattle.signals.specs.Agreement.{width_of_pixels};
 ghost use Rattle.std.specs.Prelude.{◌≡◌, ◌<◌, ◌↔◌, IfErr, IfOk, IfSome, IsSome, IsTrue, true};
 ghost use Rattle.stations.specs.CallerFields.{AreCallable};
 
-use crate::answering::{Answering, Calling};
+use crate::answering::{Answering, Calling, Tally};
 use crate::codes::coding_of;
 use crate::handle::{G3Handle, Kept};
 use crate::status::{
@@ -119,6 +119,7 @@ fn answering(alloc: Global, caps: Caps, limit: u32) -> Answering
         watched: Some(Watched::new(caps)),
         waiting: Vec::new(alloc),
         limit,
+        tally: Tally::NONE,
     }
 }
 

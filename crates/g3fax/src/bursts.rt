@@ -1,15 +1,13 @@
 //! What terminals have to send, for C.
 
-ghost use Rattle.g3fax.specs.Bursts.{NextBurst, TellsBurst, answerer_bursts, caller_bursts};
-ghost use Rattle.g3fax.specs.Handles.{HasOctets, OnTimed};
+ghost use Rattle.g3fax.specs.Bursts.{AnswererBurst, CallerBurst, NextBurst, TellsBurst};
+ghost use Rattle.g3fax.specs.Handles.{HasOctets, OnStation};
 ghost use Rattle.g3fax.specs.Ticking.{NotesBurst};
-ghost use Rattle.signals.specs.declared.signal.Side.TheVariants.{Answerer, Caller};
 ghost use Rattle.std.specs.Prelude.{◌≡◌, ◌≢◌};
-ghost use Rattle.stations.specs.Limiting.{LimitedFields};
-ghost use Rattle.stations.specs.Stopping.{StoppableCallerFields};
 
+use crate::answering::Answering;
 use crate::codes::in_64_bits;
-use crate::handle::{G3Handle, Kept, opened_timed, room};
+use crate::handle::{G3Handle, Kept, opened_station, room};
 use crate::numbers::{carrier_number, check_number};
 use crate::status::{FULL_HANDLE, NO_MEMORY, NOTHING, OK};
 use crate::timing::Timing;
@@ -86,6 +84,30 @@ fn next_burst<S: Station>(
     }
 }
 
+/// Fills an empty handle with the octets of an answerer's next burst. If it is an MCF, that confirms all pages stored so far.
+fn answerer_burst(
+    alloc: Global,
+    answering: &mut Answering,
+    out: &mut G3Handle,
+    burst: &mut G3Burst,
+) -> u32
+    ensures next { AnswererBurst answering.old answering.new out.old.value out.new.value burst.new result }
+    ensures untold { result ≢ 0 → burst.new ≡ burst.old }
+{
+    let tally = answering.with_confirmed(answering.terminal.confirms());
+    let status = next_burst(
+        alloc,
+        &mut answering.terminal,
+        &mut answering.timing,
+        out,
+        burst,
+    );
+    if status == OK {
+        answering.tally = tally;
+    }
+    status
+}
+
 /// Takes the next burst that the terminal has to send: its octets fill an empty handle, the least significant bit of each first, and its
 /// details are told. Returns `G3_FULL_HANDLE` (102), `G3_NOTHING` (106) if nothing is left to be sent, which takes no memory, or `G3_NO_MEMORY`
 /// (9).
@@ -96,14 +118,12 @@ pub extern "C" fn g3_core_terminal_next_burst(
     out: &mut G3Handle,
     burst: &mut G3Burst,
 ) -> u32
-    ensures next { OnTimed
-        (λ old was new is. NextBurst StoppableCallerFields Caller caller_bursts old new out.old.value out.new.value burst.new result
-        × NotesBurst result was is)
-        (λ old was new is. NextBurst LimitedFields Answerer answerer_bursts old new out.old.value out.new.value burst.new result
-        × NotesBurst result was is)
-        terminal.old.value terminal.new.value result }
+    ensures next { OnStation (λ old new. CallerBurst old new out.old.value out.new.value burst.new result)
+        (λ old new. AnswererBurst old new out.old.value out.new.value burst.new result) terminal.old.value terminal.new.value result }
     ensures out { result ≢ 0 → out.new.value ≡ out.old.value }
     ensures untold { result ≢ 0 → burst.new ≡ burst.old }
 {
-    opened_timed!(alloc, terminal, terminal, timing => next_burst(alloc, terminal, timing, out, burst))
+    opened_station!(alloc, terminal,
+        calling => next_burst(alloc, &mut calling.terminal, &mut calling.timing, out, burst),
+        answering => answerer_burst(alloc, answering, out, burst))
 }

@@ -6,7 +6,7 @@ ghost use Rattle.g3fax.specs.Pages.{is_set};
 ghost use Rattle.page_code.specs.Codings.{code_of, read_rows};
 ghost use Rattle.page_code.specs.PageCodes.{AppendsCode};
 ghost use Rattle.raster.specs.Packed.{bits_of};
-ghost use Rattle.std.specs.Prelude.{⊤, [], ◌≡◌, ◌≢◌, ◌<◌, ◌⊎◌, IfErr, IfOk, length};
+ghost use Rattle.std.specs.Prelude.{⊤, [], ◌≡◌, ◌≢◌, ◌<◌, ◌⊎◌, ◌-◌, ◌^◌, IfErr, IfOk, length, min};
 
 use crate::handle::{G3Handle, Kept, opened};
 use crate::status::{BAD_CHOICE, BAD_WIDTH, FULL_HANDLE, NO_MEMORY, NO_ROWS};
@@ -39,7 +39,8 @@ pub(crate) fn order_of(number: u32) -> Option<Order>
 
 /// A number of bits in 64 bits, or the greatest such number.
 pub(crate) fn in_64_bits(bits: u128) -> u64
-    ensures { Tells bits result }
+    ensures tells { Tells bits result }
+    ensures most { result ≡ min bits (2 ^ 64 - 1) }
 {
     if bits > u64::MAX as u128 {
         u64::MAX

@@ -2,7 +2,7 @@
 
 ghost use Rattle.g3fax.specs.Answering.{AnsweringFields};
 ghost use Rattle.g3fax.specs.Handles.{OnStation, OnTerminal, OnTimed};
-ghost use Rattle.g3fax.specs.Hearing.{AnswererHears, CallerHears, EndsWait, HangsUp, HearsFrame, HearsOctets, LosesLine, SeesOctets};
+ghost use Rattle.g3fax.specs.Hearing.{AnswererHears, CallerHears, EndsWait, HangsUp, HearsFrame, HearsOctets, LosesLine, SeesOctets, is_reused};
 ghost use Rattle.g3fax.specs.Hearing.{StopsCall, TakesInput, answerer_steps, caller_steps};
 ghost use Rattle.g3fax.specs.Numbers.{wait_of};
 ghost use Rattle.g3fax.specs.Pages.{is_set};
@@ -22,7 +22,7 @@ use crate::status::{BAD_CHOICE, BAD_LENGTH, FRAME_LOST, NO_MEMORY, OK};
 use crate::timing::Timing;
 use stations::StoppableCaller;
 use std::alloc::Global;
-use terminals::{HearFault, Station, Stoppable, Terminal, Watched};
+use terminals::{HearFault, Station, Stoppable, Terminal, Watched, note};
 
 /// Hears octets of the line, and sees what they bring.
 fn hear_watching<S: Station>(
@@ -48,16 +48,40 @@ fn caller_hears(terminal: &mut Terminal<StoppableCaller>, octets: &[u8]) -> u32
     hear_watching(terminal, &mut nothing, octets)
 }
 
-/// An answerer hears octets of the line, and sees what its caller says.
+/// An answerer hears octets of the line, and sees what its caller says. Its call is stopped if a page comes under the number of the last one.
 fn answerer_hears(answering: &mut Answering, octets: &[u8]) -> u32
     ensures { AnswererHears answering.old octets.now answering.new result }
 {
-    hear_watching(&mut answering.terminal, &mut answering.watched, octets)
+    let mut watched = answering.watched;
+    note(
+        &mut watched,
+        answering.terminal.station().station().last_mark(),
+    );
+    let status = hear_watching(&mut answering.terminal, &mut watched, octets);
+    if status == NO_MEMORY {
+        return status;
+    }
+    answering.watched = watched;
+    if is_reused(watched) {
+        answering.terminal.stop();
+    }
+    status
+}
+
+/// Whether a page came under the number of the last one.
+fn is_reused(watched: Option<Watched>) -> bool
+    ensures { result ≡ is_reused watched }
+{
+    match watched {
+        None => false,
+        Some(watched) => watched.used.again,
+    }
 }
 
 /// Hears the next octets of the line, flags and frames, the least significant bit of each first, in pieces of any size. The station takes
-/// the signal of each good frame in them. Returns `G3_NO_MEMORY` (9) if nothing was taken, and `G3_FRAME_LOST` (108) if memory was refused
-/// and frames in the octets are lost, as on a bad line.
+/// the signal of each good frame in them. An answerer that hears a page under the number of the last one, which it can't tell from that one,
+/// stops its call in place of confirming it. Returns `G3_NO_MEMORY` (9) if nothing was taken, and `G3_FRAME_LOST` (108) if memory was
+/// refused and frames in the octets are lost, as on a bad line.
 #[unsafe(no_mangle)]
 pub extern "C" fn g3_core_terminal_hear(
     alloc: Global,

@@ -18,7 +18,7 @@ use terminals::{Refusal, Refused, Terminal, Watched};
 pub struct G3Progress {
     /// The number of pages in a caller's document, or stored by an answerer and not handed out.
     pub pages: u64,
-    /// How many pages of a caller are confirmed.
+    /// How many pages are confirmed: of a caller's document, or of those that an answerer has stored.
     pub confirmed: u64,
     /// Which block of its page a caller sends, from 1, from the CFR on; 0 if it sends none.
     pub block: u64,
@@ -40,7 +40,8 @@ pub struct G3Progress {
     pub accepted_block: u32,
     /// How often an answerer was sent a DCS that it doesn't allow, 0 to 2: 2 for twice or more.
     pub refused: u32,
-    /// Why the second one isn't allowed: 1 if it is without error correction, 2 if it wants what isn't offered; 0 if there was no second.
+    /// Why the call is refused: 1 if a second DCS was without error correction, 2 if it wanted what isn't offered, 3 if a page came under the
+    /// number of the last one; 0 if it isn't.
     pub refused_why: u32,
     /// 1 if the page numbers of an answerer's PPSs have jumped, otherwise 0.
     pub gap: u32,
@@ -48,16 +49,26 @@ pub struct G3Progress {
     pub gap_page: u32,
 }
 
-/// How often a DCS wasn't allowed, and why the second one wasn't.
-fn refused_told(refused: Refused) -> (u32, u32)
-    ensures times { result.0 ≡ refused_times refused }
-    ensures why { result.1 ≡ refused_why refused }
+/// How often a DCS wasn't allowed.
+fn refused_times(refused: Refused) -> u32
+    ensures { result ≡ refused_times refused }
 {
     match refused {
-        Refused::Never => (0, 0),
-        Refused::Once => (1, 0),
-        Refused::Twice(Refusal::NoErrorCorrection) => (2, 1),
-        Refused::Twice(Refusal::NotOffered) => (2, 2),
+        Refused::Never => 0,
+        Refused::Once => 1,
+        Refused::Twice(_) => 2,
+    }
+}
+
+/// Why a call is refused, by number; 0 if it isn't.
+fn refused_why(refusal: Option<Refusal>) -> u32
+    ensures { result ≡ refused_why refusal }
+{
+    match refusal {
+        None => 0,
+        Some(Refusal::NoErrorCorrection) => 1,
+        Some(Refusal::NotOffered) => 2,
+        Some(Refusal::UsedNumber) => 3,
     }
 }
 
@@ -68,14 +79,13 @@ fn with_watch(told: G3Progress, watched: Option<Watched>) -> G3Progress
     let Some(watched) = watched else {
         return told;
     };
-    let (refused, refused_why) = refused_told(watched.refused);
     let (gap, gap_page) = match watched.pages.gap {
         Some(page) => (1, page as u32),
         None => (0, 0),
     };
     G3Progress {
-        refused,
-        refused_why,
+        refused: refused_times(watched.refused),
+        refused_why: refused_why(watched.refusal()),
         gap,
         gap_page,
         ..told
@@ -109,9 +119,9 @@ fn calling_told(far: CallerProgress) -> G3Progress
     }
 }
 
-/// What is told of how far an answerer is, with this many pages.
-fn answering_told(far: AnswererProgress, pages: u64) -> G3Progress
-    ensures { result ≡ answering_told far pages }
+/// What is told of how far an answerer is, with this many pages and so many of all confirmed.
+fn answering_told(far: AnswererProgress, pages: u64, confirmed: u64) -> G3Progress
+    ensures { result ≡ answering_told far pages confirmed }
 {
     let (accepted, accepted_page, accepted_block) = match far.accepted {
         Some(mark) => (1, mark.page as u32, mark.block as u32),
@@ -119,7 +129,7 @@ fn answering_told(far: AnswererProgress, pages: u64) -> G3Progress
     };
     G3Progress {
         pages,
-        confirmed: 0,
+        confirmed,
         block: 0,
         blocks: 0,
         octets: far.octets,
@@ -149,8 +159,8 @@ fn tell_answering(answering: &Answering, progress: &mut G3Progress) -> u32
     ensures { TellsAnswering answering.now progress.new result }
 {
     let station = answering.terminal.station().station();
-    let pages = answering.waiting.len() as u128 + station.pages().len() as u128;
-    let told = answering_told(station.progress(), in_64_bits(pages));
+    let pages = in_64_bits(answering.count_left());
+    let told = answering_told(station.progress(), pages, answering.tally.confirmed);
     *progress = with_watch(told, answering.watched);
     OK
 }

@@ -156,7 +156,7 @@ pub(crate) fn modems_of_number(number: u32) -> Option<Modems>
 }
 
 /// The number of a code.
-fn coding_number(coding: Coding) -> u32
+pub(crate) fn coding_number(coding: Coding) -> u32
     ensures { result ≡ coding_number coding }
 {
     match coding {

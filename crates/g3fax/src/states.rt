@@ -1,7 +1,7 @@
 //! The states of terminals, for C.
 
 ghost use Rattle.g3fax.specs.Handles.{OfTerminal};
-ghost use Rattle.g3fax.specs.States.{TellsAnswerer, TellsCaller, TellsShown};
+ghost use Rattle.g3fax.specs.States.{TellsAnswerer, TellsCaller, TellsShown, known_end};
 ghost use Rattle.std.specs.Prelude.{◌≡◌, ◌≢◌};
 
 use crate::answering::Answering;
@@ -9,7 +9,7 @@ use crate::codes::in_64_bits;
 use crate::handle::{G3Handle, Kept};
 use crate::numbers::{end_number, listens_carrier, listens_number, wait_number};
 use crate::status::{EMPTY_HANDLE, OK, OTHER_HANDLE};
-use stations::StoppableCaller;
+use stations::{CallEnd, End, StoppableCaller};
 use std::alloc::Global;
 use terminals::{Shown, Terminal};
 
@@ -64,10 +64,25 @@ fn tell_answerer(answering: &Answering, state: &mut G3State) -> u32
     ensures { TellsAnswerer answering.now state.new result }
 {
     let terminal = &answering.terminal;
-    let stored = terminal.station().station().pages();
-    let pages = answering.waiting.len() as u128 + stored.len() as u128;
-    *state = told(terminal.shown(), in_64_bits(pages), terminal.good_frames());
+    let shown = terminal.shown();
+    let shown = Shown {
+        end: known_end(answering.is_confirmed(), shown.end),
+        ..shown
+    };
+    let pages = in_64_bits(answering.count_left());
+    *state = told(shown, pages, terminal.good_frames());
     OK
+}
+
+/// Why the call of an answerer ended, by whether each page that it has stored is confirmed: if not, a caller that left after its last page
+/// doesn't know that this arrived, and left before it was confirmed.
+fn known_end(confirmed: bool, end: Option<CallEnd>) -> Option<CallEnd>
+    ensures { result ≡ known_end confirmed end }
+{
+    match end {
+        Some(CallEnd::By(End::Normal)) if !confirmed => Some(CallEnd::By(End::PeerLeft)),
+        _ => end,
+    }
 }
 
 /// Tells the state of a terminal: what it listens for, its waits, its pages and good frames so far, and why its call ended.

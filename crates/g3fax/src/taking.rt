@@ -28,6 +28,7 @@ fn hand_out(answering: &mut Answering) -> Page
     if answering.waiting.is_empty() {
         answering.waiting = answering.terminal.take_pages();
     }
+    answering.tally = answering.tally.with_handed();
     answering.waiting.remove(0)
 }
 

@@ -25,7 +25,7 @@ returns-in-Ok-End c = record {
     Ok (End c.in-Ok-End.used),
     subst (λ (found : NextRow). ReadsNext {E = AllocError} c.args.reader.now c.next_row.new.self (Ok found)) c.in-Ok-End.field-0-is
         c.in-Ok-End.ensures,
-    (refl, refl, c.in_64_bits.ensures),
+    (refl, refl, c.in_64_bits.ensures.tells),
   );
 }
 
@@ -36,7 +36,7 @@ returns-in-Ok-Refused c = record {
     Ok (Refused c.in-Ok-Refused.fault),
     subst (λ (found : NextRow). ReadsNext {E = AllocError} c.args.reader.now c.next_row.new.self (Ok found)) c.in-Ok-Refused.field-0-is
         c.in-Ok-Refused.ensures,
-    (c.number.ensures, refl, c.in_64_bits-in-Ok-Refused.ensures),
+    (c.number.ensures, refl, c.in_64_bits-in-Ok-Refused.ensures.tells),
   );
 }
 
