@@ -1,6 +1,6 @@
 -- What is noted of a station's call while it runs, whether the call is whole, and what is told of it as JSON for programs.
 use Rattle.std.specs.Prelude.{◌≡◌, ◌≢◌, ◌⊎◌, ◌&&◌, ◌++◌, ◌-◌, ℕ, Bool, true, false, List, [], ◌∷◌, Option, Some, None, Result, Ok, Err}
-use Rattle.std.specs.Prelude.{codes, cond, drop, length, nat_eq, take}
+use Rattle.std.specs.Prelude.{codes, cond, drop, length, nat_eq, not, take, if◌then◌else◌}
 use Rattle.std.specs.Fmt.{decimal}
 use Rattle.captures.specs.Missing.{lines_word}
 use Rattle.captures.specs.Names.{code_name}
@@ -9,7 +9,7 @@ use Rattle.captures.specs.Texts.{content_text}
 use Rattle.conversations.specs.Lines.{channel_name}
 use Rattle.conversations.specs.declared.carrier.Channel.TheVariants.{Message}
 use Rattle.terminals.specs.declared.watching.Refusal.{Refusal}
-use Rattle.terminals.specs.declared.watching.Refusal.TheVariants.{NoErrorCorrection as RefusedPlain, NotOffered}
+use Rattle.terminals.specs.declared.watching.Refusal.TheVariants.{NoErrorCorrection as RefusedPlain, NotOffered, UsedNumber}
 use Rattle.faults.specs.RecordLines.{count, words}
 use Rattle.faults.specs.Explanations.{reason_words as system_words}
 use Rattle.std.specs.declared.io.ErrorKind.{ErrorKind}
@@ -41,10 +41,17 @@ use Rattle.stations.specs.declared.turn.End.TheVariants.{NoAnswer, Normal, NotCo
 
 -- ---- what is noted
 
--- what is noted once a content was heard: of a PPS what it says, of a DIS what it offers
+-- the block of a PPS has this mark
+abbrev pub is_of_mark : Option Pps → Mark → Bool
+is_of_mark None mark = false
+is_of_mark (Some heard) mark = same_mark heard.mark mark
+
+-- What is noted once a content was heard: of a PPS what it says, of a DIS what it offers. A block that was confirmed has the end that its PPS
+-- said then: a PPS that repeats it may say another one.
 abbrev pub noted_heard : Noted → Result PlainSignal SignalFault → Noted
-noted_heard old (Ok (pps ends page block last)) =
-    record old { pps = Some (record { ends = ends; mark = record { page = page; block = block }; last = last }) }
+noted_heard old (Ok (pps ends page block last)) = let mark : Mark = record { page = page; block = block } in
+    if old.confirms && is_of_mark old.pps mark then old
+    else record old { pps = Some (record { ends = ends; mark = mark; last = last }) }
 noted_heard old (Ok (dis caps)) = record old { caps = Some caps }
 noted_heard old (Ok signal) = old
 noted_heard old (Err fault) = old
@@ -103,9 +110,10 @@ ends_document None accepted = false
 ends_document (Some last) None = false
 ends_document (Some last) (Some accepted) = ends_all last.ends && same_mark last.mark accepted
 
--- The call of an answerer whose last accepted block has this mark is whole: that block ended the document, and was answered by MCF.
-abbrev pub is_whole : Noted → Option Mark → Bool
-is_whole noted accepted = noted.confirms && ends_document noted.pps accepted
+-- The call of an answerer whose last accepted block has this mark is whole: that block ended the document, and was answered by MCF, and
+-- there was no gap in the numbers of pages (Bool).
+abbrev pub is_whole : Noted → Option Mark → Bool → Bool
+is_whole noted accepted gap = (noted.confirms && ends_document noted.pps accepted) && not gap
 
 -- The end of a call of which all was confirmed lacks its last DCN at most: the caller left, wasn't heard any more, or the line dropped.
 abbrev pub has_left : Option CallEnd → Bool
@@ -118,10 +126,11 @@ has_left (Some (By end)) = false
 
 -- ---- why
 
--- why a DCS isn't allowed, in words
+-- why a call is refused, in words
 abbrev pub refusal_words : Refusal → List ℕ
 refusal_words RefusedPlain = codes "the caller sends without error correction"
 refusal_words NotOffered = codes "the caller sends at a speed or pages that the answerer doesn't offer"
+refusal_words UsedNumber = codes "a page came under the number of the last one"
 
 -- what an answerer lacks, in words
 abbrev pub reason_words : Reason → List ℕ
@@ -149,7 +158,7 @@ stopped_words Octets = codes "a further page is dropped, and the call stopped: -
 stopped_words Seconds = codes "the call is stopped: --most-seconds"
 stopped_words LostPage = codes "the call is stopped: a page that was handed over is lost"
 
--- why a DCS wasn't allowed, of a call that was stopped, or else why the program stopped it
+-- why a call that was stopped is refused, or else why the program stopped it
 abbrev pub stopped_why : Option Refusal → Option StoppedBy → Option (List ℕ)
 stopped_why (Some why) by = Some (refusal_words why)
 stopped_why None None = None
@@ -160,11 +169,17 @@ abbrev pub missing_why : Option Reason → Option (List ℕ)
 missing_why None = None
 missing_why (Some reason) = Some (reason_words reason)
 
--- why a call ended so, in words, where more is known than its end
-abbrev pub end_why : Option CallEnd → Option Refusal → Option StoppedBy → Option Reason → Option (List ℕ)
-end_why (Some Stopped) refused by missing = stopped_why refused by
-end_why (Some (By NotCompatible)) refused by missing = missing_why missing
-end_why end refused by missing = None
+-- why the caller of an answerer left after its last page, if that wasn't confirmed (true)
+abbrev pub left_why : Bool → Option (List ℕ)
+left_why true = Some (codes "the caller left before its last page was confirmed")
+left_why false = None
+
+-- Why a call ended so, in words, where more is known than its end. The last page of an answerer may be unconfirmed (Bool).
+abbrev pub end_why : Option CallEnd → Bool → Option Refusal → Option StoppedBy → Option Reason → Option (List ℕ)
+end_why (Some Stopped) unconfirmed refused by missing = stopped_why refused by
+end_why (Some (By NotCompatible)) unconfirmed refused by missing = missing_why missing
+end_why (Some (By Normal)) unconfirmed refused by missing = left_why unconfirmed
+end_why end unconfirmed refused by missing = None
 
 -- why, or why a page's file couldn't be written
 abbrev pub why_words : Option ErrorKind → Option (List ℕ) → Option (List ℕ)
@@ -241,6 +256,11 @@ heard_name content text = text
 -- the same in words, as a line
 abbrev pub heard_words : ℕ → List ℕ → List ℕ → List ℕ
 heard_words at content text = decimal at ++ (codes " heard " ++ (heard_name content text ++ 10 ∷ []))
+
+-- That so many lines are lost at a time since memory was refused, as a record (true) or in words. The record is `{"at":T,"lost":N}`.
+abbrev pub lost_line : Bool → ℕ → ℕ → List ℕ
+lost_line true at lines = codes "{\"at\":" ++ (decimal at ++ (codes ",\"lost\":" ++ (decimal lines ++ codes "}\n")))
+lost_line false at lines = decimal at ++ (codes " memory was refused, lines lost: " ++ (decimal lines ++ 10 ∷ []))
 
 -- The record of how a call stands at its end, also after a fault: the pages that a caller counts as confirmed, or that an answerer has
 -- stored, whether the call is whole, and why it ended so, if that is known.

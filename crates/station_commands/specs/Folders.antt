@@ -127,17 +127,18 @@ CountsHeld (Some held) old new = new ≡ record old {
   octets = min (old.octets + held.octets) (2 ^ 64 - 1);
 }
 
--- a folder stores a page
+-- a folder stores a page, and nothing else of it changes
 abbrev pub FolderStores : Folder → PagePixels → Folder → Type 0
-FolderStores old page new = StoresPage old.limits old.tally page new.tally × (new.limits ≡ old.limits)
+FolderStores old page new = StoresPage old.limits old.tally page new.tally × (new ≡ record old { tally = new.tally })
 
 -- a folder hands a page over, and says its name
 abbrev pub FolderHands : Folder → PagePixels → Folder → Type 0
-FolderHands old page new = HandsPage old.limits old.tally page new.tally new.held (string_bytes new.told) × (new.limits ≡ old.limits)
+FolderHands old page new = HandsPage old.limits old.tally page new.tally new.held (string_bytes new.told)
+    × (new ≡ record old { tally = new.tally; held = new.held; told = new.told })
 
 -- a page that a folder holds counts as stored
 abbrev pub FolderCounts : Folder → Folder → Type 0
-FolderCounts old new = CountsHeld old.held old.tally new.tally × (new.held ≡ None) × (new.limits ≡ old.limits)
+FolderCounts old new = CountsHeld old.held old.tally new.tally × (new ≡ record old { tally = new.tally; held = None })
 
 -- a folder refuses a page: nothing counts, and if that is by a limit, the call is stopped for it
 pub record FolderRefuses (old : Folder) (page : PagePixels) (new : Folder) : Type 0 where
@@ -146,6 +147,7 @@ pub record FolderRefuses (old : Folder) (page : PagePixels) (new : Folder) : Typ
   pub tally : new.tally ≡ old.tally
   pub limits : new.limits ≡ old.limits
   pub stopped : new.stopped ≡ stopped_for why old.stopped
+  pub rest : new ≡ record old { stopped = new.stopped; failed = new.failed }
 
 -- what is known of the pages in a folder: there are as many as it counts, or more
 abbrev pub stock_of : Folder → Stock

@@ -1,6 +1,7 @@
 -- The definitions of `dial` and `answer`.
 pub mod CallNotes
 pub mod Files
+pub mod FolderBooks
 pub mod Folders
 pub mod Lateness
 pub mod NoLines

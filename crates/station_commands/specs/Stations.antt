@@ -1,5 +1,6 @@
 -- What can come of `dial` and `answer`: the words of an end, how far a line led, and which pages are sent.
-use Rattle.std.specs.Prelude.{◌≡◌, ◌⊎◌, ◌<◌, ◌&&◌, ◌-◌, ℕ, Bool, List, Option, Some, None, Result, Ok, Err, false, true, codes, drop, length, max}
+use Rattle.std.specs.Prelude.{◌≡◌, ◌⊎◌, ◌<◌, ◌&&◌, ◌-◌, ℕ, Bool, List, Option, Some, None, Result, Ok, Err, false, true, codes, cond, drop, length}
+use Rattle.std.specs.Prelude.{max}
 use Rattle.calls.specs.Transcripts.{end_text}
 use Rattle.command_files.specs.Runs.{completeness_of}
 use Rattle.command_files.specs.declared.command.Completeness.{Completeness}
@@ -18,21 +19,33 @@ use Rattle.station_commands.specs.declared.station.given.GivenWaits.{GivenWaits}
 use Rattle.stations.specs.CallerFields.{AreCallable}
 use Rattle.stations.specs.declared.stopping.CallEnd.{CallEnd}
 use Rattle.stations.specs.declared.stopping.CallEnd.TheVariants.{By, LineLost, Stopped}
+use Rattle.stations.specs.declared.turn.End.{End}
+use Rattle.stations.specs.declared.turn.End.TheVariants.{Normal, PeerLeft}
 use Rattle.stations.specs.declared.waiting.Wait.{Wait}
 use Rattle.stations.specs.declared.waiting.Wait.TheVariants.{T1, T2, T4, T5}
 use Rattle.terminals.specs.declared.watching.Refusal.{Refusal}
 
--- the word of why a call was stopped: a second DCS wasn't allowed, for a reason, or something else stopped it
+-- the word of why a call was stopped: it was refused, for a reason, or something else stopped it
 abbrev pub stopped_word : Option Refusal → List ℕ
 stopped_word None = codes "stopped"
 stopped_word (Some why) = codes "refused"
 
+-- a call ended as it should by a station's table
+abbrev pub ends_normal : End → Bool
+ends_normal Normal = true
+ends_normal end = false
+
+-- the word of how a call ended by a station's table: of an answerer whose last page is unconfirmed (true) the caller has left it, and didn't
+-- end the call
+abbrev pub table_word : End → Bool → List ℕ
+table_word end unconfirmed = cond (ends_normal end && unconfirmed) (end_text (Some PeerLeft)) (end_text (Some end))
+
 -- the word of why the call of a station ended, or that it goes on
-abbrev pub end_word : Option CallEnd → Option Refusal → List ℕ
-end_word (Some (By end)) refused = end_text (Some end)
-end_word (Some Stopped) refused = stopped_word refused
-end_word (Some LineLost) refused = codes "line-lost"
-end_word None refused = end_text None
+abbrev pub end_word : Option CallEnd → Bool → Option Refusal → List ℕ
+end_word (Some (By end)) unconfirmed refused = table_word end unconfirmed
+end_word (Some Stopped) unconfirmed refused = stopped_word refused
+end_word (Some LineLost) unconfirmed refused = codes "line-lost"
+end_word None unconfirmed refused = end_text None
 
 -- how long a wait is to run, if that is given
 abbrev pub given_wait : GivenWaits → Wait → Option ℕ

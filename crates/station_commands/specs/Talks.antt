@@ -3,7 +3,7 @@
 -- No clause says what standard input holds. So the lines that were read are some lines of which the definition holds, and what was written
 -- isn't said.
 use Rattle.std.specs.Prelude.{ℕ, zero, suc, ◌≡◌, ◌⊎◌, ◌-◌, ◌^◌, [], Bool, true, false, List, Option, Some, None, Result, Ok, Err, length}
-use Rattle.std.specs.Prelude.{nat_eq, option_map, string_bytes, unwrap_or}
+use Rattle.std.specs.Prelude.{nat_eq, not, option_map, string_bytes, unwrap_or}
 use Rattle.calls.specs.declared.options.CallOptions.{CallOptions}
 use Rattle.station_commands.specs.CallNotes.{is_whole}
 use Rattle.station_commands.specs.Folders.{KeepsLine, end_of, held_name, limits_of}
@@ -22,7 +22,7 @@ use Rattle.conversations.specs.Conversations.{ConversationFields}
 use Rattle.conversations.specs.Conversing.{Converses, StopsSo, Talker, talk_state, talker}
 use Rattle.conversations.specs.Holding.{can_come}
 use Rattle.conversations.specs.Led.{caller_behaviour}
-use Rattle.conversations.specs.Refusing.{IsNewWatch, WatchFields, refusal_in}
+use Rattle.conversations.specs.Refusing.{new_watch, no_watch, refusal_in}
 use Rattle.conversations.specs.Talking.{keeping}
 use Rattle.conversations.specs.declared.conversing.ConverseFault.{ConverseFault}
 use Rattle.conversations.specs.declared.conversing.ConverseFault.TheVariants.{NoMemory}
@@ -120,9 +120,7 @@ pub record NewAnswering (command : AnswerCommand) (c : ConversationFields Limite
     cut = None;
   }
   pub turn : c.terminal.speaking.turn ≡ Dis
-  pub watch : WatchFields
-  pub watches : c.watch ≡ Some watch
-  pub is_new : IsNewWatch (receiving command.caps) command.refuses watch
+  pub watch : c.watch ≡ new_watch (receiving command.caps) command.refuses
 
 -- the folder of an answerer as its command asks for it, into which nothing was stored
 pub record IsNewFolder (command : AnswerCommand) (folder : Folder) : Type 0 where
@@ -143,7 +141,7 @@ abbrev pub last_mark : ConversationFields LimitedFields → Option Mark
 last_mark c = option_map (λ (accepted : Accepted). accepted.mark) c.terminal.speaking.station.station.accepted
 
 -- What comes of an answerer's command: a new conversation and its new folder are led by lines, and this is how the call stands then. It is
--- whole by what was noted of it.
+-- whole, and its last page unconfirmed, by what was noted of it.
 pub record AnswerTalks (command : AnswerCommand) (talked : Talked) : Type 0 where
   pub first : ConversationFields LimitedFields
   pub begins : NewAnswering command first
@@ -160,7 +158,8 @@ pub record AnswerTalks (command : AnswerCommand) (talked : Talked) : Type 0 wher
   pub failed : talked.failed ≡ kept.failed
   pub pages : talked.pages ≡ kept.tally.pages
   pub noted : Noted
-  pub whole : talked.whole ≡ is_whole noted (last_mark last)
+  pub whole : talked.whole ≡ is_whole noted (last_mark last) kept.has_gap
+  pub unconfirmed : talked.unconfirmed ≡ not noted.confirms
 
 -- a file or memory failed; or the lines were taken, and all was done if the call is whole and lacks its last DCN at most
 abbrev pub AnswerGives : AnswerCommand → Result Completeness ToolFault → Type 0
@@ -180,7 +179,7 @@ pub record NewDialling (command : DialCommand) (document : List PagePixels) (c :
   pub caller : NewCaller document (wish_of command.options) (Ok c.terminal.speaking.station.station)
   pub uncut : c.terminal.speaking.station.cut ≡ None
   pub turn : c.terminal.speaking.turn ≡ Silent
-  pub watch : c.watch ≡ None
+  pub watch : c.watch ≡ no_watch
 
 -- after a line a caller keeps nothing: it tells which pages are confirmed
 abbrev pub TellsConfirmed :
@@ -210,6 +209,7 @@ pub record DialTalks (command : DialCommand) (talked : Talked) : Type 0 where
   pub halted : talked.halted ≡ halt_of ended
   pub end : (t : Caller) → Represents last.terminal.speaking.station.station t
       → talked.end ≡ call_end t.ending last.terminal.speaking.station.cut
+  pub answers : talked.unconfirmed ≡ false
   pub pages : (t : Caller) → Represents last.terminal.speaking.station.station t
       → (talked.pages ≡ confirmed t) × (talked.whole ≡ nat_eq (confirmed t) (length t.document))
 

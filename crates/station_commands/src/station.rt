@@ -10,7 +10,7 @@ pub(crate) mod records;
 pub(crate) mod trace;
 
 ghost use Rattle.faults.specs.Faults.{IsOutside};
-ghost use Rattle.station_commands.specs.Stations.{IsHalt, IsNoDocument, SendsFrom, end_word, given_wait, page_limit, stopped_word};
+ghost use Rattle.station_commands.specs.Stations.{IsHalt, IsNoDocument, SendsFrom, end_word, ends_normal, given_wait, page_limit, stopped_word, table_word};
 ghost use Rattle.station_commands.specs.Talks.{AnswerTalks, DialTalks, NewAnswering, NewDialling, Talks, halt_of, says_of, wish_of};
 ghost use Rattle.station_commands.specs.declared.station.Halted.{Halted as HaltedValue};
 ghost use Rattle.conversations.specs.Conversations.{behaviour};
@@ -36,19 +36,24 @@ use crate::station::trace::Trace;
 use calls::{CallOptions, end_word};
 use command_files::command::{Completeness, NO_NAMES, Names, Runs};
 use command_files::context::{Cause, Context, Part, first_not_callable};
+use command_files::error_line::ErrorLine;
+use command_files::files::STANDARD;
 use command_files::files::apart::CommandFiles;
 use command_files::files::input::read_document;
+use command_files::files::leftovers::remove_leftovers;
 use command_files::files::output::Rights;
 use command_files::files::printed::{self, Printed};
 use command_files::files::progress::Watch;
-use command_files::files::{STANDARD, output};
+use command_files::files::trial::check_stores;
+use command_files::notices::notice;
+use command_files::streams::Streams;
 use conversations::{Conversation, ConverseFault, Ending, Keeper, Refusal, Said, Says, converse};
 use faults::{FAILED, NO_MEMORY, ToolFault};
 use page_files::PageForm;
 use raster::laws::pbm_round_trip;
 use raster::{Document, Page, RasterFault, read_pbm, write_pbm};
 use signals::{Caps, Reason, Wish};
-use stations::{CallEnd, Caller, CallerFault, LimitedAnswerer, Limits, StoppableCaller, Turn};
+use stations::{CallEnd, Caller, CallerFault, End, LimitedAnswerer, Limits, StoppableCaller, Turn};
 use std::alloc::{AllocError, Global};
 use std::io;
 use std::io::{BufRead, BufReader, BufWriter, ErrorKind, Write};
@@ -91,7 +96,7 @@ impl From<AllocError> for Halted {
 pub(crate) struct Talked {
     /// Why its call ended, if it has.
     pub(crate) end: Option<CallEnd>,
-    /// Why a second DCS wasn't allowed, if there was one.
+    /// Why the call is refused, if it is.
     pub(crate) refused: Option<Refusal>,
     /// Why the answerer's program stopped it, if it did.
     pub(crate) stopped: Option<StoppedBy>,
@@ -103,16 +108,42 @@ pub(crate) struct Talked {
     pub(crate) pages: u64,
     /// Whether all pages are confirmed.
     pub(crate) whole: bool,
+    /// Whether the last block that an answerer was asked about isn't confirmed.
+    pub(crate) unconfirmed: bool,
     /// Why its lines went no further, if that is so.
     pub(crate) halted: Option<Halted>,
 }
 
-/// The word of why a call ended, or that it goes on; a call that was stopped may be refused for a reason.
-pub(crate) fn word_of(end: Option<CallEnd>, refused: Option<Refusal>) -> &'static str
-    ensures { result.now ≡ end_word end refused }
+/// Whether a call ended as it should by a station's table.
+fn ends_normal(end: End) -> bool
+    ensures { result ≡ ends_normal end }
 {
     match end {
-        Some(CallEnd::By(end)) => end_word(Some(end)),
+        End::Normal => true,
+        _ => false,
+    }
+}
+
+/// The word of how a call ended by a station's table. A caller left that ended the call before its last page was confirmed.
+fn table_word(end: End, unconfirmed: bool) -> &'static str
+    ensures { result.now ≡ table_word end unconfirmed }
+{
+    if ends_normal(end) && unconfirmed {
+        return end_word(Some(End::PeerLeft));
+    }
+    end_word(Some(end))
+}
+
+/// The word of why a call ended, or that it goes on; a call that was stopped may be refused for a reason.
+pub(crate) fn word_of(
+    end: Option<CallEnd>,
+    unconfirmed: bool,
+    refused: Option<Refusal>,
+) -> &'static str
+    ensures { result.now ≡ end_word end unconfirmed refused }
+{
+    match end {
+        Some(CallEnd::By(end)) => table_word(end, unconfirmed),
         Some(CallEnd::Stopped) => stopped_word(refused),
         Some(CallEnd::LineLost) => "line-lost",
         None => end_word(None),
@@ -155,8 +186,8 @@ fn says(given: GivenWaits) -> Says
 
 /// A caller keeps no pages: it tells which are confirmed.
 #[derive(Drop)]
-struct Confirmed<'a> {
-    rt: &'a HostRuntime,
+pub(crate) struct Confirmed<'a> {
+    streams: &'a Streams<'a>,
     records: bool,
     told: u64,
 }
@@ -204,12 +235,13 @@ impl Confirmed<'_> {
 
     /// Tells that the page of this number is confirmed.
     fn tell_page(&self, at: u64, number: u64) {
-        let mut told = self.rt.stderr();
-        let _told = if self.records {
-            write_confirmed(self.rt.alloc(), at, number, &mut told)
+        let mut line = ErrorLine::new(self.streams);
+        let made = if self.records {
+            write_confirmed(self.streams.rt().alloc(), at, number, &mut line)
         } else {
-            write_confirmed_words(at, number, &mut told)
+            write_confirmed_words(at, number, &mut line)
         };
+        line.end(made);
     }
 }
 
@@ -269,7 +301,7 @@ fn talk<S: Stoppable, K: Keeper<S, Refused = ToolFault>>(
             Ok(Ending::Over) => return Ok(()),
             Ok(Ending::Lost) => return Ok(()),
             Ok(Ending::Unkept(fault)) => return Err(Halted::Fault(outside(fault))),
-            Err(ConverseFault::NoMemory) => {}
+            Err(ConverseFault::NoMemory) => notes.lose_line(conversation.clock().now),
             Err(fault) => return Err(halted_by(context, fault, &reader)),
         }
         if !reader.skip_line()? {
@@ -297,6 +329,7 @@ fn talk_out<S: Stoppable, K: Keeper<S, Refused = ToolFault>>(
 {
     let mut writer = printed::print(context)?;
     let talked = talk(context, conversation, keeper, &mut writer, notes);
+    notes.end(conversation.clock().now);
     if let Some(kind) = writer.get_ref().failed() {
         context.blame(Part::Printed, kind);
     }
@@ -366,13 +399,29 @@ impl Runs for AnswerCommand {
 
     fn run(&self, context: &mut Context<'_>) -> Result<Completeness, ToolFault> {
         // before a line is read
-        output::check_makes(context, self.out.as_str(), self.rights, Part::Output)?;
+        self.make_ready(context)?;
         let talked = self.talk(context)?;
         end_station(context, &talked, false)
     }
 }
 
 impl AnswerCommand {
+    /// Removes what ended programs have left in its folder, says so, and checks that pages can be stored there. Errors: `Io` (8) if they can't,
+    /// and that is noted; `NoMemory` (9).
+    fn make_ready(&self, context: &mut Context<'_>) -> Result<(), ToolFault>
+        ensures { IfErr result IsOutside }
+    {
+        let folder = self.out.as_str();
+        let left = remove_leftovers(context.rt(), folder);
+        if left > 0 {
+            let words = format!(in context.alloc();
+                "part files of ended programs were removed: {left}"
+            )?;
+            let _told = notice(context, words.as_str());
+        }
+        check_stores(context, folder, self.rights, Part::Output)
+    }
+
     /// Its conversation, which hasn't begun, and whether it is stopped at the second DCS that isn't allowed.
     fn conversation(&self, alloc: Global) -> Conversation<LimitedAnswerer>
         ensures { NewAnswering self.now result }
@@ -391,7 +440,7 @@ impl AnswerCommand {
         let conversation = Conversation::new_answerer(terminal, durations(self.waits));
         conversation
             .saying(says(self.waits))
-            .watching(alloc, caps, self.refuses)
+            .watching(caps, self.refuses)
     }
 
     /// Takes the lines. Errors: `Io` (8) if a file can't be opened, and that is noted; `NoMemory` (9).
@@ -403,16 +452,17 @@ impl AnswerCommand {
         let mut conversation = self.conversation(context.alloc());
         let limits = CallLimits::of(self.limits);
         let (name, records) = (self.out.as_str(), context.is_json());
-        let folder = Folder::new(context.rt(), name, self.rights, records, limits);
+        let folder = Folder::new(context.streams(), name, self.rights, records, limits);
         let mut folder = folder.holding(self.holds);
-        let trace = Trace::open(context, self.trace.as_deref(), self.frames)?;
+        let trace = Trace::open(context, self.trace.as_deref(), self.rights, self.frames)?;
         let lateness = Lateness::new(context.rt(), self.waits.late);
-        let mut notes = Notes::new(context.rt(), records, trace, lateness);
+        let mut notes = Notes::new(context.streams(), records, trace, lateness);
         let halted = talk_out(context, &mut conversation, &mut folder, &mut notes)?;
         if let Some(kind) = folder.failed() {
             context.blame(Part::Output, kind);
         }
         let progress = conversation.terminal().station().station().progress();
+        let noted = notes.noted();
         Ok(Talked {
             end: conversation.end(),
             refused: conversation.refusal(),
@@ -420,7 +470,8 @@ impl AnswerCommand {
             failed: folder.failed(),
             missing: None,
             pages: folder.stored(),
-            whole: notes.noted().is_whole(progress.accepted),
+            whole: noted.is_whole(progress.accepted, folder.has_gap()),
+            unconfirmed: noted.is_unconfirmed(),
             halted,
         })
     }
@@ -597,11 +648,16 @@ impl DialCommand {
         ensures fault { IfErr result IsOutside }
     {
         let mut conversation = self.conversation(context.alloc(), caller);
-        let (rt, records) = (context.rt(), context.is_json());
-        let trace = Trace::open(context, self.trace.as_deref(), self.frames)?;
-        let mut notes = Notes::new(rt, records, trace, Lateness::new(rt, self.waits.late));
+        let (streams, records) = (context.streams(), context.is_json());
+        let trace = Trace::open(context, self.trace.as_deref(), Rights::Umask, self.frames)?;
+        let mut notes = Notes::new(
+            streams,
+            records,
+            trace,
+            Lateness::new(streams.rt(), self.waits.late),
+        );
         let mut confirmed = Confirmed {
-            rt,
+            streams,
             records,
             told: 0,
         };
@@ -615,6 +671,7 @@ impl DialCommand {
             missing: notes.noted().missing(self.wish(), self.options.fine),
             pages: progress.confirmed,
             whole: progress.confirmed == progress.pages,
+            unconfirmed: false,
             halted,
         })
     }

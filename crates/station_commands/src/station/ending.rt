@@ -1,7 +1,7 @@
 //! How the call of a station ended, and how that is shown.
 
 ghost use Rattle.faults.specs.Faults.{IsOutside};
-ghost use Rattle.station_commands.specs.CallNotes.{end_why, has_left, missing_why, reason_words, refusal_words, stopped_why, why_words};
+ghost use Rattle.station_commands.specs.CallNotes.{end_why, has_left, left_why, missing_why, reason_words, refusal_words, stopped_why, why_words};
 ghost use Rattle.station_commands.specs.Stations.{IsHalt, ended_of};
 ghost use Rattle.std.specs.Prelude.{◌≡◌, IfErr, IfSome, option_map};
 
@@ -12,10 +12,13 @@ use crate::station::{self, Halted, Talked};
 use captures::write_ended;
 use command_files::command::Completeness;
 use command_files::context::Context;
+use command_files::error_line::ErrorLine;
+use command_files::streams::Streams;
 use conversations::Refusal;
 use faults::{ToolFault, write_line_fault};
 use signals::Reason;
 use stations::{CallEnd, End};
+use std::io::Write;
 
 /// Shows what came of the lines of a station: how its call ended, or why the lines went no further. It is complete if the call is whole and
 /// lacks its last DCN at most. Errors: the fault of a file, or of memory.
@@ -51,7 +54,7 @@ fn has_left(end: Option<CallEnd>) -> bool
     }
 }
 
-/// Why a DCS isn't allowed, in words.
+/// Why a call is refused, in words.
 fn refusal_words(refused: Refusal) -> &'static str
     ensures { result.now ≡ refusal_words refused }
 {
@@ -59,6 +62,7 @@ fn refusal_words(refused: Refusal) -> &'static str
         Refusal::NoErrorCorrection => "the caller sends without error correction",
         Refusal::NotOffered =>
             "the caller sends at a speed or pages that the answerer doesn't offer",
+        Refusal::UsedNumber => "a page came under the number of the last one",
     }
 }
 
@@ -75,7 +79,7 @@ fn reason_words(reason: Reason) -> &'static str
     }
 }
 
-/// Why a DCS wasn't allowed, of a call that was stopped, or else why the program stopped it.
+/// Why a call that was stopped is refused, or else why the program stopped it.
 fn stopped_why(refused: Option<Refusal>, by: Option<StoppedBy>) -> Option<&'static str>
     ensures { option_map (λ why. why.now) result ≡ stopped_why refused by }
 {
@@ -96,10 +100,21 @@ fn missing_why(missing: Option<Reason>) -> Option<&'static str>
     }
 }
 
+/// Why the caller of an answerer left after its last page, if that wasn't confirmed.
+fn left_why(unconfirmed: bool) -> Option<&'static str>
+    ensures { option_map (λ why. why.now) result ≡ left_why unconfirmed }
+{
+    if unconfirmed {
+        return Some("the caller left before its last page was confirmed");
+    }
+    None
+}
+
 /// Why the call ended so, in words, or why a page's file couldn't be written.
 fn why_words(talked: &Talked) -> Option<&'static str>
     ensures { option_map (λ why. why.now) result
-        ≡ why_words talked.now.failed (end_why talked.now.end talked.now.refused talked.now.stopped talked.now.missing) }
+        ≡ why_words talked.now.failed (end_why talked.now.end talked.now.unconfirmed talked.now.refused talked.now.stopped
+        talked.now.missing) }
 {
     match talked.failed {
         Some(kind) => Some(faults::reason_words(Some(kind))),
@@ -110,11 +125,12 @@ fn why_words(talked: &Talked) -> Option<&'static str>
 /// Why the call ended so, in words, where more is known than its end.
 fn end_why(talked: &Talked) -> Option<&'static str>
     ensures { option_map (λ why. why.now) result
-        ≡ end_why talked.now.end talked.now.refused talked.now.stopped talked.now.missing }
+        ≡ end_why talked.now.end talked.now.unconfirmed talked.now.refused talked.now.stopped talked.now.missing }
 {
     match talked.end {
         Some(CallEnd::Stopped) => stopped_why(talked.refused, talked.stopped),
         Some(CallEnd::By(End::NotCompatible)) => missing_why(talked.missing),
+        Some(CallEnd::By(End::Normal)) => left_why(talked.unconfirmed),
         _ => None,
     }
 }
@@ -130,49 +146,73 @@ fn record_state(context: &Context<'_>, talked: &Talked, calls: bool) {
         whole: talked.whole,
         why: why_words(talked),
     };
-    let _told = write_state(context.alloc(), &state, &mut context.rt().stderr());
+    let mut line = ErrorLine::new(context.streams());
+    let made = write_state(context.alloc(), &state, &mut line);
+    line.end(made);
 }
 
 /// Shows why a call is refused, or what the answerer lacks, if that is so.
-fn show_why(rt: &HostRuntime, talked: &Talked) {
+fn show_why(streams: &Streams<'_>, talked: &Talked) {
     if let (Some(CallEnd::Stopped), Some(refused)) = (talked.end, talked.refused) {
-        let _told = eprintln!(rt; "the call is refused: {}", refusal_words(refused));
+        let mut line = ErrorLine::new(&*streams);
+        let made = writeln!(line, "the call is refused: {}", refusal_words(refused));
+        line.end(made);
+    }
+    if let (Some(CallEnd::By(End::Normal)), Some(why)) = (
+        talked.end,
+        left_why(talked.unconfirmed),
+    ) {
+        let mut line = ErrorLine::new(&*streams);
+        let made = writeln!(line, "{why}");
+        line.end(made);
     }
     if let (Some(CallEnd::By(End::NotCompatible)), Some(missing)) = (talked.end, talked.missing) {
-        let _told = eprintln!(rt; "not compatible: {}", reason_words(missing));
+        let mut line = ErrorLine::new(&*streams);
+        let made = writeln!(line, "not compatible: {}", reason_words(missing));
+        line.end(made);
     }
 }
 
 /// Shows how the call of a station ended; as a line, after one of why it is refused, if it is.
 fn show_end(context: &Context<'_>, talked: &Talked, calls: bool) {
-    let rt = context.rt();
-    let word = station::word_of(talked.end, talked.refused);
+    let streams = context.streams();
+    let word = station::word_of(talked.end, talked.unconfirmed, talked.refused);
+    let mut line = ErrorLine::new(streams);
     if context.is_json()
-        && write_ended(context.alloc(), word, calls, talked.pages, &mut rt.stderr()).is_ok()
+        && write_ended(context.alloc(), word, calls, talked.pages, &mut line).is_ok()
     {
-        return;
+        return line.end(Ok::<(), ToolFault>(()));
     }
-    show_why(rt, talked);
+    show_why(streams, talked);
     let counted = if calls { "confirmed" } else { "pages" };
-    let _shown = eprintln!(rt; "end {word} {counted} {}", talked.pages);
+    let made = writeln!(line, "end {word} {counted} {}", talked.pages);
+    line.end(made);
 }
 
 /// Shows that a line says nothing that a station knows.
 fn show_line_fault(context: &Context<'_>, number: u64, reason: NoLine) {
-    let rt = context.rt();
-    if context.is_json() && record_line_fault(rt, number, reason).is_ok() {
+    let streams = context.streams();
+    if context.is_json() && record_line_fault(streams, number, reason).is_ok() {
         return;
     }
-    let _shown = eprintln!(rt; "fault 31 at line {number}");
+    let mut line = ErrorLine::new(streams);
+    let made = writeln!(line, "fault 31 at line {number}");
+    line.end(made);
     if context.explains() {
-        let _explained = eprintln!(rt; "standard input: line {number}, {reason}");
+        let mut line = ErrorLine::new(streams);
+        let made = writeln!(line, "standard input: line {number}, {reason}");
+        line.end(made);
     }
 }
 
 /// Shows the record of a line that says nothing that a station knows.
-fn record_line_fault(rt: &HostRuntime, number: u64, reason: NoLine) -> Result<(), ToolFault>
+fn record_line_fault(streams: &Streams<'_>, number: u64, reason: NoLine) -> Result<(), ToolFault>
     ensures { IfErr result IsOutside }
 {
-    let words = format!(in rt.alloc(); "standard input: line {number}, {reason}")?;
-    write_line_fault(rt.alloc(), 31, number, words.as_str(), &mut rt.stderr())
+    let alloc = streams.rt().alloc();
+    let words = format!(in alloc; "standard input: line {number}, {reason}")?;
+    let mut line = ErrorLine::new(streams);
+    write_line_fault(alloc, 31, number, words.as_str(), &mut line)?;
+    line.flush()?;
+    Ok(())
 }

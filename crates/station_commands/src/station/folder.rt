@@ -9,9 +9,11 @@ use crate::station::given::GivenLimits;
 use crate::station::records::{
     StoredPage, write_gap, write_gap_words, write_page, write_page_words,
 };
+use command_files::error_line::ErrorLine;
 use command_files::files::images::{hand_page, image_octets, store_page};
 use command_files::files::output::Rights;
 use command_files::notices::notice_as;
+use command_files::streams::Streams;
 use conversations::{
     Conversation, Fate, Keeper, PageHolder, PageStore, Said, can_come, hold_pages, keep_pages,
 };
@@ -125,7 +127,7 @@ struct HeldPage {
 /// The folder that the pages of an answerer go to.
 #[derive(Drop)]
 pub(crate) struct Folder<'a> {
-    rt: &'a HostRuntime,
+    streams: &'a Streams<'a>,
     name: &'a str,
     rights: Rights,
     records: bool,
@@ -157,7 +159,13 @@ impl PageStore for Folder<'_> {
             Ok(more) => more,
             Err(why) => return Err(self.refuse(why)),
         };
-        match store_page(self.rt, self.name, self.rights, self.tally.next, &page) {
+        match store_page(
+            self.streams.rt(),
+            self.name,
+            self.rights,
+            self.tally.next,
+            &page,
+        ) {
             Ok(written) => {
                 self.tally.pages += 1;
                 self.tally.octets += more;
@@ -192,10 +200,16 @@ impl PageHolder for Folder<'_> {
             Ok(octets) => octets,
             Err(why) => return Err(self.refuse(why)),
         };
-        match hand_page(self.rt, self.name, self.rights, self.tally.next, page) {
+        match hand_page(
+            self.streams.rt(),
+            self.name,
+            self.rights,
+            self.tally.next,
+            page,
+        ) {
             Ok(number) => {
-                let name = format!(in self.rt.alloc(); "page-{number}.pbm")?;
-                self.told = format!(in self.rt.alloc(); "page {name}\n")?;
+                let name = format!(in self.streams.rt().alloc(); "page-{number}.pbm")?;
+                self.told = format!(in self.streams.rt().alloc(); "page {name}\n")?;
                 self.tally.next = number.saturating_add(1);
                 self.held = Some(HeldPage {
                     number,
@@ -230,7 +244,7 @@ impl PageHolder for Folder<'_> {
 impl<'a> Folder<'a> {
     /// The folder of this name, into which nothing was stored yet.
     pub(crate) fn new(
-        rt: &'a HostRuntime,
+        streams: &'a Streams<'a>,
         name: &'a str,
         rights: Rights,
         records: bool,
@@ -240,14 +254,14 @@ impl<'a> Folder<'a> {
             × (result.holds ≡ false) × (result.held ≡ None) × (result.stopped ≡ None) }
     {
         Folder {
-            rt,
+            streams,
             name,
             rights,
             records,
             limits,
             holds: false,
             held: None,
-            told: String::new(rt.alloc()),
+            told: String::new(streams.rt().alloc()),
             tally: Tally::NOTHING,
             stopped: None,
             failed: None,
@@ -281,6 +295,13 @@ impl<'a> Folder<'a> {
         self.failed
     }
 
+    /// Whether a page's number didn't follow the one before it.
+    pub(crate) fn has_gap(&self) -> bool
+        ensures { result ≡ self.now.has_gap }
+    {
+        self.has_gap
+    }
+
     /// Why the program stopped the call, if it did.
     pub(crate) fn stopped(&self) -> Option<StoppedBy>
         ensures { result ≡ self.now.stopped }
@@ -297,7 +318,7 @@ impl<'a> Folder<'a> {
             // no station stores such a page
             return Err(NoRoom::Faulty(FAILED));
         }
-        let Ok(more) = image_octets(self.rt.alloc(), page) else {
+        let Ok(more) = image_octets(self.streams.rt().alloc(), page) else {
             return Err(NoRoom::Faulty(NO_MEMORY));
         };
         match self.limit_met(more) {
@@ -349,17 +370,18 @@ impl<'a> Folder<'a> {
             params: self.params,
             page,
         };
-        let mut told = self.rt.stderr();
-        let _told = if self.records {
-            write_page(self.rt.alloc(), &stored, &mut told)
+        let mut line = ErrorLine::new(self.streams);
+        let made = if self.records {
+            write_page(self.streams.rt().alloc(), &stored, &mut line)
         } else {
-            write_page_words(&stored, &mut told)
+            write_page_words(&stored, &mut line)
         };
+        line.end(made);
     }
 
     /// Tells something on standard error.
     fn tell(&self, words: &str) {
-        let _told = notice_as(self.rt, self.records, words);
+        let _told = notice_as(self.streams, self.records, words);
     }
 
     /// Tells why the call is stopped, if it is.
@@ -413,12 +435,13 @@ impl<'a> Folder<'a> {
         };
         self.has_gap = true;
         let number = u64::from(page) + 1;
-        let mut told = self.rt.stderr();
-        let _told = if self.records {
-            write_gap(self.rt.alloc(), self.at, number, &mut told)
+        let mut line = ErrorLine::new(self.streams);
+        let made = if self.records {
+            write_gap(self.streams.rt().alloc(), self.at, number, &mut line)
         } else {
-            write_gap_words(self.at, number, &mut told)
+            write_gap_words(self.at, number, &mut line)
         };
+        line.end(made);
     }
 
     /// Whether the time of a call that goes on is over, and the line is quiet, so that the other side can hear it hang up.

@@ -1,14 +1,17 @@
 //! What is noted of a station's call while it runs, beside its trace, and what the other station says that is no signal of ours.
 
-ghost use Rattle.station_commands.specs.CallNotes.{IsMissing, confirms_after, ends_all, ends_document, is_confirmation, is_whole, noted_after};
+ghost use Rattle.station_commands.specs.CallNotes.{IsMissing, confirms_after, ends_all, ends_document, is_confirmation, is_of_mark, is_whole, noted_after};
 ghost use Rattle.station_commands.specs.CallNotes.{noted_heard};
 ghost use Rattle.signals.specs.Reading.{read_content};
-ghost use Rattle.std.specs.Prelude.{◌≡◌, [], None, false};
+ghost use Rattle.faults.specs.Faults.{IsOutside};
+ghost use Rattle.std.specs.Prelude.{◌≡◌, ◌&&◌, ◌+◌, ◌-◌, ◌^◌, [], IfErr, None, Some, false, if◌then◌else◌, min, not};
 
 use crate::station::lateness::Lateness;
-use crate::station::records::{other_line, write_heard, write_heard_words};
+use crate::station::records::{other_line, write_heard, write_heard_words, write_lost};
 use crate::station::trace::Trace;
+use command_files::error_line::ErrorLine;
 use command_files::notices::notice_as;
+use command_files::streams::Streams;
 use conversations::{Channel, Follower, Kind, Said, TimedLine};
 use faults::ToolFault;
 use hdlc::Deframer;
@@ -47,14 +50,11 @@ impl Noted {
                     block,
                     last,
                 },
-            ) => Noted {
-                pps: Some(Pps {
-                    ends,
-                    mark: Mark { page, block },
-                    last,
-                }),
-                ..self
-            },
+            ) => self.heard_pps(Pps {
+                ends,
+                mark: Mark { page, block },
+                last,
+            }),
             Ok(Signal::Dis(caps)) => Noted {
                 caps: Some(caps),
                 ..self
@@ -63,12 +63,32 @@ impl Noted {
         }
     }
 
-    /// Whether the call of an answerer is whole whose last accepted block has this mark: the block ended the document, and MCF was said
-    /// last.
-    pub(crate) fn is_whole(self, accepted: Option<Mark>) -> bool
-        ensures { result ≡ is_whole self accepted }
+    /// What is noted once a PPS was heard: nothing of one that repeats a block which was confirmed.
+    fn heard_pps(self, pps: Pps) -> Noted
+        ensures { result ≡ if self.confirms && is_of_mark self.pps pps.mark then self else record self { pps = Some pps } }
     {
-        self.confirms && ends_document(self.pps, accepted)
+        if self.confirms && is_of_mark(self.pps, pps.mark) {
+            return self;
+        }
+        Noted {
+            pps: Some(pps),
+            ..self
+        }
+    }
+
+    /// Whether the call of an answerer is whole whose last accepted block has this mark: the block ended the document, MCF was said last, and
+    /// there was no gap in the numbers of pages.
+    pub(crate) fn is_whole(self, accepted: Option<Mark>, gap: bool) -> bool
+        ensures { result ≡ is_whole self accepted gap }
+    {
+        self.confirms && ends_document(self.pps, accepted) && !gap
+    }
+
+    /// Whether MCF wasn't said last.
+    pub(crate) fn is_unconfirmed(self) -> bool
+        ensures { result ≡ not self.confirms }
+    {
+        !self.confirms
     }
 
     /// What the answerer lacks, of stations that aren't compatible.
@@ -80,6 +100,16 @@ impl Noted {
             Some(reason) => Some(reason),
             None => Some(Reason::TooWide),
         }
+    }
+}
+
+/// Whether the block of a PPS has this mark.
+fn is_of_mark(pps: Option<Pps>, mark: Mark) -> bool
+    ensures { result ≡ is_of_mark pps mark }
+{
+    match pps {
+        Some(heard) => heard.mark.is_same(mark),
+        None => false,
     }
 }
 
@@ -116,24 +146,41 @@ fn is_confirmation(content: &[u8]) -> bool
 /// Where what was heard at a time is told, if it is.
 #[derive(Clone, Copy)]
 struct Teller<'a> {
-    rt: &'a HostRuntime,
+    streams: &'a Streams<'a>,
     records: bool,
     at: u64,
 }
 
 impl Teller<'_> {
+    /// Writes the words of a content that is no signal of ours, as a line.
+    fn write_words(
+        self,
+        octet: u8,
+        content: &[u8],
+        line: &mut ErrorLine<'_>,
+    ) -> Result<(), ToolFault>
+        ensures { IfErr result IsOutside }
+    {
+        let fields = content.get(3..).unwrap_or(&[]);
+        let alloc = self.streams.rt().alloc();
+        // without memory for its name it is said as the list of frames does
+        let words = other_line(alloc, octet, fields).unwrap_or(Vec::new(alloc));
+        write_heard_words(self.at, content, &words, line)
+    }
+
     /// Tells of a content that is no signal of ours.
     fn tell(self, content: &[u8]) {
         let Ok(Signal::Other(octet)) = read(content) else {
             return;
         };
         let fields = content.get(3..).unwrap_or(&[]);
-        let (alloc, mut told) = (self.rt.alloc(), self.rt.stderr());
-        if self.records {
-            let _told = write_heard(alloc, self.at, octet, fields, &mut told);
-        } else if let Ok(line) = other_line(alloc, octet, fields) {
-            let _told = write_heard_words(self.at, content, &line, &mut told);
-        }
+        let mut line = ErrorLine::new(self.streams);
+        let made = if self.records {
+            write_heard(self.streams.rt().alloc(), self.at, octet, fields, &mut line)
+        } else {
+            self.write_words(octet, content, &mut line)
+        };
+        line.end(made);
     }
 }
 
@@ -165,13 +212,14 @@ fn confirms_waiting(mouth: &mut Deframer, before: bool) -> bool
 /// Observes a call: writes its trace, if one is asked for, and notes what is known of it at its end.
 #[derive(Drop)]
 pub(crate) struct Notes<'a> {
-    rt: &'a HostRuntime,
+    streams: &'a Streams<'a>,
     records: bool,
     trace: Trace<'a>,
     lateness: Lateness<'a>,
     ear: Deframer,
     mouth: Deframer,
     noted: Noted,
+    lost: u64,
 }
 
 impl Follower for Notes<'_> {
@@ -213,33 +261,65 @@ impl Follower for Notes<'_> {
 impl<'a> Notes<'a> {
     /// What is noted of a call that hasn't begun. `records` if what is no signal of ours is told.
     pub(crate) fn new(
-        rt: &'a HostRuntime,
+        streams: &'a Streams<'a>,
         records: bool,
         trace: Trace<'a>,
         lateness: Lateness<'a>,
     ) -> Notes<'a>
         ensures { result.noted ≡ record { pps = None; caps = None; confirms = false } }
     {
+        let alloc = streams.rt().alloc();
         Notes {
-            rt,
+            streams,
             records,
             trace,
             lateness,
-            ear: Deframer::new(rt.alloc()),
-            mouth: Deframer::new(rt.alloc()),
+            ear: Deframer::new(alloc),
+            mouth: Deframer::new(alloc),
             noted: Noted::NOTHING,
+            lost: 0,
         }
+    }
+
+    /// Notes that a line is lost since memory was refused, and tells it of the first one. `at` is the time of the last line that wasn't.
+    pub(crate) fn lose_line(&mut self, at: u64)
+        ensures counted { self.new.lost ≡ min (self.old.lost + 1) (2 ^ 64 - 1) }
+        ensures rest { self.new.noted ≡ self.old.noted }
+    {
+        self.lost = self.lost.saturating_add(1);
+        if self.lost == 1 {
+            self.tell_lost(at);
+        }
+    }
+
+    /// Tells how many lines are lost at the end, if there are more than the first one.
+    pub(crate) fn end(&mut self, at: u64)
+        ensures { (self.new.lost ≡ self.old.lost) × (self.new.noted ≡ self.old.noted) }
+    {
+        if self.lost > 1 {
+            self.tell_lost(at);
+        }
+    }
+
+    /// Tells how many lines are lost, in the trace too.
+    fn tell_lost(&mut self, at: u64)
+        ensures { (self.new.lost ≡ self.old.lost) × (self.new.noted ≡ self.old.noted) }
+    {
+        let mut line = ErrorLine::new(self.streams);
+        let made = write_lost(self.records, at, self.lost, &mut line);
+        line.end(made);
+        self.trace.lost(at, self.lost);
     }
 
     /// Tells that the answer to the line of a time isn't sent.
     fn tell_late(&self, at: u64) {
-        let alloc = self.rt.alloc();
+        let alloc = self.streams.rt().alloc();
         let Ok(words) = format!(in alloc;
             "the answer to the line at {at} isn't sent: it comes too late"
         ) else {
             return;
         };
-        let _told = notice_as(self.rt, self.records, words.as_str());
+        let _told = notice_as(self.streams, self.records, words.as_str());
     }
 
     /// What was noted.
@@ -256,7 +336,7 @@ impl<'a> Notes<'a> {
             return;
         }
         let teller = Teller {
-            rt: self.rt,
+            streams: self.streams,
             records: self.records,
             at,
         };

@@ -6,7 +6,7 @@ ghost use Rattle.captures.specs.OtherWords.{other_words};
 ghost use Rattle.faults.specs.Faults.{IsOutside};
 ghost use Rattle.faults.specs.RecordLines.{record_line};
 ghost use Rattle.station_commands.specs.CallNotes.{bare, confirmed_record, gap_record, heard_record, page_record, state_record};
-ghost use Rattle.station_commands.specs.CallNotes.{confirmed_words, gap_words, heard_words, page_words};
+ghost use Rattle.station_commands.specs.CallNotes.{confirmed_words, gap_words, heard_words, lost_line, page_words};
 ghost use Rattle.serde_json.specs.View.{view};
 ghost use Rattle.std.specs.Io.KnownBytes.{Appends};
 ghost use Rattle.std.specs.Prelude.{◌≡◌, IfErr, IfOk, OnOk, option_map};
@@ -284,6 +284,25 @@ pub(crate) fn write_heard<W: Write>(
     };
     let record = heard_record(alloc, at, octet, words)?;
     write_record(alloc, &record, writer)
+}
+
+/// Writes that lines are lost since memory was refused, so many of them, at a time: a line of words, or a record. It takes no memory. Errors:
+/// `Io` (8) from the writer.
+pub(crate) fn write_lost<W: Write>(
+    records: bool,
+    at: u64,
+    lines: u64,
+    writer: &mut W,
+) -> Result<(), ToolFault>
+    ensures line { OnOk result (Appends (W.contents writer.old) (W.contents writer.new) (lost_line records at lines)) }
+    ensures fault { IfErr result IsOutside }
+{
+    if records {
+        writeln!(writer, "{{\"at\":{at},\"lost\":{lines}}}")?;
+    } else {
+        writeln!(writer, "{at} memory was refused, lines lost: {lines}")?;
+    }
+    Ok(())
 }
 
 /// Writes the record of how a call stands at its end as one line. Errors: those of `write_page`.

@@ -6,23 +6,33 @@ ghost use Rattle.signals.specs.Reading.{read_content};
 ghost use Rattle.std.specs.Io.KnownBytes.{Appends};
 ghost use Rattle.std.specs.Prelude.{◌≡◌, ◌||◌, IfErr, None, OnOk, cond, nat_eq, ◌+◌};
 
+use crate::station::records::write_lost;
 use captures::{ContentText, write_traced, write_traced_check};
 use command_files::context::{Context, Part};
+use command_files::files::limited::SharedFile;
+use command_files::files::output::Rights;
 use command_files::notices::notice_as;
+use command_files::streams::Streams;
 use conversations::{Heard, Kind, Said, TimedLine, heard_as};
 use faults::ToolFault;
 use hdlc::Deframer;
 use signals::{Signal, read};
 use stations::Listening;
 use std::alloc::Global;
-use std::fs::{File, OpenOptions};
-use std::io::{BufWriter, Write};
+use std::fs::{File, OpenOptions, Permissions};
+use std::io;
+use std::io::{BufWriter, ErrorKind, Write};
+use std::os::unix::fs::{OpenOptionsExt, PermissionsExt};
 use terminals::SentBurst;
+
+/// More octets than a line of a trace has: the frame with the most words, NSF, has 300 octets. Each line is written by one call, so that
+/// stations that share a trace don't write into each other's lines.
+const LONGEST_LINE: usize = 8192;
 
 /// The trace of a station, if one is asked for. One that can't be written any more says so once and ends, and the call goes on.
 #[derive(Drop)]
 pub(crate) struct Trace<'a> {
-    rt: &'a HostRuntime,
+    streams: &'a Streams<'a>,
     file: Option<TraceFile>,
 }
 
@@ -32,7 +42,7 @@ struct TraceFile {
     alloc: Global,
     records: bool,
     frames: bool,
-    writer: BufWriter<File>,
+    writer: BufWriter<SharedFile>,
     heard: Deframer,
     said: Deframer,
 }
@@ -50,37 +60,42 @@ impl<'a> Trace<'a> {
         self.end_after(written);
     }
 
-    /// The trace that goes to a file, after what is there; or none. It has a line for each frame of a block, or one for all that follow each
-    /// other. Errors: `Io` (8) if the file can't be opened, and that is noted; `NoMemory` (9).
+    /// Writes how many lines are lost since memory was refused, if there is a trace.
+    pub(crate) fn lost(&mut self, at: u64, lines: u64) {
+        let written = self.write_lost(at, lines);
+        self.end_after(written);
+    }
+
+    /// The trace that goes to a file, after what is there; or none. A new file has these rights. It has a line for each frame of a block, or
+    /// one for all that follow each other. Errors: `Io` (8) if the file can't be opened, and that is noted; `NoMemory` (9).
     pub(crate) fn open(
         context: &mut Context<'a>,
         name: Option<&str>,
+        rights: Rights,
         frames: bool,
     ) -> Result<Trace<'a>, ToolFault>
         ensures { IfErr result IsOutside }
     {
         let Some(name) = name else {
             return Ok(Trace {
-                rt: context.rt(),
+                streams: context.streams(),
                 file: None,
             });
         };
-        let opened = OpenOptions::new()
-            .append(true)
-            .create(true)
-            .open(context.rt(), name);
-        let writer = context.checked(opened, Part::Trace)?;
+        let opened = open_after(context.rt(), name, rights);
+        let file = context.checked(opened, Part::Trace)?;
+        let writer = SharedFile::new(context.rt(), file);
         let alloc = context.alloc();
         let file = TraceFile {
             alloc,
             records: context.is_json(),
             frames,
-            writer: BufWriter::new(alloc, writer)?,
+            writer: BufWriter::with_capacity(alloc, LONGEST_LINE, writer)?,
             heard: Deframer::new(alloc),
             said: Deframer::new(alloc),
         };
         Ok(Trace {
-            rt: context.rt(),
+            streams: context.streams(),
             file: Some(file),
         })
     }
@@ -96,7 +111,7 @@ impl<'a> Trace<'a> {
         let records = self.file.as_ref().is_some_and(|file| file.records);
         self.file = None;
         let words = "the trace can't be written any more and ends here; the call goes on";
-        let _told = notice_as(self.rt, records, words);
+        let _told = notice_as(self.streams, records, words);
     }
 
     /// Writes what a line brings to a station that listens so. Errors: `Io` (8) from the file, `NoMemory` (9).
@@ -128,6 +143,18 @@ impl<'a> Trace<'a> {
         Ok(())
     }
 
+    /// Writes how many lines are lost. Errors: `Io` (8) from the file.
+    fn write_lost(&mut self, at: u64, lines: u64) -> Result<(), ToolFault>
+        ensures { IfErr result IsOutside }
+    {
+        let Some(file) = &mut self.file else {
+            return Ok(());
+        };
+        write_lost(file.records, at, lines, &mut file.writer)?;
+        file.writer.flush()?;
+        Ok(())
+    }
+
     /// Writes what a burst says. Errors: `Io` (8) from the file, `NoMemory` (9).
     fn write_said(&mut self, at: u64, burst: &SentBurst) -> Result<(), ToolFault>
         ensures { IfErr result IsOutside }
@@ -146,6 +173,36 @@ impl<'a> Trace<'a> {
         file.writer.flush()?;
         Ok(())
     }
+}
+
+/// Opens a file to be written after what is there. A new one has these rights before its first octet. Errors: the system's.
+fn open_after(rt: &HostRuntime, name: &str, rights: Rights) -> io::Result<File> {
+    match appending(rights).create_new(true).open(rt, name) {
+        Ok(file) => {
+            if let Rights::Mode(mode) = rights {
+                file.set_permissions(Permissions::from_mode(mode))?;
+            }
+            Ok(file)
+        }
+        // it is there, or is a link
+        Err(error) if error.kind() == ErrorKind::AlreadyExists => {
+            appending(rights).create(true).open(rt, name)
+        }
+        Err(error) => Err(error),
+    }
+}
+
+/// How a file of these rights is opened to be written after what is there.
+fn appending(rights: Rights) -> OpenOptions {
+    let mut options = OpenOptions::new();
+    options.append(true);
+    match rights {
+        Rights::Umask => {}
+        Rights::Private | Rights::Mode(_) => {
+            options.mode(0o600);
+        }
+    }
+    options
 }
 
 impl TraceFile {
@@ -295,9 +352,11 @@ fn write_contents<W: Write>(
             )),
             (_, frame) => {
                 lines.write_run(run, writer)?;
+                writer.flush()?;
                 run = frame;
                 if frame.is_none() {
                     lines.write_content(content, writer)?;
+                    writer.flush()?;
                 }
             }
         }

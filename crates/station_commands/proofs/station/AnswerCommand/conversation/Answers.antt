@@ -1,8 +1,9 @@
 -- What the check asks of `conversation`.
 use Rattle.std.proofs.Common.{◌∙◌, ap, false, refl, subst, sym, ℕ}
-use Rattle.std.specs.Prelude.{None, Some}
+use Rattle.std.specs.Prelude.{None}
 use Rattle.station_commands.specs.Talks.{NewAnswering}
 use Rattle.conversations.specs.Conversations.{ConversationFields}
+use Rattle.conversations.specs.Refusing.{new_watch}
 use Rattle.stations.specs.AnswererStep.{new_answerer}
 use Rattle.stations.specs.CallerStep.{no_params}
 use Rattle.stations.specs.Limiting.{LimitedFields}
@@ -13,10 +14,11 @@ use Rattle.station_commands.proofs.station.AnswerCommand.conversation.Goals as g
 
 pub returns : goal.returns
 returns c =
-    let watch = c.watching.ensures.0 in
     let begun = c.new_answerer-conversation.ensures in
     let said = c.saying.ensures ∙ ap (λ (s : ConversationFields LimitedFields). record s { says = c.says.result }) begun in
-    let is = c.watching.ensures.2 ∙ ap (λ (s : ConversationFields LimitedFields). record s { watch = Some watch }) said in
+    let is = c.watching.ensures
+    ∙ ap (λ (s : ConversationFields LimitedFields). record s { watch = new_watch (receiving c.args.self.now.caps) c.args.self.now.refuses })
+    said in
     let spoken = c.new-terminal.ensures.speaking in
     let caps = receiving c.args.self.now.caps in
     subst (λ (s : ConversationFields LimitedFields). NewAnswering c.args.self.now s) (sym is) record {
@@ -37,7 +39,5 @@ returns c =
             cut = None;
           }) c.page_limit.ensures;
       turn = ap (λ (s : Speaking LimitedFields). s.turn) spoken ∙ c.new-station.ensures.turn;
-      watch = watch;
-      watches = refl;
-      is_new = c.watching.ensures.1;
+      watch = refl;
     }

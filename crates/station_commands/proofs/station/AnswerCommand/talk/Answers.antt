@@ -33,6 +33,7 @@ returns-clause-talks c =
       stopped = c.stopped.ensures;
       failed = c.failed-2.ensures;
       pages = c.stored.ensures;
-      noted = c.noted.result;
+      noted = c.noted-noted.result;
       whole = search rules;
+      unconfirmed = search rules;
     }

@@ -8,13 +8,13 @@ use Rattle.station_commands.proofs.station.folder.FolderPageHolder.hand_over.Goa
 pub returns-in_err-name-in-Ok-hand_page-clause-err : goal.returns-in_err-name-in-Ok-hand_page-clause-err
 returns-in_err-name-in-Ok-hand_page-clause-err c =
     let p = err_from_is_err_and c.from_residual.result c.from_residual.ensures.1 in
-    rw p.1 record { why = Faulty (No 9); is_why = inr refl; tally = refl; limits = refl; stopped = refl }
+    rw p.1 record { why = Faulty (No 9); is_why = inr refl; tally = refl; limits = refl; stopped = refl; rest = refl }
 
 pub returns-in_err-self-in-Ok-hand_page-clause-err : goal.returns-in_err-self-in-Ok-hand_page-clause-err
 returns-in_err-self-in-Ok-hand_page-clause-err c =
     let p = err_from_is_err_and c.from_residual-in_err-self-in-Ok-hand_page.result
     c.from_residual-in_err-self-in-Ok-hand_page.ensures.1 in
-    rw p.1 record { why = Faulty (No 9); is_why = inr refl; tally = refl; limits = refl; stopped = refl }
+    rw p.1 record { why = Faulty (No 9); is_why = inr refl; tally = refl; limits = refl; stopped = refl; rest = refl }
 
 pub returns-in-Err-hand_page-clause-err : goal.returns-in-Err-hand_page-clause-err
 returns-in-Err-hand_page-clause-err c = record {
@@ -23,4 +23,5 @@ returns-in-Err-hand_page-clause-err c = record {
   tally = refl;
   limits = refl;
   stopped = refl;
+  rest = refl;
 }

@@ -10,4 +10,5 @@ returns-clause-err c = record {
   tally = refl;
   limits = refl;
   stopped = refl;
+  rest = refl;
 }
