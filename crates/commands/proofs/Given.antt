@@ -62,8 +62,8 @@ refused_script command script fault bad = inr (script, [], inr (inl bad))
 -- a script whose document is refused
 pub no_document : (command : ScriptCommand) (script : List ℕ) (fault : ToolFault) → (commands : List Command) × IsScript script commands
     → IsNoDocument command.options.fine fault → IsUnscripted command fault
-no_document command script fault said (inl outside) = inl outside
-no_document command script fault said (inr (images, inl outside)) = inl outside
+no_document command script fault said (inl outside) = inl (inl outside)
+no_document command script fault said (inr (images, inl outside)) = inl (inl outside)
 no_document command script fault said (inr (images, inr (inl (first, none, is)))) =
     inr (script, images, inr (inr (inl (said, first, none, is))))
 no_document command script fault said (inr (images, inr (inr (document, read, wide, is)))) =
@@ -73,7 +73,7 @@ no_document command script fault said (inr (images, inr (inr (document, read, wi
 pub unscripted : (command : ScriptCommand) (checked script : List ℕ) (document : List PagePixels) (fault : ToolFault)
     → (commands : List Command) × IsScript checked commands → (images : List ℕ) × AreImages command.options.fine images document
     → IsOutside fault ⊎ (IsBadScript script fault ⊎ (¬ AreCallable document × (fault ≡ No 26))) → IsUnscripted command fault
-unscripted command checked script document fault said read (inl outside) = inl outside
+unscripted command checked script document fault said read (inl outside) = inl (inl outside)
 unscripted command checked script document fault said read (inr (inl bad)) = refused_script command script fault bad
 unscripted command checked script document fault said (images, read) (inr (inr (wide, is))) =
     inr (checked, images, inr (inr (inr (said, document, read, wide, is))))

@@ -1,2 +1,4 @@
 -- The lemmas of the commands.
 mod Given
+mod PageReports
+mod RecordData

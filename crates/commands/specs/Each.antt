@@ -1,155 +1,218 @@
 -- What `decode --each` gives of each file, and what it says of it.
-use Rattle.std.specs.Prelude.{ℕ, zero, suc, ◌≡◌, ◌⊎◌, ◌+◌, ◌++◌, ◌&&◌, ◌||◌, ◌↔◌, Bool, true, false, List, [], Option, Some, None, Result, Ok, Err, IsTrue}
-use Rattle.std.specs.Prelude.{codes, cond, length, not}
+use Rattle.std.specs.Prelude.{ℕ, zero, suc, ◌≡◌, ◌≢◌, ◌⊎◌, ◌+◌, ◌++◌, ◌∷◌, ◌&&◌, ◌||◌, Bool, true, false, List, [], Option, Some, None, Result, Ok, Err}
+use Rattle.std.specs.Prelude.{◌==◌, codes, length}
 use Rattle.std.specs.Fmt.{decimal}
-use Rattle.serde_json.specs.Data.{Data, boolean, member, no_members, object}
+use Rattle.serde_json.specs.Data.{Data, array, boolean, member, no_items, no_members, null, object, put}
 use Rattle.command_files.specs.Runs.{completeness_of}
 use Rattle.command_files.specs.declared.command.Completeness.{Completeness}
-use Rattle.faults.specs.Faults.{IsOutside, fault_of_code, fault_text}
-use Rattle.faults.specs.RecordLines.{words}
+use Rattle.faults.specs.FaultKinds.{kind_of, number_of}
+use Rattle.faults.specs.Faults.{IsOutside, fault_text}
+use Rattle.faults.specs.RecordLines.{count, words}
 use Rattle.faults.specs.declared.fault.ToolFault.{ToolFault}
-use Rattle.page_code.specs.PageReaders.{IsPageRefused}
-use Rattle.page_code.specs.declared.page_reader.RefusedCode.{RefusedCode}
-use Rattle.page_files.specs.Answers.{is_mostly_read}
-use Rattle.page_files.specs.CodedPages.{WritesPage}
-use Rattle.page_files.specs.Decodings.{GivesPage, broken_asked}
 use Rattle.page_files.specs.Found.{Finds}
-use Rattle.page_files.specs.LaterPages.{AfterPage}
-use Rattle.page_files.specs.PageEnds.{HasItsEnd}
-use Rattle.page_files.specs.declared.decoding.Broken.{Broken}
-use Rattle.page_files.specs.declared.decoding.Broken.TheVariants as broken
-use Rattle.page_files.specs.declared.decoding.ReadTo.{ReadTo}
-use Rattle.page_files.specs.declared.decoding.ReadTo.TheVariants as to
 use Rattle.page_files.specs.declared.found.Found.{Found}
 use Rattle.page_files.specs.declared.found.Found.TheVariants as found
 use Rattle.page_files.specs.declared.options.DecodeOptions.{DecodeOptions}
 use Rattle.page_files.specs.declared.options.PageForm.{PageForm}
-use Rattle.raster.specs.Packed.{bits_of}
-use Rattle.raster.specs.Pages.{PagePixels}
+use Rattle.commands.specs.Damaged.{is_taken}
+use Rattle.commands.specs.Names.{shown_name}
+use Rattle.commands.specs.PageFacts.{page_records}
+use Rattle.commands.specs.Pages.{GoesOn, IsPageReport, file_end, page_lines, with_front}
 use Rattle.commands.specs.declared.decode.each.EachCommand.{EachCommand}
-use Rattle.commands.specs.declared.decode.each.PageEnd.{PageEnd}
-use Rattle.commands.specs.declared.decode.each.PageEnd.TheVariants as page
+use Rattle.commands.specs.declared.decode.each.facts.PageFacts.{PageFacts}
+use Rattle.commands.specs.declared.decode.each.pages.Next.{Next}
+use Rattle.commands.specs.declared.decode.each.pages.Next.TheVariants as next
+use Rattle.commands.specs.declared.decode.each.pages.PageReport.{PageReport}
+use Rattle.commands.specs.declared.decode.each.report.FileReport.{FileReport}
 use Rattle.commands.specs.declared.decode.ends.FileEnd.{FileEnd}
 use Rattle.commands.specs.declared.decode.ends.FileEnd.TheVariants as file
 
--- ---- a page
-
--- the end of a page of so many rows that was read up to here: whether it has its end counts with `--whole` alone
-abbrev pub IsReadTo : DecodeOptions → PageForm → List ℕ → ℕ → ReadTo → PageEnd → Type 0
-IsReadTo options form octets rows (to.End bits) end = (has_end : Bool)
-    × (IsTrue has_end ↔ HasItsEnd form.coding form.order octets bits) × (end ≡ page.Read (not options.whole || has_end))
-IsReadTo options form octets rows (to.Fault fault) end = end ≡ page.Cut (rows + 1) fault
-IsReadTo options form octets rows (to.Lines repaired) end = end ≡ page.Repaired rows repaired
-IsReadTo options form octets rows (to.NoEnd bit) end = end ≡ page.NoEofb
-
--- the page that octets begin with was decoded in this way, with this end
-abbrev pub IsDecodedSo : Broken → DecodeOptions → PageForm → List ℕ → PageEnd → Type 0
-IsDecodedSo way options form octets end = (image : PagePixels) × (lines : List ℕ) × (read_to : ReadTo)
-    × ((text : List ℕ) → WritesPage image (Some []) (Some text) → GivesPage way form octets read_to (length image.rows) text lines)
-    × IsReadTo options form octets (length image.rows) read_to end
-
--- the end of a page that is refused: in its first row that can't be read; or as it is decoded by `--salvage` or `--repair`
-abbrev pub EndsRefused : Broken → DecodeOptions → PageForm → List ℕ → RefusedCode → PageEnd → Type 0
-EndsRefused broken.Nothing options form octets refused end = end ≡ page.Cut (refused.rows + 1) (fault_of_code refused.fault)
-EndsRefused broken.WholeRows options form octets refused end = IsDecodedSo broken.WholeRows options form octets end
-EndsRefused broken.AllRows options form octets refused end = IsDecodedSo broken.AllRows options form octets end
-
--- the end of the page that octets begin with: it was read; or it is refused, and only then salvaged or repaired, if that is asked for
-abbrev pub IsPageEnd : DecodeOptions → PageForm → List ℕ → PageEnd → Type 0
-IsPageEnd options form octets end = IsDecodedSo broken.Nothing options form octets end
-    ⊎ ((refused : RefusedCode) × IsPageRefused form.coding form.width (bits_of form.order octets) refused
-    × EndsRefused (broken_asked options.salvage options.repair) options form octets refused end)
-
 -- ---- a file
 
--- the end of a file of so many pages, that all have their ends or not
-abbrev pub end_of : ℕ → Bool → FileEnd
-end_of pages have_ends = cond have_ends (file.Whole pages) (file.NoEnd pages)
+-- after so many pages `later` begins with the next one; what these are, what is reported of them, and whether all are complete
+abbrev pub ArePagesTo : DecodeOptions → PageForm → List ℕ → ℕ → List ℕ → List PageFacts → List ℕ → Bool → Type 0
+ArePagesTo options form octets zero later pages told complete = (later ≡ octets) × (pages ≡ []) × (told ≡ []) × (complete ≡ true)
+ArePagesTo options form octets (suc count) later pages told complete =
+    (middle lines : List ℕ) × (others : List PageFacts) × (before : Bool) × (page : PageReport)
+    × ArePagesTo options form octets count middle others lines before × IsPageReport options form middle page
+    × GoesOn form middle later page.facts.end next.Page × (pages ≡ others ++ page.facts ∷ [])
+    × (told ≡ lines ++ page_lines (count + 1) page.told.items) × (complete ≡ (before && page.is_complete))
 
--- after so many pages, which were read to their ends, `later` begins with the next one; and whether all of them have their ends
-abbrev pub ArePagesTo : DecodeOptions → PageForm → List ℕ → ℕ → List ℕ → Bool → Type 0
-ArePagesTo options form octets zero later have_ends = (later ≡ octets) × (have_ends ≡ true)
-ArePagesTo options form octets (suc pages) later have_ends = (middle : List ℕ) × (before has_end : Bool)
-    × ArePagesTo options form octets pages middle before × IsPageEnd options form middle (page.Read has_end)
-    × AfterPage true form middle later × (have_ends ≡ (before && has_end))
+-- no octets are there
+abbrev pub is_silent : List ℕ → Bool
+is_silent told = length told == 0
 
--- the end of a file by that of its last page, which has this number, and whether all pages before it have their ends
-abbrev pub file_end : DecodeOptions → ℕ → Bool → PageEnd → FileEnd
-file_end options number have_ends (page.Read has_end) = end_of number (have_ends && has_end)
-file_end options number have_ends page.NoEofb = end_of number (have_ends && not options.whole)
-file_end options number have_ends (page.Repaired rows repaired) = file.Repaired number rows repaired
-file_end options number have_ends (page.Cut row fault) = file.Cut number row fault
-
--- no page follows this one, or it is not known where one would begin
-abbrev pub IsLast : PageForm → List ℕ → PageEnd → Type 0
-IsLast form octets (page.Read has_end) = (later : List ℕ) × AfterPage false form octets later
-IsLast form octets end = Unit {0}
-
--- the end of a file of pages of this form
-pub record EndsAs (options : DecodeOptions) (form : PageForm) (octets : List ℕ) (end : FileEnd) : Type 0 where
+-- What is reported of a file of pages of this form: of each of them what `decode` writes of it alone. It is complete if each of them is.
+pub record EndsAs (options : DecodeOptions) (form : PageForm) (octets : List ℕ) (report : FileReport) : Type 0 where
   pub before : ℕ
   pub last : List ℕ
-  pub have_ends : Bool
-  pub pages : ArePagesTo options form octets before last have_ends
-  pub last_end : PageEnd
-  pub is_end : IsPageEnd options form last last_end
-  pub is_last : IsLast form last last_end
-  pub end_is : end ≡ file_end options (before + 1) have_ends last_end
+  pub others : List PageFacts
+  pub lines : List ℕ
+  pub complete : Bool
+  pub pages : ArePagesTo options form octets before last others lines complete
+  pub page : PageReport
+  pub is_page : IsPageReport options form last page
+  pub later : List ℕ
+  pub after : Next
+  pub goes_on : GoesOn form last later page.facts.end after
+  pub is_last : after ≢ next.Page
+  pub pages_are : report.pages.items ≡ others ++ page.facts ∷ []
+  pub told_is : report.told.items ≡ lines ++ page_lines (before + 1) page.told.items
+  pub complete_is : report.is_complete ≡ (complete && page.is_complete)
+  pub end_is : report.end ≡ file_end (before + 1) (is_silent report.told.items) page.facts.end after
 
--- the end of a file by what `identify` says of it
-abbrev pub EndsFound : DecodeOptions → List ℕ → Found → FileEnd → Type 0
-EndsFound options octets (found.Page way) end = EndsAs options way.form octets end
-EndsFound options octets (found.Format name) end = end ≡ file.NoFax name
-EndsFound options octets found.Several end = end ≡ file.NoWidth
-EndsFound options octets found.Nothing end = end ≡ file.Nothing
+-- what is reported of a file with more pages than these: of each of them what `decode` writes of it alone, and that more come
+pub record EndsBefore (most : ℕ) (options : DecodeOptions) (form : PageForm) (octets : List ℕ) (report : FileReport) : Type 0 where
+  pub later : List ℕ
+  pub complete : Bool
+  pub pages : ArePagesTo options form octets most later report.pages.items report.told.items complete
+  pub end_is : report.end ≡ file.More most
+  pub lacks : report.is_complete ≡ false
 
--- the end of a file of these octets: all pages have the form that is given, or that which `identify` says
-abbrev pub EndsIn : DecodeOptions → Option PageForm → List ℕ → FileEnd → Type 0
-EndsIn options (Some form) octets end = EndsAs options form octets end
-EndsIn options None octets end = (what : Found) × Finds octets what × EndsFound options octets what end
+-- what is reported of a file of which at most so many pages are decoded
+abbrev pub EndsWithin : ℕ → DecodeOptions → PageForm → List ℕ → FileReport → Type 0
+EndsWithin most options form octets report = EndsAs options form octets report ⊎ EndsBefore most options form octets report
 
--- the file was read, and its pages decoded and written, with this end
-abbrev pub IsFileEnd : EachCommand → FileEnd → Type 0
-IsFileEnd command end = (octets : List ℕ) × EndsIn command.options command.form octets end
+-- this is said of a file of which no page is read, and nothing else is reported
+abbrev pub IsSaid : FileEnd → FileReport → Type 0
+IsSaid end report = (report.end ≡ end) × (report.told.items ≡ []) × (report.is_complete ≡ false) × (report.pages.items ≡ [])
 
--- nothing of a file is missing, as `decode` says it of one page
-abbrev pub ends_whole : FileEnd → Bool
-ends_whole (file.Whole pages) = true
-ends_whole (file.Repaired number rows repaired) = is_mostly_read rows repaired
-ends_whole end = false
+-- what is asked for of each page: what is reported of it is lines, also where the file has a record
+abbrev pub as_lines : DecodeOptions → DecodeOptions
+as_lines options = record options { records = false }
 
--- the end of a file: that of its pages, or it can't be read, or a page of it not written or repaired
-abbrev pub EndsSo : EachCommand → FileEnd → Type 0
-EndsSo command end = IsFileEnd command end ⊎ ((fault : ToolFault) × (end ≡ file.Failed fault))
+-- a way to read pages, with the lines that are asked for
+abbrev pub lined : Bool → PageForm → PageForm
+lined fine form = record form { fine = fine }
 
--- each of so many files has an end, and whether nothing is missing of any of them
+-- damaged pages are asked for
+abbrev pub asks_damaged : DecodeOptions → Bool
+asks_damaged options = options.salvage || options.repair
+
+-- the report of a file by what `identify` says of it
+abbrev pub EndsFound : EachCommand → List ℕ → Found → FileReport → Type 0
+EndsFound command octets (found.Page way) report = EndsWithin command.most_pages (as_lines command.options) (lined command.fine way.form) octets report
+EndsFound command octets (found.Format name) report = IsSaid (file.NoFax name) report
+EndsFound command octets found.Several report = IsSaid file.NoWidth report
+EndsFound command octets (found.Begun way) report = ((is_taken (asks_damaged command.options) way ≡ true)
+    × EndsWithin command.most_pages (as_lines command.options) (lined command.fine way.form) octets report)
+    ⊎ ((is_taken (asks_damaged command.options) way ≡ false) × IsSaid file.Nothing report)
+EndsFound command octets found.Nothing report = IsSaid file.Nothing report
+
+-- the report of a file of these octets: all pages have the form that is given, or that which `identify` says
+abbrev pub EndsIn : EachCommand → Option PageForm → List ℕ → FileReport → Type 0
+EndsIn command (Some form) octets report = EndsWithin command.most_pages (as_lines command.options) form octets report
+EndsIn command None octets report = (what : Found) × Finds octets what × EndsFound command octets what report
+
+-- the report of a file: it was read, and its pages decoded and written; or its name isn't UTF-8, or it can't be read
+abbrev pub IsFileReport : EachCommand → FileReport → Type 0
+IsFileReport command report = ((octets : List ℕ) × EndsIn command command.form octets report)
+    ⊎ (IsSaid file.NoText report ⊎ ((fault : ToolFault) × IsSaid (file.Failed fault) report))
+
+-- a file has a report, which is complete or not
+abbrev pub IsReported : EachCommand → Bool → Type 0
+IsReported command complete = (report : FileReport) × IsFileReport command report × (complete ≡ report.is_complete)
+
+-- each of so many files has a report, and whether all are complete
 abbrev pub AllEndSo : EachCommand → ℕ → Bool → Type 0
-AllEndSo command zero whole = whole ≡ true
-AllEndSo command (suc files) whole = (before : Bool) × (end : FileEnd) × AllEndSo command files before × EndsSo command end
-    × (whole ≡ (before && ends_whole end))
+AllEndSo command zero complete = complete ≡ true
+AllEndSo command (suc files) complete = (before last : Bool) × AllEndSo command files before × IsReported command last
+    × (complete ≡ (before && last))
 
--- all files of a command have ends, and all was done if nothing is missing of any; or standard output failed, or memory
+-- all files of a command have reports, those that it names and so many that its list names, and all was done if all are complete; or
+-- standard output failed, or the list, or memory
 abbrev pub EachGives : EachCommand → Result Completeness ToolFault → Type 0
-EachGives command (Ok completeness) = (whole : Bool) × AllEndSo command (length command.files.items) whole
-    × (completeness ≡ completeness_of whole)
+EachGives command (Ok completeness) = (complete : Bool) × (listed : ℕ) × AllEndSo command (length command.files.items + listed) complete
+    × (command.list ≡ None → listed ≡ 0) × (completeness ≡ completeness_of complete)
 EachGives command (Err fault) = IsOutside fault
 
 -- ---- what is said
+
+-- every page of a file has its end, and no row is repaired or missing: `decode` writes nothing of any page
+abbrev pub ends_whole : FileEnd → Bool
+ends_whole (file.Whole pages) = true
+ends_whole end = false
+
+-- the fault with which a file ends
+abbrev pub fault_of : FileEnd → Option ToolFault
+fault_of (file.Cut number row fault) = Some fault
+fault_of (file.Lost number fault) = Some fault
+fault_of (file.NotWritten number fault) = Some fault
+fault_of (file.Failed fault) = Some fault
+fault_of end = None
 
 -- what is said of a file
 abbrev pub end_text : FileEnd → List ℕ
 end_text (file.Whole pages) = codes "whole " ++ (decimal pages ++ codes " pages")
 end_text (file.NoEnd pages) = decimal pages ++ codes " pages, and one or more has no end"
-end_text (file.Repaired number rows repaired) = codes "repaired " ++ (decimal repaired ++ (codes " rows of page "
+end_text (file.More pages) = decimal pages ++ codes " pages, and more follow that weren't asked for"
+end_text (file.Repaired number repaired) = codes "repaired " ++ (decimal repaired ++ (codes " rows of page "
     ++ (decimal number ++ codes "; a page after it is not looked for")))
 end_text (file.Cut number row fault) = codes "cut at row " ++ (decimal row ++ (codes " of page " ++ (decimal number
     ++ (codes ": " ++ fault_text fault))))
+end_text (file.Lost number fault) = codes "page " ++ (decimal number ++ (codes " is not read: " ++ fault_text fault))
+end_text (file.NotWritten number fault) = codes "page " ++ (decimal number ++ (codes " is not written: " ++ fault_text fault))
 end_text (file.NoFax name) = codes "no fax: " ++ name.now
 end_text file.NoWidth = codes "the width is not known"
 end_text file.Nothing = codes "not read: identify may tell what it is"
+end_text file.NoText = codes "its name isn't UTF-8"
 end_text (file.Failed fault) = fault_text fault
 
--- the record of a file of this name
-abbrev pub end_record : List ℕ → FileEnd → Data
-end_record name end = object (member (codes "file") (words name) (member (codes "is") (words (end_text end))
+-- the words of a fault under the line of its file, if they are shown
+abbrev pub words_line : Option (List ℕ) → List ℕ
+words_line None = []
+words_line (Some text) = codes "    " ++ (text ++ codes "\n")
+
+-- the line of a file of this name, and under it, each after four spaces, what is reported of its pages and the words of its fault
+abbrev pub each_text : List ℕ → FileEnd → List ℕ → Option (List ℕ) → List ℕ
+each_text name end told text = (shown_name name ++ (codes ": " ++ (end_text end ++ codes "\n")))
+    ++ (with_front (codes "    ") told ++ words_line text)
+
+-- the record of a file without a fault, or whose words aren't shown: without `says` if nothing is reported of its pages
+abbrev pub plain_record : List ℕ → FileEnd → List ℕ → Bool → Data
+plain_record name end told true = object (member (codes "file") (words name) (member (codes "is") (words (end_text end))
     (member (codes "whole") (boolean (ends_whole end)) no_members)))
+plain_record name end told false = object (member (codes "file") (words name) (member (codes "is") (words (end_text end))
+    (member (codes "says") (words told) (member (codes "whole") (boolean (ends_whole end)) no_members))))
+
+-- the record of a file with a fault of this number and these words, of whose pages something is reported
+abbrev pub said_record : ℕ → List ℕ → List ℕ → List ℕ → Bool → List ℕ → Data
+said_record number name is told whole text = object (member (codes "fault") (count number) (member (codes "file") (words name)
+    (member (codes "is") (words is) (member (codes "says") (words told) (member (codes "whole") (boolean whole)
+    (member (codes "words") (words text) no_members))))))
+
+-- the record of a file with a fault of this number and these words
+abbrev pub fault_record : List ℕ → FileEnd → List ℕ → ℕ → List ℕ → Bool → Data
+fault_record name end told number text true = object (member (codes "fault") (count number) (member (codes "file") (words name)
+    (member (codes "is") (words (end_text end)) (member (codes "whole") (boolean (ends_whole end))
+    (member (codes "words") (words text) no_members)))))
+fault_record name end told number text false = said_record number name (end_text end) told (ends_whole end) text
+
+-- the record of a file by its fault and that fault's words, if both are there
+abbrev pub record_by : List ℕ → FileEnd → List ℕ → Option ToolFault → Option (List ℕ) → Data
+record_by name end told (Some fault) (Some text) = fault_record name end told (number_of (kind_of fault)) text (is_silent told)
+record_by name end told fault text = plain_record name end told (is_silent told)
+
+-- the record of a file of this name, without its pages
+abbrev pub file_record : List ℕ → FileEnd → List ℕ → Option (List ℕ) → Data
+file_record name end told text = record_by name end told (fault_of end) text
+
+-- the format of a file that isn't read, if it is known
+abbrev pub not_read : FileEnd → Data
+not_read (file.NoFax name) = words name.now
+not_read end = null
+
+-- the records of the pages of a file that are read in a way; without one it has none
+abbrev pub pages_in : Option PageForm → List PageFacts → Data
+pages_in None pages = array no_items
+pages_in (Some form) pages = page_records form pages
+
+-- a record with the format of a file that isn't read, and with its pages
+abbrev pub with_pages : Data → Data → Data → Data
+with_pages format pages (object members) = object (put (codes "pages") pages (put (codes "not_read") format members))
+with_pages format pages other = other
+
+-- the record of a file of this name
+abbrev pub each_record : List ℕ → FileReport → Option (List ℕ) → Data
+each_record name report text = with_pages (not_read report.end) (pages_in report.form report.pages.items)
+    (file_record name report.end report.told.items text)

@@ -1,14 +1,13 @@
 -- Which files each command reads and writes, in the order in which they are added.
-use Rattle.std.specs.Prelude.{ℕ, ◌++◌, ◌∷◌, [], List, Option, String, cond, codes, flat_map, option_map, string_bytes, unwrap_or}
-use Rattle.std.specs.Path.{path_file_name}
-use Rattle.std.specs.Str.{bytes_eq}
-use Rattle.command_files.specs.Apart.{NamedFile, bits_in, first_page_in, may_be_written, printed, read_as, written_as}
+use Rattle.std.specs.Prelude.{ℕ, ◌++◌, ◌∷◌, [], List, Option, Some, None, String, codes, flat_map, option_map, string_bytes}
+use Rattle.command_files.specs.Apart.{NamedFile, bits_in, may_be_written, printed, read_as, written_as}
 use Rattle.commands.specs.declared.call.CallFiles.{CallFiles}
 use Rattle.commands.specs.declared.call.ScriptCommand.{ScriptCommand}
 use Rattle.commands.specs.declared.call.drives.DriveCommand.{DriveCommand}
 use Rattle.commands.specs.declared.code.CodeCommand.{CodeCommand}
 use Rattle.commands.specs.declared.decode.DecodeCommand.{DecodeCommand}
 use Rattle.commands.specs.declared.decode.each.EachCommand.{EachCommand}
+use Rattle.commands.specs.declared.decode.each.listed.NameList.{NameList}
 use Rattle.commands.specs.declared.frames.FramesCommand.{FramesCommand}
 use Rattle.commands.specs.declared.frames.two_captures.CapturesCommand.{CapturesCommand}
 use Rattle.commands.specs.declared.identify.IdentifyCommand.{IdentifyCommand}
@@ -57,18 +56,14 @@ captures_files command = read_as (codes "--caller") (string_bytes command.caller
     ∷ read_as (codes "--answerer") (string_bytes command.answerer)
     ∷ written_as (codes "--diagram") (string_bytes command.diagram) ∷ []
 
--- a file's name without its folders
-abbrev pub base_name : List ℕ → List ℕ
-base_name name = cond (bytes_eq name (codes "-")) (codes "stdin") (unwrap_or (path_file_name name) name)
+-- the list of the names of more files, if there is one
+abbrev pub list_read : Option NameList → List NamedFile
+list_read None = []
+list_read (Some list) = read_as (codes "--from") (string_bytes list.file) ∷ []
 
--- a file, and then that of its first page
-abbrev pub file_and_page : {Z : Type 0} → List ℕ → String Z → List NamedFile
-file_and_page folder name =
-    read_as (codes "FILE") (string_bytes name) ∷ first_page_in folder (base_name (string_bytes name)) ∷ []
-
--- the files of `decode --each`
+-- the files of `decode --each`: its images aren't among them, since none takes the place of a file
 abbrev pub each_files : EachCommand → List NamedFile
-each_files command = flat_map (file_and_page (string_bytes command.folder)) command.files.items
+each_files command = flat_map file_read command.files.items ++ list_read command.list
 
 -- the files of a call: that of its document, those of its pages, of its picture and of its octets if they are named, and what is printed
 abbrev pub call_files : List ℕ → Option (List ℕ) → Option (List ℕ) → Option (List ℕ) → List NamedFile

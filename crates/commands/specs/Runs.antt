@@ -12,7 +12,7 @@ use Rattle.calls.specs.Calls.{LeavesCall, RefusesCall}
 use Rattle.calls.specs.Ends.{ended_normally}
 use Rattle.calls.specs.SentBits.{Written}
 use Rattle.line_sim.specs.declared.live.Ending.{Ending}
-use Rattle.faults.specs.Faults.{IsOutside}
+use Rattle.faults.specs.Faults.{IsOutside, IsUnread}
 use Rattle.faults.specs.declared.fault.ToolFault.{ToolFault}
 use Rattle.command_files.specs.Runs.{completeness_of}
 use Rattle.page_files.specs.CodedPages.{AppendsCode, RefusesShow, ShowsPage}
@@ -46,7 +46,7 @@ shown_form command = record { coding = command.coding; order = command.order; wi
 abbrev pub ShowGives : ShowCommand → Result Completeness ToolFault → Type 0
 ShowGives command (Ok completeness) = (completeness ≡ Whole)
     × ((octets : List ℕ) × (before after : Option (List ℕ)) × ShowsPage command.coding command.order command.width before after octets)
-ShowGives command (Err fault) = IsOutside fault
+ShowGives command (Err fault) = IsUnread fault
     ⊎ ((octets : List ℕ) × RefusesShow command.coding command.order command.width octets fault)
 
 -- the page with the number that is asked for was decoded as the options ask, with this end
@@ -57,7 +57,7 @@ IsAnswered command end = (octets later : List ℕ) × (page : PagePixels) × (to
 -- the page was decoded, with the end that the engine says; or reading, writing or memory failed
 abbrev pub DecodeGives : DecodeCommand → Result Completeness ToolFault → Type 0
 DecodeGives command (Ok completeness) = (complete : Bool) × (completeness ≡ completeness_of complete) × IsAnswered command (Ok complete)
-DecodeGives command (Err fault) = IsOutside fault ⊎ IsAnswered command (Err fault)
+DecodeGives command (Err fault) = IsUnread fault ⊎ IsAnswered command (Err fault)
 
 -- the file was identified as this
 abbrev pub IsIdentified : Identity → Type 0
@@ -67,7 +67,7 @@ IsIdentified identity = (octets : List ℕ) × (before after : Option (List ℕ)
 abbrev pub IdentifyGives : Result Completeness ToolFault → Type 0
 IdentifyGives (Ok Whole) = IsIdentified Known
 IdentifyGives (Ok Lacking) = IsIdentified Several
-IdentifyGives (Err fault) = IsOutside fault ⊎ IsIdentified (Nothing fault)
+IdentifyGives (Err fault) = IsUnread fault ⊎ IsIdentified (Nothing fault)
 
 -- ---- calls
 
@@ -87,7 +87,7 @@ IsScripted command ending = (script images : List ℕ) × (before after : Writte
 
 -- no call by a script was run to its end
 abbrev pub IsUnscripted : ScriptCommand → ToolFault → Type 0
-IsUnscripted command fault = IsOutside fault
+IsUnscripted command fault = IsUnread fault
     ⊎ ((script images : List ℕ) × RefusesCall command.options.fine script images fault)
 
 -- a call by a script was run and ended so, or it was refused

@@ -1,18 +1,25 @@
 -- What `identify` of several files gives: whether it is known what each of them is.
-use Rattle.std.specs.Prelude.{ℕ, zero, suc, ◌≡◌, ◌⊎◌, ◌&&◌, Bool, true, false, List, Result, Ok, Err, length}
+use Rattle.std.specs.Prelude.{ℕ, zero, suc, ◌≡◌, ◌⊎◌, ◌&&◌, Bool, true, false, List, Option, Some, None, Result, Ok, Err, codes}
+use Rattle.std.specs.Prelude.{if◌then◌else◌, length, unwrap_or}
+use Rattle.serde_json.specs.Data.{Data, Members, null, object, put}
 use Rattle.command_files.specs.Runs.{completeness_of}
 use Rattle.command_files.specs.declared.command.Completeness.{Completeness}
+use Rattle.commands.specs.Damaged.{is_damaged_page}
+use Rattle.commands.specs.PageFacts.{code_word, maybe_count, order_word}
 use Rattle.commands.specs.declared.identify.several.SeveralCommand.{SeveralCommand}
 use Rattle.faults.specs.Faults.{IsOutside}
+use Rattle.faults.specs.RecordLines.{count, words}
 use Rattle.faults.specs.declared.fault.ToolFault.{ToolFault}
 use Rattle.page_files.specs.Found.{Finds}
 use Rattle.page_files.specs.declared.found.Found.{Found}
 use Rattle.page_files.specs.declared.found.Found.TheVariants as found
+use Rattle.page_files.specs.declared.identify.Tried.{Tried}
 
 -- it is known what octets are: a format, or a page that reads in one way
 abbrev pub is_known : Found → Bool
 is_known (found.Format name) = true
 is_known (found.Page way) = true
+is_known (found.Begun way) = false
 is_known found.Several = false
 is_known found.Nothing = false
 
@@ -30,3 +37,44 @@ abbrev pub SeveralGives : SeveralCommand → Result Completeness ToolFault → T
 SeveralGives command (Ok completeness) = (known : Bool) × AreKnownSo (length command.files.items) known
     × (completeness ≡ completeness_of known)
 SeveralGives command (Err fault) = IsOutside fault
+
+-- ---- records
+
+-- the way in which octets are read as a page, if they are one, or a damaged one
+abbrev pub way_of : Found → Option Tried
+way_of (found.Format name) = None
+way_of (found.Page way) = Some way
+way_of (found.Begun way) = if is_damaged_page way then Some way else None
+way_of found.Several = None
+way_of found.Nothing = None
+
+-- the name of the format of octets that aren't read
+abbrev pub format_of : Found → Data
+format_of (found.Format name) = words name.now
+format_of (found.Page way) = null
+format_of (found.Begun way) = null
+format_of found.Several = null
+format_of found.Nothing = null
+
+-- the bits of a page's code, if it is read to its end
+abbrev pub bits_in : Result ℕ ToolFault → Option ℕ
+bits_in (Ok bits) = Some bits
+bits_in (Err fault) = None
+
+-- members with the way in which octets are read: its code and order as options have them, the page's width in pixels, its rows, as many as
+-- `decode --repair` reads if that copies none, and the bits of its code; null if they are no page
+abbrev pub with_way_found : Option Tried → Members → Members
+with_way_found None members = put (codes "width") null (put (codes "rows") null (put (codes "order") null
+    (put (codes "code") null (put (codes "bits") null members))))
+with_way_found (Some way) members = put (codes "width") (count way.form.width)
+    (put (codes "rows") (count (unwrap_or way.mended way.rows)) (put (codes "order") (words (order_word way.form.order))
+    (put (codes "code") (words (code_word way.form.coding)) (put (codes "bits") (maybe_count (bits_in way.end)) members))))
+
+-- members with what octets are
+abbrev pub with_found : Found → Members → Members
+with_found what members = put (codes "not_read") (format_of what) (with_way_found (way_of what) members)
+
+-- a record with what octets are
+abbrev pub record_with_found : Found → Data → Data
+record_with_found what (object members) = object (with_found what members)
+record_with_found what other = other

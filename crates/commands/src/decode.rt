@@ -1,6 +1,7 @@
 //! The command `decode`.
 
-ghost use Rattle.faults.specs.Faults.{IsOutside};
+ghost use Rattle.command_files.specs.Bounds.{HavePageWidths};
+ghost use Rattle.faults.specs.Faults.{IsUnread};
 ghost use Rattle.commands.specs.Runs.{IsAnswered};
 ghost use Rattle.raster.specs.Pixels.{IsWidth};
 ghost use Rattle.std.specs.Prelude.{IfErr, IfOk};
@@ -71,7 +72,7 @@ impl Runs for DecodeCommand {
         if !page.rows().is_empty() {
             save_images(context, self.output.as_str(), slice::from_ref(&page))?;
         }
-        context.rt().stderr().write_all(told.as_slice())?;
+        context.streams().tell(told.as_slice())?;
         match end {
             Ok(is_complete) => Ok(Completeness::of(is_complete)),
             Err(fault) => Err(fault),
@@ -80,14 +81,24 @@ impl Runs for DecodeCommand {
 }
 
 impl DecodeCommand {
+    /// The way in which the file is read: only the first page, if that is asked for.
+    fn ways(&self) -> Ways
+        requires { IsWidth self.now.form.width }
+        ensures { HavePageWidths result }
+    {
+        match Ways::of(self.form, self.options.repair) {
+            Ways::One(form) if self.page == 1 => Ways::First(form),
+            ways => ways,
+        }
+    }
+
     /// Reads the file and decodes the page.
     fn answer(&self, context: &mut Context<'_>) -> Result<DecodeAnswer, ToolFault>
         requires { IsWidth self.now.form.width }
         ensures answered { IfOk result (λ answer. IsAnswered self.now answer.end) }
-        ensures refused { IfErr result IsOutside }
+        ensures refused { IfErr result IsUnread }
     {
-        let ways = Ways::of(self.form, self.options.repair);
-        let mut octets = read_coded(context, self.input.as_str(), ways, Watch::Shown)?;
+        let mut octets = read_coded(context, self.input.as_str(), self.ways(), Watch::Shown)?;
         let mut kept = None;
         let alloc = context.alloc();
         let answer = answer_page(

@@ -16,10 +16,12 @@ use captures::{
 };
 use command_files::command::{Completeness, NO_NAMES, Names, Runs, both};
 use command_files::context::{Context, Part};
+use command_files::error_line::ErrorLine;
 use command_files::files::apart::CommandFiles;
 use command_files::files::images::store_page;
 use command_files::files::input::{self, Source};
 use command_files::files::output::Rights;
+use command_files::files::printed::say;
 use command_files::files::progress::Watch;
 use command_files::files::{output, printed};
 use command_files::notices::notice;
@@ -223,6 +225,27 @@ fn say_no_pages(context: &Context<'_>, lines: u64) -> Result<(), ToolFault>
     notice(context, words)
 }
 
+/// Tells on standard output which file a page is in, or the rows of a page before a gap. Errors: `Io` (8) if it can't be written, and that is
+/// noted; `NoMemory` (9).
+fn tell_stored(
+    context: &mut Context<'_>,
+    form: ListForm,
+    stored: &Stored<'_>,
+    is_front: bool,
+) -> Result<(), ToolFault>
+    ensures { IfErr result IsOutside }
+{
+    let alloc = context.alloc();
+    let mut line = Vec::new(alloc);
+    match (form == ListForm::Records, is_front) {
+        (true, true) => write_stored_front(alloc, stored, &mut line)?,
+        (true, false) => write_stored(alloc, stored, &mut line)?,
+        (false, true) => writeln!(line, "{}", StoredFront(*stored))?,
+        (false, false) => writeln!(line, "{stored}")?,
+    }
+    say(context, line.as_slice())
+}
+
 /// The folder that the pages in a capture are written into, and what was found so far.
 #[derive(Drop)]
 struct Folder<'a, 'b> {
@@ -249,7 +272,9 @@ impl FoundStore for Folder<'_, '_> {
             | Captured::MissingBlocks(_)
             | Captured::Unfinished
             | Captured::BlockBeforeDcs(_)
-            | Captured::BlockAfterEnd { .. } => self.name_missing(&found),
+            | Captured::BlockAfterEnd { .. }
+            | Captured::MissingAfter { .. }
+            | Captured::UsedNumber { .. } => self.name_missing(&found),
         }
     }
 }
@@ -288,54 +313,20 @@ impl Folder<'_, '_> {
             numbers: self.numbers,
             page: &page,
         };
-        if is_front {
-            return self.tell_front(stored);
-        }
-        self.tell_stored(&stored)
-    }
-
-    /// Tells on standard output which file the rows of a page before a gap are in.
-    fn tell_front(&self, stored: Stored<'_>) -> Result<(), ToolFault>
-        ensures { IfErr result IsOutside }
-    {
-        if self.form == ListForm::Records {
-            return write_stored_front(
-                self.context.rt().alloc(),
-                &stored,
-                &mut self.context.rt().stdout(),
-            );
-        }
-        println!(self.context.rt(); "{}", StoredFront(stored))?;
-        Ok(())
-    }
-
-    /// Tells on standard output which file a page is in.
-    fn tell_stored(&self, stored: &Stored<'_>) -> Result<(), ToolFault>
-        ensures { IfErr result IsOutside }
-    {
-        if self.form == ListForm::Records {
-            return write_stored(
-                self.context.rt().alloc(),
-                stored,
-                &mut self.context.rt().stdout(),
-            );
-        }
-        println!(self.context.rt(); "{stored}")?;
-        Ok(())
+        tell_stored(self.context, self.form, &stored, is_front)
     }
 
     /// Tells on standard error what is missing of a page.
     fn tell_missing(&self, found: &Captured) -> Result<(), ToolFault>
         ensures { IfErr result IsOutside }
     {
+        let mut line = ErrorLine::new(self.context.streams());
         if self.form == ListForm::Records {
-            return write_missing(
-                self.context.rt().alloc(),
-                found,
-                &mut self.context.rt().stderr(),
-            );
+            write_missing(self.context.alloc(), found, &mut line)?;
+        } else {
+            writeln!(line, "{}", Missing(found))?;
         }
-        eprintln!(self.context.rt(); "{}", Missing(found))?;
+        line.flush()?;
         Ok(())
     }
 

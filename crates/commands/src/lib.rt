@@ -3,8 +3,12 @@
 
 pub mod call;
 pub mod code;
+mod damaged;
 pub mod decode;
 pub mod frames;
 pub mod identify;
+pub mod laws;
+pub mod names;
 pub mod show;
 pub mod version;
+pub mod words;

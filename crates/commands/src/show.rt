@@ -71,7 +71,12 @@ impl Runs for ShowCommand {
 
     fn run(&self, context: &mut Context<'_>) -> Result<Completeness, ToolFault> {
         let form = self.form();
-        let octets = read_coded(context, self.input.as_str(), Ways::One(form), Watch::Silent)?;
+        let octets = read_coded(
+            context,
+            self.input.as_str(),
+            Ways::First(form),
+            Watch::Silent,
+        )?;
         let mut writer = printed::print(context)?;
         let mut kept = None;
         let shown = show_page(context.alloc(), &octets, form, &mut kept, &mut writer);

@@ -1,61 +1,58 @@
 //! The command `decode --each`: every page of many files.
 
-ghost use Rattle.faults.specs.Faults.{IsOutside};
-ghost use Rattle.commands.specs.Each.{EndsSo};
-ghost use Rattle.commands.specs.Files.{base_name};
-ghost use Rattle.commands.specs.Each.{EndsAs, EndsFound, EndsRefused, IsDecodedSo, IsFileEnd, IsPageEnd, IsReadTo, file_end};
-ghost use Rattle.page_files.specs.Decodings.{broken_asked};
+ghost use Rattle.command_files.specs.Apart.{AddsFiles};
+ghost use Rattle.commands.specs.Files.{file_read, list_read};
+ghost use Rattle.commands.specs.Each.{AllEndSo, EndsFound, EndsIn, IsFileReport, IsReported, as_lines, asks_damaged, lined};
+ghost use Rattle.faults.specs.Faults.{IsOutside, IsUnread};
 ghost use Rattle.page_files.specs.Found.{Finds};
 ghost use Rattle.page_files.specs.declared.found.Found.{Found as FoundValue};
 ghost use Rattle.raster.specs.Pixels.{IsWidth};
-ghost use Rattle.std.specs.Prelude.{◌≡◌, ◌<◌, ◌^◌, IfErr, IfOk, IfSome, length};
+ghost use Rattle.std.specs.Prelude.{◌≡◌, ◌+◌, ℕ, List, IfErr, IfOk, IfSome, None, OnOk, flat_map, length};
 
+pub(crate) mod facts;
+mod listed;
+mod pages;
+mod places;
+mod report;
+
+use crate::damaged::is_taken;
+pub use crate::decode::each::listed::NameList;
+use crate::decode::each::listed::Names as ListedNames;
+use crate::decode::each::pages::{PagesOf, decode_pages};
+use crate::decode::each::places::{page_name, place_under};
+use crate::decode::each::report::{FileReport, tell_report};
 use crate::decode::ends::FileEnd;
+use crate::names::is_untold;
+use crate::words::{context_of_file, words_of_file};
 use command_files::command::{Completeness, NO_NAMES, Names, Runs, both};
 use command_files::context::{Context, Part};
-use command_files::files::STANDARD;
 use command_files::files::apart::CommandFiles;
 use command_files::files::bounded::{Ways, read_coded};
-use command_files::files::images::save_images;
-use command_files::files::output::check_folder;
-use command_files::files::printed::say;
+use command_files::files::output::{check_folder, sync_names};
 use command_files::files::progress::Watch;
-use faults::{FAILED, ToolFault, write_record};
-use page_code::RefusedCode;
-use page_files::{
-    Broken, DecodeOptions, Decoded, Found, PageForm, ReadTo, decode_page, find_way, has_its_end,
-    skip_page,
-};
-use raster::Page;
-use std::alloc::{AllocError, Global};
-use std::io::Write;
-use std::path::Path;
-use std::slice;
+use faults::{FAILED, ToolFault};
+use page_files::{DecodeOptions, Found, PageForm, find_way};
+use std::alloc::AllocError;
 
 /// Writes every page of many files as images.
 #[derive(Debug, PartialEq, Eq, Drop)]
 pub struct EachCommand {
     /// How all pages are read; as `identify` says it of each file, if that isn't given.
     pub form: Option<PageForm>,
-    /// What is asked for of each page.
+    /// Whether the lines of pages that are read as `identify` says it are fine, 7.7 a millimeter, and not standard, 3.85.
+    pub fine: bool,
+    /// What is asked for of each page. With both, a page that can't be repaired is salvaged.
     pub options: DecodeOptions,
     /// The name of the folder of the images.
     pub folder: String,
     /// The names of the files.
     pub files: Vec<String>,
-}
-
-/// The end of a page of a file.
-#[derive(Clone, Copy, Debug, PartialEq, Eq)]
-pub(crate) enum PageEnd {
-    /// It was read to its end, which its code has or not.
-    Read(bool),
-    /// It was read to its last row; its EOFB is missing or broken.
-    NoEofb,
-    /// It was read line by line; it has so many rows, and so many of them are repaired.
-    Repaired(usize, usize),
-    /// It was read up to a row, in which it is refused.
-    Cut(usize, ToolFault),
+    /// The list with the names of more files, if there is one.
+    pub list: Option<NameList>,
+    /// Whether an image that is there already, with the same octets, counts as written.
+    pub resume: bool,
+    /// The most pages of a file.
+    pub most_pages: u32,
 }
 
 impl Runs for EachCommand {
@@ -72,17 +69,15 @@ impl Runs for EachCommand {
     fn names(&self) -> Names<'_> {
         Names {
             output: Some(self.folder.as_str()),
+            script: self.list.as_ref().map(|list| list.file.as_str()),
             ..NO_NAMES
         }
     }
 
-    // Files of one name in several folders would be written over one another: their first pages are the same file.
+    // The images aren't among them: each gets a name at which nothing is.
     fn add_files(&self, files: &mut CommandFiles<'_>) -> Result<(), AllocError> {
-        for name in &self.files {
-            files.reads("FILE", name.as_str())?;
-            files.writes_in(self.folder.as_str(), base_of(name.as_str()))?;
-        }
-        Ok(())
+        self.add_named(files)?;
+        self.add_list(files)
     }
 
     fn page(&self) -> Option<PageForm> {
@@ -94,261 +89,255 @@ impl Runs for EachCommand {
         check_folder(context, self.folder.as_str(), Part::Output)?;
         let mut is_complete = true;
         for name in &self.files {
-            let end = self.end_of_file(context, name.as_str());
-            tell_end(context, name.as_str(), end)?;
-            is_complete = both(is_complete, end.is_whole());
+            let is_done = self.do_file(context, name.as_str())?;
+            is_complete = both(is_complete, is_done);
         }
-        Ok(Completeness::of(is_complete))
+        let are_complete = self.do_listed(context, is_complete)?;
+        Ok(Completeness::of(are_complete))
     }
-}
-
-/// Returns a file's name without its folders.
-fn base_of(name: &str) -> &str
-    ensures { result.now ≡ base_name name.now }
-{
-    if name == STANDARD {
-        return "stdin";
-    }
-    Path::new(name).file_name().unwrap_or(name)
-}
-
-/// Prints the line, or the record, of a file. Errors: `Io` (8) if it can't be printed, `NoMemory` (9).
-fn tell_end(context: &mut Context<'_>, name: &str, end: FileEnd) -> Result<(), ToolFault>
-    ensures { IfErr result IsOutside }
-{
-    let alloc = context.alloc();
-    let mut line = Vec::new(alloc);
-    if context.is_json() {
-        let record = end.record(alloc, name)?;
-        write_record(alloc, &record, &mut line)?;
-    } else {
-        writeln!(line, "{name}: {end}")?;
-    }
-    say(context, line.as_slice())
 }
 
 impl EachCommand {
-    /// Decodes every page of a file, and returns its end, also if it fails.
-    fn end_of_file(&self, context: &mut Context<'_>, name: &str) -> FileEnd
-        requires { IfSome self.now.form (λ form. IsWidth form.width) }
-        ensures { EndsSo self.now result }
+    /// Adds the files that are named. Errors: memory was refused.
+    fn add_named(&self, files: &mut CommandFiles<'_>) -> Result<(), AllocError>
+        ensures { OnOk result (AddsFiles (flat_map file_read self.now.files.items) files.old.files.items files.new.files.items) }
     {
-        match self.decode_file(context, name) {
-            Ok(end) => end,
-            Err(fault) => FileEnd::Failed(fault),
+        for name in &self.files {
+            files.reads("FILE", name.as_str())?;
+        }
+        Ok(())
+    }
+
+    /// Adds the list, if there is one. Errors: memory was refused.
+    fn add_list(&self, files: &mut CommandFiles<'_>) -> Result<(), AllocError>
+        ensures { OnOk result (AddsFiles (list_read self.now.list) files.old.files.items files.new.files.items) }
+    {
+        match &self.list {
+            Some(list) => files.reads("--from", list.file.as_str()),
+            None => Ok(()),
         }
     }
 
-    /// Decodes every page of a file. Errors: `Io` (8) if it can't be read or a page not written, and that is noted; `NoMemory` (9); the
-    /// fault of a page that can't be repaired.
-    fn decode_file(&self, context: &mut Context<'_>, name: &str) -> Result<FileEnd, ToolFault>
+    /// Does the files of the list, if there is one, after those before it, and returns whether all are complete. Errors: those of `do_list`.
+    fn do_listed(&self, context: &mut Context<'_>, before: bool) -> Result<bool, ToolFault>
         requires { IfSome self.now.form (λ form. IsWidth form.width) }
-        ensures { IfOk result (IsFileEnd self.now) }
+        ensures complete { (files : ℕ) → AllEndSo self.now files before → IfOk result (λ complete. (listed : ℕ)
+            × AllEndSo self.now (files + listed) complete × (self.now.list ≡ None → listed ≡ 0)) }
+        ensures fault { IfErr result IsOutside }
+    {
+        match &self.list {
+            Some(list) => {
+                let are_complete = self.do_list(context, list, before)?;
+                Ok(are_complete)
+            }
+            None => Ok(before),
+        }
+    }
+
+    /// Does a file of a list, unless the name is empty, after those before it, and returns whether all are complete. Errors: those of
+    /// `do_file`.
+    fn do_next(
+        &self,
+        context: &mut Context<'_>,
+        name: &str,
+        before: bool,
+    ) -> Result<bool, ToolFault>
+        requires { IfSome self.now.form (λ form. IsWidth form.width) }
+        ensures complete { (files : ℕ) → AllEndSo self.now files before
+            → IfOk result (λ complete. (listed : ℕ) × AllEndSo self.now (files + listed) complete) }
+        ensures fault { IfErr result IsOutside }
+    {
+        if name.is_empty() {
+            return Ok(before);
+        }
+        let is_done = self.do_file(context, name)?;
+        Ok(both(before, is_done))
+    }
+
+    /// Does the files of a list after those before it, and returns whether all are complete. Errors: `Io` (8) if the list can't be read,
+    /// and that is noted, or if something can't be printed; `NoMemory` (9).
+    fn do_list(
+        &self,
+        context: &mut Context<'_>,
+        list: &NameList,
+        before: bool,
+    ) -> Result<bool, ToolFault>
+        requires { IfSome self.now.form (λ form. IsWidth form.width) }
+        ensures complete { (files : ℕ) → AllEndSo self.now files before
+            → IfOk result (λ complete. (listed : ℕ) × AllEndSo self.now (files + listed) complete) }
+        ensures fault { IfErr result IsOutside }
+    {
+        let mut names = ListedNames::open(context, list)?;
+        let mut is_complete = before;
+        for _before in 0..u64::MAX {
+            let Some(name) = names.next_in(context)? else {
+                return Ok(is_complete);
+            };
+            let is_done = self.do_next(context, name.as_str(), is_complete)?;
+            is_complete = is_done;
+        }
+        // no list has so many names
+        Err(FAILED)
+    }
+
+    /// Decodes every page of a file, prints what is reported of it, and returns whether that is complete. Errors: `Io` (8) if it can't be
+    /// printed, `NoMemory` (9).
+    fn do_file(&self, context: &mut Context<'_>, name: &str) -> Result<bool, ToolFault>
+        requires { IfSome self.now.form (λ form. IsWidth form.width) }
+        ensures complete { IfOk result (IsReported self.now) }
+        ensures fault { IfErr result IsOutside }
+    {
+        let mut own = context_of_file(context);
+        let report = self.decode_file(&mut own, name);
+        let words = self.words_of(&own, name, &report)?;
+        tell_report(context, name, &report, words.as_deref())?;
+        Ok(report.is_complete)
+    }
+
+    /// Returns the fault of a file in words, if it has one and they are shown. Errors: memory was refused.
+    fn words_of(
+        &self,
+        own: &Context<'_>,
+        name: &str,
+        report: &FileReport,
+    ) -> Result<Option<String>, AllocError>
+        requires { IfSome report.now.form (λ form. IsWidth form.width) }
+    {
+        let alloc = own.alloc();
+        let Some(fault) = report.end.fault() else {
+            return Ok(None);
+        };
+        match report.end {
+            FileEnd::NotWritten { page, fault: _ } => {
+                let place = place_under(alloc, self.folder.as_str(), name)?;
+                let image = page_name(alloc, place.as_str(), page)?;
+                words_of_file(own, None, image.as_str(), fault)
+            }
+            _ => words_of_file(own, report.form, name, fault),
+        }
+    }
+
+    /// Decodes every page of a file, and returns what is reported of it, also if it fails.
+    fn decode_file(&self, own: &mut Context<'_>, name: &str) -> FileReport
+        requires { IfSome self.now.form (λ form. IsWidth form.width) }
+        ensures report { IsFileReport self.now result }
+        ensures form { IfSome result.form (λ form. IsWidth form.width) }
+    {
+        if is_untold(name) {
+            return FileReport::of(own.alloc(), FileEnd::NoText);
+        }
+        match self.read_file(own, name) {
+            Ok(report) => report,
+            Err(fault) => FileReport::of(own.alloc(), FileEnd::Failed(fault)),
+        }
+    }
+
+    /// Reads a file and decodes every page of it. Errors: `Io` (8) if it can't be read, and that is noted; `TooManyOctets` (32);
+    /// `NoMemory` (9).
+    fn read_file(&self, own: &mut Context<'_>, name: &str) -> Result<FileReport, ToolFault>
+        requires { IfSome self.now.form (λ form. IsWidth form.width) }
+        ensures report { IfOk result (λ report. (octets : List ℕ) × EndsIn self.now self.now.form octets report) }
+        ensures form { IfOk result (λ report. IfSome report.form (λ form. IsWidth form.width)) }
+        ensures fault { IfErr result IsUnread }
     {
         let ways = match self.form {
             Some(form) => Ways::of(form, self.options.repair),
             None => Ways::Tried,
         };
-        let mut octets = read_coded(context, name, ways, Watch::Shown)?;
+        let octets = read_coded(own, name, ways, Watch::Shown)?;
+        let place = place_under(own.alloc(), self.folder.as_str(), name)?;
+        let report = self.read_pages(own, place.as_str(), octets)?;
+        if report.has_image() {
+            sync_names(own, place.as_str(), Part::Output)?;
+        }
+        Ok(report)
+    }
+
+    /// Decodes every page of octets, in the way that is given, or else as `identify` says them. Errors: `NoMemory` (9).
+    fn read_pages(
+        &self,
+        own: &mut Context<'_>,
+        place: &str,
+        octets: Vec<u8>,
+    ) -> Result<FileReport, ToolFault>
+        requires { IfSome self.now.form (λ form. IsWidth form.width) }
+        ensures report { IfOk result (EndsIn self.now self.now.form octets.items) }
+        ensures form { IfOk result (λ report. IfSome report.form (λ form. IsWidth form.width)) }
+        ensures fault { IfErr result IsOutside }
+    {
         match self.form {
             Some(form) => {
-                let end = self.decode_pages(context, base_of(name), &mut octets, form)?;
-                Ok(end)
+                let report = decode_pages(own, self.pages_of(place), octets, form)?;
+                Ok(report)
             }
             None => {
-                let end = self.decode_found(context, base_of(name), &mut octets)?;
-                Ok(end)
+                let report = self.decode_found(own, place, octets)?;
+                Ok(report)
             }
+        }
+    }
+
+    /// Where the images of a file's pages go, and what is asked for of each page.
+    fn pages_of<'a>(&'a self, place: &'a str) -> PagesOf<'a>
+        ensures options { result.options ≡ as_lines self.now.options }
+        ensures most { result.most ≡ self.now.most_pages }
+    {
+        PagesOf {
+            place,
+            options: DecodeOptions {
+                records: false,
+                ..self.options
+            },
+            resumes: self.resume,
+            most: self.most_pages,
         }
     }
 
     /// Decodes every page of octets as `identify` says them.
     fn decode_found(
         &self,
-        context: &mut Context<'_>,
-        base: &str,
-        octets: &mut Vec<u8>,
-    ) -> Result<FileEnd, ToolFault>
-        ensures { IfOk result (λ end. (what : FoundValue) × Finds octets.old.items what
-            × EndsFound self.now.options octets.old.items what end) }
+        own: &mut Context<'_>,
+        place: &str,
+        octets: Vec<u8>,
+    ) -> Result<FileReport, ToolFault>
+        ensures report { IfOk result (λ report. (what : FoundValue) × Finds octets.items what
+            × EndsFound self.now octets.items what report) }
+        ensures form { IfOk result (λ report. IfSome report.form (λ form. IsWidth form.width)) }
+        ensures fault { IfErr result IsOutside }
     {
-        match find_way(context.alloc(), octets.as_slice())? {
+        let alloc = own.alloc();
+        match find_way(alloc, octets.as_slice())? {
             Found::Page(way) => {
-                let end = self.decode_pages(context, base, octets, way.form)?;
-                Ok(end)
+                let form = self.lined(way.form);
+                let report = decode_pages(own, self.pages_of(place), octets, form)?;
+                Ok(report)
             }
-            Found::Format(name) => Ok(FileEnd::NoFax(name)),
-            Found::Several => Ok(FileEnd::NoWidth),
-            Found::Nothing => Ok(FileEnd::Nothing),
-        }
-    }
-
-    /// Decodes the pages that octets are, one after another, as long as it is known where the next one begins.
-    fn decode_pages(
-        &self,
-        context: &mut Context<'_>,
-        base: &str,
-        octets: &mut Vec<u8>,
-        form: PageForm,
-    ) -> Result<FileEnd, ToolFault>
-        requires { IsWidth form.width }
-        ensures { IfOk result (EndsAs self.now.options form octets.old.items) }
-    {
-        let mut have_ends = true;
-        for before in 0..u32::MAX - 1 {
-            let number = before + 1;
-            let end = self.decode_one(context, base, octets.as_slice(), form, number)?;
-            let PageEnd::Read(has_end) = end else {
-                return Ok(file_end(self.options, number, have_ends, end));
-            };
-            let more = skip_page(context.alloc(), octets, form, &mut None)?;
-            if !more {
-                return Ok(file_end(self.options, number, have_ends, end));
+            Found::Format(name) => Ok(FileReport::of(alloc, FileEnd::NoFax(name))),
+            Found::Several => Ok(FileReport::of(alloc, FileEnd::NoWidth)),
+            Found::Begun(way) if is_taken(self.asks_damaged(), &way) => {
+                let form = self.lined(way.form);
+                let report = decode_pages(own, self.pages_of(place), octets, form)?;
+                Ok(report)
             }
-            have_ends = both(have_ends, has_end);
+            Found::Begun(_) => Ok(FileReport::of(alloc, FileEnd::Nothing)),
+            Found::Nothing => Ok(FileReport::of(alloc, FileEnd::Nothing)),
         }
-        // no file has so many pages
-        Err(FAILED)
     }
 
-    /// Decodes the page that octets begin with, and writes its rows, if it has any, as the image of this number.
-    fn decode_one(
-        &self,
-        context: &mut Context<'_>,
-        base: &str,
-        octets: &[u8],
-        form: PageForm,
-        number: u32,
-    ) -> Result<PageEnd, ToolFault>
-        requires { IsWidth form.width }
-        ensures { IfOk result (IsPageEnd self.now.options form octets.now) }
+    /// Returns whether damaged pages are asked for.
+    fn asks_damaged(&self) -> bool
+        ensures { result ≡ asks_damaged self.now.options }
     {
-        let (page, end) = self.read_one(context.alloc(), octets, form)?;
-        if !page.rows().is_empty() {
-            let folder = self.folder.as_str();
-            let name = format!(in context.alloc(); "{folder}/{base}-{number}.pbm")?;
-            save_images(context, name.as_str(), slice::from_ref(&page))?;
-        }
-        Ok(end)
+        self.options.salvage || self.options.repair
     }
 
-    /// Returns the page that octets begin with, without a row if none is wanted, and its end. With `--repair` a page is repaired only if it
-    /// can't be read. Errors: the fault of a page that can't be repaired; `NoMemory` (9).
-    fn read_one(
-        &self,
-        alloc: Global,
-        octets: &[u8],
-        form: PageForm,
-    ) -> Result<(Page, PageEnd), ToolFault>
-        requires { IsWidth form.width }
-        ensures { IfOk result (λ read. IsPageEnd self.now.options form octets.now read.1) }
+    /// A way to read pages, with the lines that are asked for.
+    fn lined(&self, form: PageForm) -> PageForm
+        ensures { result ≡ lined self.now.fine form }
     {
-        let mut kept = None;
-        match decode_page(alloc, octets, form, Broken::Nothing, &mut kept) {
-            Ok(decoded) => Ok(read_end(self.options, octets, form, decoded)),
-            Err(fault) => match kept {
-                Some(refused) => self.read_refused(alloc, octets, form, refused),
-                None => Err(fault),
-            },
+        PageForm {
+            fine: self.fine,
+            ..form
         }
-    }
-
-    /// Returns the page that octets begin with, which is refused so, as it is salvaged or repaired, and its end.
-    fn read_refused(
-        &self,
-        alloc: Global,
-        octets: &[u8],
-        form: PageForm,
-        refused: RefusedCode,
-    ) -> Result<(Page, PageEnd), ToolFault>
-        requires { IsWidth form.width }
-        ensures { IfOk result (λ read. EndsRefused (broken_asked self.now.options.salvage self.now.options.repair) self.now.options form
-            octets.now refused read.1) }
-    {
-        match Broken::asked(self.options.salvage, self.options.repair) {
-            Broken::Nothing => {
-                let none = Page::new(alloc, form.width, form.fine)?;
-                let fault = ToolFault::from(refused.fault);
-                Ok((none, PageEnd::Cut(refused.rows as usize + 1, fault)))
-            }
-            Broken::WholeRows => self.read_broken(alloc, octets, form, Broken::WholeRows),
-            Broken::AllRows => self.read_broken(alloc, octets, form, Broken::AllRows),
-        }
-    }
-
-    /// Returns the page that octets begin with, as it is decoded in this way, and its end.
-    fn read_broken(
-        &self,
-        alloc: Global,
-        octets: &[u8],
-        form: PageForm,
-        broken: Broken,
-    ) -> Result<(Page, PageEnd), ToolFault>
-        requires { IsWidth form.width }
-        ensures { IfOk result (λ read. IsDecodedSo broken self.now.options form octets.now read.1) }
-    {
-        let decoded = decode_page(alloc, octets, form, broken, &mut None)?;
-        Ok(read_end(self.options, octets, form, decoded))
-    }
-}
-
-/// Returns the page that was decoded, and its end.
-fn read_end(
-    options: DecodeOptions,
-    octets: &[u8],
-    form: PageForm,
-    decoded: Decoded,
-) -> (Page, PageEnd)
-    ensures page { result.0 ≡ decoded.page }
-    ensures end { IsReadTo options form octets.now (length decoded.page.rows) decoded.read_to result.1 }
-{
-    let Decoded {
-        page,
-        lines: _,
-        read_to,
-    } = decoded;
-    let end = page_end(options, octets, form, page.rows().len(), read_to);
-    (page, end)
-}
-
-/// Returns the end of a page of so many rows that was read so far.
-fn page_end(
-    options: DecodeOptions,
-    octets: &[u8],
-    form: PageForm,
-    rows: usize,
-    read_to: ReadTo,
-) -> PageEnd
-    requires { rows < 2 ^ 32 }
-    ensures { IsReadTo options form octets.now rows read_to result }
-{
-    match read_to {
-        ReadTo::End(bits) => {
-            let has_end = has_its_end(octets, form, bits);
-            PageEnd::Read(!options.whole || has_end)
-        }
-        ReadTo::Fault(fault) => PageEnd::Cut(rows + 1, fault),
-        ReadTo::Lines(repaired) => PageEnd::Repaired(rows, repaired),
-        ReadTo::NoEnd(_bit) => PageEnd::NoEofb,
-    }
-}
-
-/// Returns the end of a file by that of its last page, which has this number, and whether all pages before it have their ends.
-fn file_end(options: DecodeOptions, number: u32, have_ends: bool, end: PageEnd) -> FileEnd
-    ensures { result ≡ file_end options number have_ends end }
-{
-    match end {
-        PageEnd::Read(has_end) => FileEnd::of(number, have_ends && has_end),
-        PageEnd::NoEofb => FileEnd::of(number, have_ends && !options.whole),
-        PageEnd::Repaired(rows, repaired) => FileEnd::Repaired {
-            page: number,
-            rows,
-            repaired,
-        },
-        PageEnd::Cut(row, fault) => FileEnd::Cut {
-            page: number,
-            row,
-            fault,
-        },
     }
 }

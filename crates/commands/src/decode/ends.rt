@@ -1,28 +1,26 @@
 //! What is said of a file of which every page is decoded.
 
-ghost use Rattle.commands.specs.Each.{end_of, end_record, ends_whole};
-ghost use Rattle.serde_json.specs.View.{view};
-ghost use Rattle.std.specs.Prelude.{◌≡◌, IfOk};
+ghost use Rattle.commands.specs.Each.{ends_whole, fault_of};
+ghost use Rattle.commands.specs.Pages.{end_of_pages};
+ghost use Rattle.std.specs.Prelude.{◌≡◌};
 
 use faults::ToolFault;
-use serde_json::{Value, json};
-use std::alloc::{AllocError, Global};
 use std::fmt;
 
 /// How far a file was decoded.
 #[derive(Clone, Copy, Debug, PartialEq, Eq, Drop)]
 pub(crate) enum FileEnd {
-    /// It has this number of pages, and all are whole.
+    /// It has this number of pages, and `decode` writes nothing of any.
     Whole(u32),
-    /// It has this number of pages, of which one or more has no RTC, or no EOFB, as `--whole` asks for.
+    /// It has this number of pages, of which one or more has no RTC, or no EOFB.
     NoEnd(u32),
+    /// It has more pages than this number, the most that are asked for.
+    More(u32),
     /// This number of rows of its page with this number is repaired. Where a page after it would begin is not known.
     Repaired {
         /// The number of the page.
         page: u32,
-        /// The number of its rows.
-        rows: usize,
-        /// How many of them are repaired.
+        /// How many of its rows are repaired.
         repaired: usize,
     },
     /// Its page with this number is cut, or damaged, in this row, counted from 1.
@@ -34,55 +32,86 @@ pub(crate) enum FileEnd {
         /// The fault.
         fault: ToolFault,
     },
+    /// Its page with this number can't be repaired.
+    Lost {
+        /// The number of the page.
+        page: u32,
+        /// The fault.
+        fault: ToolFault,
+    },
+    /// The image of its page with this number can't be written.
+    NotWritten {
+        /// The number of the page.
+        page: u32,
+        /// The fault.
+        fault: ToolFault,
+    },
     /// It begins as a format of this name.
     NoFax(&'static str),
     /// It reads as a page in several widths.
     NoWidth,
     /// It is neither a page nor a known format.
     Nothing,
-    /// It can't be read, or a page of it not written.
+    /// Its name isn't UTF-8.
+    NoText,
+    /// It can't be read.
     Failed(ToolFault),
 }
 
 impl FileEnd {
-    /// Returns the end of a file of this number of pages, that all have their ends or not.
-    pub(crate) fn of(pages: u32, have_ends: bool) -> FileEnd
-        ensures { result ≡ end_of pages have_ends }
+    /// Returns the end of a file of this number of pages, of which nothing is written or something is.
+    pub(crate) fn of(pages: u32, is_silent: bool) -> FileEnd
+        ensures { result ≡ end_of_pages pages is_silent }
     {
-        if have_ends {
+        if is_silent {
             FileEnd::Whole(pages)
         } else {
             FileEnd::NoEnd(pages)
         }
     }
 
-    /// Returns whether nothing of the file is missing, as `decode` says it of one page.
+    /// Returns whether every page of the file has its end, and no row is repaired or missing.
     pub(crate) fn is_whole(self) -> bool
         ensures { result ≡ ends_whole self }
     {
         match self {
             FileEnd::Whole(_) => true,
-            FileEnd::Repaired {
-                page: _,
-                rows,
-                repaired,
-            } => repaired <= rows.saturating_sub(repaired),
             FileEnd::NoEnd(_)
+            | FileEnd::More(_)
+            | FileEnd::Repaired { .. }
             | FileEnd::Cut { .. }
+            | FileEnd::Lost { .. }
+            | FileEnd::NotWritten { .. }
             | FileEnd::NoFax(_)
             | FileEnd::NoWidth
             | FileEnd::Nothing
+            | FileEnd::NoText
             | FileEnd::Failed(_) => false,
         }
     }
 
-    /// Returns the record of a file of this name. Errors: memory was refused.
-    pub(crate) fn record(self, alloc: Global, name: &str) -> Result<Value, AllocError>
-        ensures { IfOk result (λ value. view value ≡ end_record name.now self) }
+    /// Returns the fault with which it ends, if it does.
+    pub(crate) fn fault(self) -> Option<ToolFault>
+        ensures { result ≡ fault_of self }
     {
-        let text = format!(in alloc; "{self}")?;
-        let whole = self.is_whole();
-        json!(in alloc; {"file": name, "is": text.as_str(), "whole": whole})
+        match self {
+            FileEnd::Cut {
+                page: _,
+                row: _,
+                fault,
+            }
+            | FileEnd::Lost { page: _, fault }
+            | FileEnd::NotWritten { page: _, fault }
+            | FileEnd::Failed(fault) => Some(fault),
+            FileEnd::Whole(_)
+            | FileEnd::NoEnd(_)
+            | FileEnd::More(_)
+            | FileEnd::Repaired { .. }
+            | FileEnd::NoFax(_)
+            | FileEnd::NoWidth
+            | FileEnd::Nothing
+            | FileEnd::NoText => None,
+        }
     }
 }
 
@@ -96,20 +125,24 @@ impl fmt::Display for FileEnd {
         match self {
             FileEnd::Whole(pages) => write!(f, "whole {pages} pages"),
             FileEnd::NoEnd(pages) => write!(f, "{pages} pages, and one or more has no end"),
-            FileEnd::Repaired {
-                page,
-                rows: _,
-                repaired,
-            } => write!(
+            FileEnd::More(pages) => {
+                write!(f, "{pages} pages, and more follow that weren't asked for")
+            }
+            FileEnd::Repaired { page, repaired } => write!(
                 f,
                 "repaired {repaired} rows of page {page}; a page after it is not looked for"
             ),
             FileEnd::Cut { page, row, fault } => {
                 write!(f, "cut at row {row} of page {page}: {fault}")
             }
+            FileEnd::Lost { page, fault } => write!(f, "page {page} is not read: {fault}"),
+            FileEnd::NotWritten { page, fault } => {
+                write!(f, "page {page} is not written: {fault}")
+            }
             FileEnd::NoFax(name) => write!(f, "no fax: {name}"),
             FileEnd::NoWidth => write!(f, "the width is not known"),
             FileEnd::Nothing => write!(f, "not read: identify may tell what it is"),
+            FileEnd::NoText => write!(f, "its name isn't UTF-8"),
             FileEnd::Failed(fault) => write!(f, "{fault}"),
         }
     }

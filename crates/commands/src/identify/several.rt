@@ -1,9 +1,15 @@
 //! The command `identify` of several files, or with records: a line for each.
 
-ghost use Rattle.commands.specs.Several.{IsKnownSo, is_known};
-ghost use Rattle.faults.specs.Faults.{IsOutside};
-ghost use Rattle.std.specs.Prelude.{◌≡◌, IfErr, IfOk};
+ghost use Rattle.commands.specs.Several.{IsKnownSo, bits_in, format_of, is_known, record_with_found, way_of, with_way_found};
+ghost use Rattle.faults.specs.Faults.{IsOutside, IsUnread};
+ghost use Rattle.serde_json.specs.View.{members_view, view};
+ghost use Rattle.serde_json.specs.Written.{has_float};
+ghost use Rattle.std.specs.Prelude.{◌≡◌, IfErr, IfOk, OnOk, false};
 
+use crate::damaged::is_damaged_page;
+use crate::decode::each::facts::{code_word, maybe_count, order_word};
+use crate::names::{is_untold, record_name, shown_name};
+use crate::words::{context_of_file, words_of_file};
 use command_files::command::{Completeness, NO_NAMES, Names, Runs, both};
 use command_files::context::Context;
 use command_files::files::apart::CommandFiles;
@@ -11,8 +17,8 @@ use command_files::files::bounded::{Ways, read_coded};
 use command_files::files::printed::say;
 use command_files::files::progress::Watch;
 use faults::{ToolFault, write_record};
-use page_files::{Found, PageForm, find_way, tell_found, tell_unread};
-use serde_json::json;
+use page_files::{Found, PageForm, Tried, find_way, tell_found, tell_unread};
+use serde_json::{Map, Value, json, put};
 use std::alloc::{AllocError, Global};
 use std::io::Write;
 
@@ -63,34 +69,72 @@ impl Runs for SeveralCommand {
     }
 }
 
-/// What is said of a file, with LF at the end, and whether it is known.
+/// What is said of a file, with LF at the end, and whether it is known; its fault in words, if it has one and they are shown.
 #[derive(Drop)]
 struct Said {
     text: Vec<u8>,
+    found: Found,
     is_known: bool,
+    fault: Option<ToolFault>,
+    words: Option<String>,
 }
 
-/// The line of a fault.
-fn fault_text(alloc: Global, fault: ToolFault) -> Result<Vec<u8>, ToolFault>
+impl Said {
+    /// What is said of a file that has no fault.
+    fn of(text: Vec<u8>, found: Found, is_known: bool) -> Said
+        ensures { result.is_known ≡ is_known }
+    {
+        Said {
+            text,
+            found,
+            is_known,
+            fault: None,
+            words: None,
+        }
+    }
+}
+
+/// Returns a line. Errors: `NoMemory` (9).
+fn line_of(alloc: Global, words: &str) -> Result<Vec<u8>, ToolFault>
     ensures { IfErr result IsOutside }
 {
     let mut text = Vec::new(alloc);
-    writeln!(text, "{fault}")?;
+    writeln!(text, "{words}")?;
     Ok(text)
 }
 
 /// Returns what is said of a file, or its fault if it can't be read. Errors: `NoMemory` (9).
-fn say_or_fault(context: &mut Context<'_>, name: &str) -> Result<Said, ToolFault>
+fn say_or_fault(context: &Context<'_>, name: &str) -> Result<Said, ToolFault>
     ensures known { IfOk result (λ said. IsKnownSo said.is_known) }
     ensures fault { IfErr result IsOutside }
 {
-    match say_of(context, name) {
-        Ok(said) => Ok(said),
-        Err(fault) => Ok(Said {
-            text: fault_text(context.alloc(), fault)?,
-            is_known: false,
-        }),
+    let alloc = context.alloc();
+    if is_untold(name) {
+        let text = line_of(alloc, "its name isn't UTF-8")?;
+        return Ok(Said::of(text, Found::Nothing, false));
     }
+    let mut own = context_of_file(context);
+    match say_of(&mut own, name) {
+        Ok(said) => Ok(said),
+        Err(fault) => say_fault(&own, name, fault),
+    }
+}
+
+/// Returns the fault of a file that can't be read. Errors: `NoMemory` (9).
+fn say_fault(own: &Context<'_>, name: &str, fault: ToolFault) -> Result<Said, ToolFault>
+    ensures known { IfOk result (λ said. said.is_known ≡ false) }
+    ensures fault { IfErr result IsOutside }
+{
+    let line = format!(in own.alloc(); "{fault}")?;
+    let text = line_of(own.alloc(), line.as_str())?;
+    let words = words_of_file(own, None, name, fault)?;
+    Ok(Said {
+        text,
+        found: Found::Nothing,
+        is_known: false,
+        fault: Some(fault),
+        words,
+    })
 }
 
 /// Returns whether it is known what octets are.
@@ -99,31 +143,39 @@ fn is_known(found: &Found) -> bool
 {
     match found {
         Found::Format(_) | Found::Page(_) => true,
-        Found::Several | Found::Nothing => false,
+        Found::Begun(_) | Found::Several | Found::Nothing => false,
     }
 }
 
-/// Returns what is said of a file. Errors: `Io` (8) if it can't be read, and that is noted; `NoMemory` (9).
-fn say_of(context: &mut Context<'_>, name: &str) -> Result<Said, ToolFault>
+/// Returns what is said of a file. Errors: `Io` (8) if it can't be read, and that is noted; `TooManyOctets` (32); `NoMemory` (9).
+fn say_of(own: &mut Context<'_>, name: &str) -> Result<Said, ToolFault>
     ensures known { IfOk result (λ said. IsKnownSo said.is_known) }
-    ensures fault { IfErr result IsOutside }
+    ensures fault { IfErr result IsUnread }
 {
-    let octets = read_coded(context, name, Ways::Tried, Watch::Shown)?;
-    let alloc = context.alloc();
+    let octets = read_coded(own, name, Ways::Tried, Watch::Shown)?;
+    let alloc = own.alloc();
     let found = find_way(alloc, octets.as_slice())?;
     let mut text = Vec::new(alloc);
-    tell_found(octets.as_slice(), &found, &mut text)?;
-    if found == Found::Nothing {
-        tell_unread(alloc, octets.as_slice(), &mut text)?;
+    match found {
+        Found::Begun(way) if !is_damaged_page(&way) => tell_unread(
+            alloc,
+            octets.as_slice(),
+            &mut text,
+        )?,
+        Found::Nothing => tell_unread(alloc, octets.as_slice(), &mut text)?,
+        Found::Begun(_) | Found::Format(_) | Found::Page(_) | Found::Several => {
+            tell_found(octets.as_slice(), &found, &mut text)?
+        }
     }
     if text.is_empty() {
         writeln!(text, "no page and no known format")?;
     }
     let is_known = is_known(&found);
-    Ok(Said { text, is_known })
+    Ok(Said::of(text, found, is_known))
 }
 
-/// Prints the first line of what is said of a file, after its name, or as a record. Errors: `Io` (8) if it can't be printed, `NoMemory` (9).
+/// Prints the first line of what is said of a file, after its name, and under it the words of its fault; or a record. Errors: `Io` (8) if it
+/// can't be printed, `NoMemory` (9).
 fn tell(context: &mut Context<'_>, name: &str, records: bool, said: &Said) -> Result<(), ToolFault>
     ensures { IfErr result IsOutside }
 {
@@ -133,13 +185,117 @@ fn tell(context: &mut Context<'_>, name: &str, records: bool, said: &Said) -> Re
         Some((first, _)) => first,
         None => all,
     };
-    let mut line = Vec::new(alloc);
+    let mut lines = Vec::new(alloc);
     if records {
-        let is_known = said.is_known;
-        let record = json!(in alloc; {"file": name, "is": what, "known": is_known})?;
-        write_record(alloc, &record, &mut line)?;
+        write_said(alloc, name, what, said, &mut lines)?;
     } else {
-        writeln!(line, "{name}: {what}")?;
+        let shown = shown_name(alloc, name)?;
+        lines.extend_from_slice(shown.as_slice())?;
+        writeln!(lines, ": {what}")?;
+        if let Some(words) = &said.words {
+            writeln!(lines, "    {words}")?;
+        }
     }
-    say(context, line.as_slice())
+    say(context, lines.as_slice())
+}
+
+/// Writes the record of a file of which this is said, with its fault's number and words if it has one.
+fn write_said(
+    alloc: Global,
+    name: &str,
+    what: &str,
+    said: &Said,
+    lines: &mut Vec<u8>,
+) -> Result<(), ToolFault>
+    ensures { IfErr result IsOutside }
+{
+    let file = record_name(alloc, name)?;
+    let made = said_record(alloc, file.as_str(), what, said)?;
+    let record = with_found(alloc, made, &said.found)?;
+    write_record(alloc, &record, lines)
+}
+
+/// Returns the record of a file of this name, with its fault's number and words if it has one. Errors: memory was refused.
+fn said_record(alloc: Global, file: &str, what: &str, said: &Said) -> Result<Value, AllocError>
+    ensures { IfOk result (λ value. has_float (view value) ≡ false) }
+{
+    let is_known = said.is_known;
+    if let (Some(fault), Some(words)) = (said.fault, &said.words) {
+        let no = fault.kind().number();
+        let words = words.as_str();
+        return json!(in alloc; {"fault": no, "file": file, "is": what, "known": is_known, "words": words});
+    }
+    json!(in alloc; {"file": file, "is": what, "known": is_known})
+}
+
+/// Returns a record with what octets are. Errors: memory was refused.
+fn with_found(alloc: Global, made: Value, found: &Found) -> Result<Value, AllocError>
+    ensures { IfOk result (λ value. view value ≡ record_with_found found.now (view made)) }
+{
+    match made {
+        Value::Object(mut members) => {
+            put_way_found(alloc, way_of(found), &mut members)?;
+            let format = format_of(alloc, found)?;
+            put(&mut members, alloc, "not_read", format)?;
+            Ok(Value::Object(members))
+        }
+        other => Ok(other),
+    }
+}
+
+/// Returns the way in which octets are read as a page, if they are one, or a damaged one.
+fn way_of(found: &Found) -> Option<Tried>
+    ensures { result ≡ way_of found.now }
+{
+    match found {
+        Found::Page(way) => Some(*way),
+        Found::Begun(way) if is_damaged_page(way) => Some(*way),
+        Found::Begun(_) | Found::Format(_) | Found::Several | Found::Nothing => None,
+    }
+}
+
+/// Returns the name of the format of octets that aren't read, or null. Errors: memory was refused.
+fn format_of(alloc: Global, found: &Found) -> Result<Value, AllocError>
+    ensures { IfOk result (λ value. view value ≡ format_of found.now) }
+{
+    match found {
+        Found::Format(name) => Ok(Value::String(String::from_str(alloc, name)?)),
+        Found::Page(_) | Found::Begun(_) | Found::Several | Found::Nothing => Ok(Value::Null),
+    }
+}
+
+/// Returns the bits of a page's code, if it is read to its end.
+fn bits_in(end: Result<u128, ToolFault>) -> Option<u128>
+    ensures { result ≡ bits_in end }
+{
+    match end {
+        Ok(bits) => Some(bits),
+        Err(_) => None,
+    }
+}
+
+/// Adds the way in which octets are read: its code and order as options have them, the page's width in pixels, its rows, as many as `decode
+/// --repair` reads if that copies none, and the bits of its code; null if they are no page. Errors: memory was refused.
+fn put_way_found(
+    alloc: Global,
+    way: Option<Tried>,
+    members: &mut Map<String, Value>,
+) -> Result<(), AllocError>
+    ensures { OnOk result (members_view members.new.entries ≡ with_way_found way (members_view members.old.entries)) }
+{
+    let Some(way) = way else {
+        put(members, alloc, "bits", Value::Null)?;
+        put(members, alloc, "code", Value::Null)?;
+        put(members, alloc, "order", Value::Null)?;
+        put(members, alloc, "rows", Value::Null)?;
+        return put(members, alloc, "width", Value::Null);
+    };
+    let code = String::from_str(alloc, code_word(way.form.coding))?;
+    let order = String::from_str(alloc, order_word(way.form.order))?;
+    let rows = way.mended.unwrap_or(way.rows);
+    put(members, alloc, "bits", maybe_count(bits_in(way.end)))?;
+    put(members, alloc, "code", Value::String(code))?;
+    put(members, alloc, "order", Value::String(order))?;
+    put(members, alloc, "rows", Value::from(rows))?;
+    put(members, alloc, "width", Value::from(way.form.width))
 }

@@ -1,6 +1,5 @@
 -- What the check asks of `run`.
-use Rattle.std.proofs.Common.{ℕ, Bool, ◌∙◌, add-one, ap, subst, sym}
-use Rattle.std.specs.Prelude.{◌&&◌}
+use Rattle.std.proofs.Common.{◌≡◌, ℕ, add-one, arith, length, subst, sym}
 use Rattle.commands.specs.Each.{AllEndSo}
 use Rattle.commands.proofs.decode.each.EachCommandRuns.run.Goals as goal
 
@@ -8,8 +7,21 @@ pub loop-name-preserved : goal.loop-name-preserved
 loop-name-preserved c =
     subst (λ (n : ℕ). AllEndSo c.args.self.now n c.both-is_complete.result) (sym (add-one c.loop-name.name-index)) (
       c.loop-name.is_complete,
-      c.end_of_file-end.result,
+      c.in_ok-is_done.is_done,
       c.loop-name.invariant,
-      c.end_of_file-end.ensures,
-      c.both-is_complete.ensures ∙ ap (λ (whole : Bool). c.loop-name.is_complete && whole) c.is_whole.ensures,
+      c.in_ok-is_done.ensures.complete,
+      c.both-is_complete.ensures,
     )
+
+pub returns : goal.returns
+returns c =
+    let items = c.args.self.now.files.items in
+    let all : c.loop-name.name-index ≡ length items =
+    omega (
+      arith,
+      rw c.deref-name-items.ensures.value at c.loop-name-test.false,
+      rw c.deref-name-items.ensures.value at c.loop-name.auto.name-index-end,
+    ) in
+    let held = c.in_ok-are_complete.ensures.complete (length items)
+    (subst (λ (n : ℕ). AllEndSo c.args.self.now n c.loop-name.is_complete) all c.loop-name.invariant) in
+    (c.in_ok-are_complete.are_complete, held.0, held.1, held.2, c.of.ensures)

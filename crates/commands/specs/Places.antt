@@ -1,0 +1,26 @@
+-- Where the pages of a file of `decode --each` are written.
+use Rattle.std.specs.Prelude.{ℕ, ◌++◌, ◌||◌, ◌∷◌, [], List, codes, cond, flat_map, nat_lt}
+use Rattle.std.specs.Fmt.{decimal}
+use Rattle.std.specs.Path.{cur_dir, parent_dir, path_components, root_dir, slash}
+use Rattle.std.specs.Str.{bytes_eq}
+
+-- a part of a file's name as it stands in the place of its pages: after a slash; the root, `.` and `..` are left out
+abbrev pub part_text : List ℕ → List ℕ
+part_text part = cond (bytes_eq part root_dir || (bytes_eq part cur_dir || bytes_eq part parent_dir)) [] (slash ∷ part)
+
+-- the file that standard input counts as
+abbrev pub file_name : List ℕ → List ℕ
+file_name name = cond (bytes_eq name (codes "-")) (codes "stdin") name
+
+-- the file's own place under a folder
+abbrev pub place_under : List ℕ → List ℕ → List ℕ
+place_under folder name = folder ++ flat_map part_text (path_components (file_name name))
+
+-- the zeros with which a number has four digits
+abbrev pub zeros_before : ℕ → List ℕ
+zeros_before number = cond (nat_lt number 10) (codes "000") (cond (nat_lt number 100) (codes "00")
+    (cond (nat_lt number 1000) (codes "0") []))
+
+-- the name of the image of a page of this number, of a file with this place
+abbrev pub page_name : List ℕ → ℕ → List ℕ
+page_name place number = place ++ (codes "-" ++ (zeros_before number ++ (decimal number ++ codes ".pbm")))
