@@ -17,6 +17,8 @@ use Rattle.raster.specs.declared.packed.Order.{Order}
 use Rattle.raster.specs.declared.packed.Order.TheVariants.{LsbFirst, MsbFirst}
 use Rattle.captures.specs.declared.frames.ListForm.{ListForm}
 use Rattle.commands.specs.Runs.{list_form}
+use Rattle.commands.specs.declared.decode.each.EachCommand.{EachCommand}
+use Rattle.commands.specs.declared.decode.each.listed.NameList.{NameList}
 use Rattle.faults.specs.declared.fault.ToolFault.TheVariants.{No}
 use Rattle.signals.specs.declared.params.Caps.{Caps}
 use Rattle.signals.specs.declared.params.Modems.{Modems}
@@ -30,8 +32,8 @@ use Rattle.page_files.specs.declared.options.DecodeOptions.{DecodeOptions}
 use Rattle.page_files.specs.declared.options.PageForm.{PageForm}
 use Rattle.station_commands.specs.declared.station.given.GivenLimits.{GivenLimits}
 use Rattle.station_commands.specs.declared.station.given.GivenWaits.{GivenWaits}
-use Rattle.command_files.specs.declared.files.output.Rights.{Rights}
-use Rattle.command_files.specs.declared.files.output.Rights.TheVariants.{Mode, Private}
+use Rattle.command_files.specs.declared.files.parts.Rights.{Rights}
+use Rattle.command_files.specs.declared.files.parts.Rights.TheVariants.{Mode, Private}
 use Rattle.faxtool.specs.declared.command.Command.{Command}
 use Rattle.faxtool.specs.declared.command.Command.TheVariants.{Answer, Call, Captures, Code, Decode, Dial, Drive, Each, Frames, Identify, Several, Show, Version}
 use Rattle.faxtool.specs.declared.args.words.Request.{Request}
@@ -126,17 +128,27 @@ with_flags app = with_rule (with_rule (with_rule (with_rule (with_rule (with_rul
     (flag_rule (codes "salvage"))) (flag_rule (codes "repair"))) (flag_rule (codes "whole"))) (flag_rule (codes "verbose")))
     (flag_rule (codes "json"))
 
--- `decode`: the code, the width, the order, fine or not, what is done with a page that can't be
--- read or has no end, verbose or not, records or not, the page's number, the folder of all pages, and the files of the page and of its
--- image, or those of all pages
-abbrev pub decode_app : ValueParser → ValueParser → App
-decode_app codings orders = with_explain (with_rule (with_rule (with_rule (with_rule (with_flags (with_any_options (new_app (codes "decode"))
-    codings orders)) (record (option_rule (codes "page")) { parser = Some (vp.Signed (pos 1) (pos 4294967295)) }))
-    (option_rule (codes "each"))) (file_rule (codes "file"))) (record (files_rule (codes "out")) { required = false }))
-
 -- the name of a file that need not be there
 abbrev pub optional_file_rule : Text → Rule
 optional_file_rule id = record (file_rule id) { required = false }
+
+-- an option with a number from a first to a last one
+abbrev pub number_rule : Text → ℕ → ℕ → Rule
+number_rule id first last = record (option_rule id) { parser = Some (vp.Signed (pos first) (pos last)) }
+
+-- the command with the folder of all pages, the list of files, whether 0 ends its names, whether images that are there count as written,
+-- and the most pages of a file
+abbrev pub with_each : App → App
+with_each app = with_rule (with_rule (with_rule (with_rule (with_rule app (option_rule (codes "each"))) (option_rule (codes "from")))
+    (flag_rule (codes "null"))) (flag_rule (codes "resume"))) (number_rule (codes "most-pages") 1 4294967295)
+
+-- `decode`: the code, the width, the order, fine or not, what is done with a page that can't be
+-- read or has no end, verbose or not, records or not, the page's number, what is asked for of many files, and the files of the page and of
+-- its image, or those of all pages
+abbrev pub decode_app : ValueParser → ValueParser → App
+decode_app codings orders = with_explain (with_rule (with_rule (with_each (with_rule (with_flags (with_any_options (new_app (codes "decode"))
+    codings orders)) (number_rule (codes "page") 1 4294967295))) (optional_file_rule (codes "file")))
+    (record (files_rule (codes "out")) { required = false }))
 
 -- the command with the file of a picture, and those of what both stations sent
 abbrev pub with_captures : App → App
@@ -156,10 +168,6 @@ abbrev pub with_choices : App → ValueParser → ValueParser → ValueParser �
 with_choices app codings sizes modems = with_rule (with_rule (with_rule app
     (choice_rule (codes "code") codings (codes "mmr"))) (choice_rule (codes "frame") sizes (codes "256")))
     (choice_rule (codes "modems") modems (codes "v17"))
-
--- an option with a number from a first to a last one
-abbrev pub number_rule : Text → ℕ → ℕ → Rule
-number_rule id first last = record (option_rule id) { parser = Some (vp.Signed (pos first) (pos last)) }
 
 -- the command with the options of a bad line: three rates, the seed of the generator, and the numbers of DIS and of calls
 abbrev pub with_line : App → App
@@ -214,7 +222,7 @@ with_station_choices app sizes widths = with_rule (with_rule (with_rule (with_ru
 abbrev pub with_waits : App → App
 with_waits app = with_rule (with_rule (with_rule (with_rule (with_rule (with_rule (with_rule app (millis_rule (codes "t1")))
     (millis_rule (codes "t2"))) (millis_rule (codes "t4"))) (millis_rule (codes "t5"))) (flag_rule (codes "hear")))
-    (flag_rule (codes "frames"))) (millis_rule (codes "late"))
+    (flag_rule (codes "frames"))) (option_rule (codes "late"))
 
 -- `station`: which station it is, its options, its waits, the file of its trace, a line a frame in it or not, records or not, and the file
 -- of the document
@@ -387,6 +395,15 @@ has_more id rows = nat_lt 1 (length (texts_of id rows))
 abbrev pub has_one : List Row → Bool
 has_one rows = is_some (first_of (codes "page") rows) || is_named (codes "true") (first_of (codes "verbose") rows)
 
+-- an option for many files was given
+abbrev pub is_for_many : List Row → Bool
+is_for_many rows = is_some (first_of (codes "from") rows) || (is_named (codes "true") (first_of (codes "null") rows)
+    || (is_named (codes "true") (first_of (codes "resume") rows) || is_some (first_of (codes "most-pages") rows)))
+
+-- a file was given, or the list of files
+abbrev pub has_files : List Row → Bool
+has_files rows = is_some (first_of (codes "file") rows) || (is_some (first_of (codes "out") rows) || is_some (first_of (codes "from") rows))
+
 -- one of the code and the width was given, and not the other
 abbrev pub has_half_form : List Row → Bool
 has_half_form rows = if is_some (first_of (codes "code") rows) then not (is_some (first_of (codes "width") rows))
@@ -399,16 +416,32 @@ IsFormIn rows (Some form) = (coding_named (first_of (codes "code") rows) ≡ Som
     × (form.order ≡ order_named (first_of (codes "order") rows)) × IsWidthIn rows form.width
     × (form.fine ≡ is_named (codes "true") (first_of (codes "fine") rows))
 
+-- the list of files that is asked for
+abbrev pub IsListIn : List Row → Option NameList → Type 0
+IsListIn rows None = first_of (codes "from") rows ≡ None
+IsListIn rows (Some list) = (first_of (codes "from") rows ≡ Some (string_bytes list.file))
+    × (list.null ≡ is_named (codes "true") (first_of (codes "null") rows))
+
+-- the most pages of a file: 10,000 if no number is given
+abbrev pub most_of : Option ℕ → ℕ
+most_of None = 10000
+most_of (Some most) = most
+
 -- the values of the command `decode` are those of many files, of which every page is decoded
-pub record IsEachOf (rows : List Row) (form : Option PageForm) (options : DecodeOptions) (folder : Text) (files : List Text)
-    : Type 0 where
-  pub folder_is : first_of (codes "each") rows ≡ Some folder
-  pub form_is : IsFormIn rows form
+pub record IsEachOf (rows : List Row) (command : EachCommand) : Type 0 where
+  pub folder_is : first_of (codes "each") rows ≡ Some (string_bytes command.folder)
+  pub form_is : IsFormIn rows command.form
   pub whole_form : has_half_form rows ≡ false
-  pub options_are : AreDecodeOptionsIn rows options
-  pub one_way : (options.salvage && options.repair) ≡ false
+  pub fine_is : command.fine ≡ is_named (codes "true") (first_of (codes "fine") rows)
+  pub options_are : AreDecodeOptionsIn rows command.options
   pub alone : has_one rows ≡ false
-  pub files_are : files ≡ texts_of (codes "file") rows ++ texts_of (codes "out") rows
+  pub some_files : has_files rows ≡ true
+  pub files_are : map string_bytes command.files.items ≡ texts_of (codes "file") rows ++ texts_of (codes "out") rows
+  pub list_is : IsListIn rows command.list
+  pub resume_is : command.resume ≡ is_named (codes "true") (first_of (codes "resume") rows)
+  pub number : Option ℕ
+  pub number_given : ReadsNumber (codes "most-pages") rows number
+  pub most_is : command.most_pages ≡ most_of number
 
 -- the values of the command `identify` are those of several files, or of records
 pub record AreSeveralOf (rows : List Row) (records : Bool) (files : List Text) : Type 0 where
@@ -425,6 +458,7 @@ pub record IsDecodeOf (rows : List Row) (form : PageForm) (options : DecodeOptio
   pub number_given : ReadsNumber (codes "page") rows number
   pub page_is : page ≡ page_of number
   pub alone : first_of (codes "each") rows ≡ None
+  pub one_page : is_for_many rows ≡ false
   pub output_is : first_of (codes "out") rows ≡ Some output
   pub one_output : has_more (codes "out") rows ≡ false
 
@@ -642,8 +676,22 @@ abbrev pub has_caller : List Row → Bool
 has_caller rows = is_some (first_of (codes "frame") rows) || (is_named (codes "true") (first_of (codes "fine") rows) ||
     (is_some (first_of (codes "from") rows) || is_some (first_of (codes "in") rows)))
 
+-- one to seven decimal digits, and the milliseconds that they are, 1 to 3,600,000
+pub record AreMillis (digits : Text) (millis : ℕ) : Type 0 where
+  pub numeral : IsNumeral 10 digits
+  pub short : length digits ≤ 7
+  pub value : millis ≡ digits_value 10 digits
+  pub least : 1 ≤ millis
+  pub most : millis ≤ 3600000
+
+-- how many milliseconds late an answer may come, by a value of `--late`: 2,000 if there is none, and any number if it is `off`
+abbrev pub IsLateNamed : Option Text → Option ℕ → Type 0
+IsLateNamed None late = late ≡ Some 2000
+IsLateNamed (Some text) None = bytes_eq text (codes "off") ≡ true
+IsLateNamed (Some text) (Some late) = AreMillis text late
+
 -- the lengths of the waits, if given, whether what is heard, and until when, is said, whether frames are said as contents, and how late an
--- answer may come, if that is given
+-- answer may come
 pub record AreWaitsIn (rows : List Row) (waits : GivenWaits) : Type 0 where
   pub t1_is : ReadsNumber (codes "t1") rows waits.t1
   pub t2_is : ReadsNumber (codes "t2") rows waits.t2
@@ -651,7 +699,7 @@ pub record AreWaitsIn (rows : List Row) (waits : GivenWaits) : Type 0 where
   pub t5_is : ReadsNumber (codes "t5") rows waits.t5
   pub hears_is : waits.hears ≡ is_named (codes "true") (first_of (codes "hear") rows)
   pub frames_is : waits.frames ≡ is_named (codes "true") (first_of (codes "frames") rows)
-  pub late_is : ReadsNumber (codes "late") rows waits.late
+  pub late_is : IsLateNamed (first_of (codes "late") rows) waits.late
 
 -- what an answerer can do, as the values say: it takes each code up to the one named, and fine lines unless it takes standard ones alone
 abbrev pub caps_in : List Row → Coding → Caps
@@ -716,7 +764,7 @@ IsCommandOf met (Decode command) = (rows : List Row)
     × IsDecodeOf rows command.form command.options command.page (string_bytes command.input) (string_bytes command.output)
 IsCommandOf met (Each command) = (rows : List Row)
     × (met ≡ Some (codes "decode", rows))
-    × IsEachOf rows command.form command.options (string_bytes command.folder) (map string_bytes command.files.items)
+    × IsEachOf rows command
 IsCommandOf met (Frames command) = (rows : List Row)
     × (met ≡ Some (codes "frames", rows))
     × IsFramesOf rows command.most command.order command.form (option_map string_bytes command.pages) command.salvage (string_bytes command.input)

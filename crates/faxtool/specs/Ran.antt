@@ -1,5 +1,5 @@
 -- What the program ends with, by what can come of the command that ran.
-use Rattle.std.specs.Prelude.{◌≡◌, ◌⊎◌, Result, Ok, Err}
+use Rattle.std.specs.Prelude.{◌≡◌, ◌⊎◌, ℕ, Bool, Result, Ok, Err, if◌then◌else◌, max}
 use Rattle.clap.specs.Words.{kind_of}
 use Rattle.clap.specs.declared.error.kind.ErrorKind.TheVariants.{ArgumentConflict}
 use Rattle.commands.specs.Captured.{CapturesGives, FramesGives}
@@ -39,3 +39,7 @@ Ran (Drive command) outcome = Gave (DriveGives command) outcome
 Ran (Answer command) outcome = Gave (AnswerGives command) outcome
 Ran (Dial command) outcome = Gave (DialGives command) outcome
 Ran (Version command) outcome = Gave VersionGives outcome
+
+-- the exit status, if there may have been no room for something on standard error: then at least 1
+abbrev pub status_told : ℕ → Bool → ℕ
+status_told status is_cut = if is_cut then max status 1 else status

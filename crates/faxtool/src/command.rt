@@ -43,3 +43,24 @@ pub enum Command {
     /// Prints the program's version, or the kit that it is proved with.
     Version(VersionCommand),
 }
+
+impl Command {
+    /// Returns the names of the files of a command for several; no name for another command.
+    pub fn several_files(&self) -> &[String] {
+        match self {
+            Command::Each(command) => command.files.as_slice(),
+            Command::Several(command) => command.files.as_slice(),
+            Command::Code(_)
+            | Command::Show(_)
+            | Command::Decode(_)
+            | Command::Frames(_)
+            | Command::Captures(_)
+            | Command::Identify(_)
+            | Command::Call(_)
+            | Command::Drive(_)
+            | Command::Answer(_)
+            | Command::Dial(_)
+            | Command::Version(_) => &[],
+        }
+    }
+}

@@ -10,19 +10,20 @@ use crate::args::words::{Outcome, Request};
 use crate::command::Command;
 use crate::explain::{show_fault, show_refusal};
 use command_files::context::{Context, Messages};
+use command_files::streams::Streams;
 use command_files::{Completeness, Runs};
 
 /// What a command is run with: the system, the words that ask for it, and how its messages are shown.
 #[derive(Clone, Copy)]
 struct Asked<'a> {
-    rt: &'a HostRuntime,
+    streams: &'a Streams<'a>,
     words: &'a [&'a str],
     messages: Messages,
 }
 
 /// Runs the command of a request, which these words ask for, and shows its fault: a line, and on a terminal or if asked for a second line
 /// in words.
-pub fn run_request(rt: &HostRuntime, words: &[&str], request: &Request) -> Outcome
+pub fn run_request(streams: &Streams<'_>, words: &[&str], request: &Request) -> Outcome
     requires { HasWidth request.now.command }
     ensures { Ran request.now.command result }
 {
@@ -31,7 +32,7 @@ pub fn run_request(rt: &HostRuntime, words: &[&str], request: &Request) -> Outco
         explain: request.explain,
     };
     let asked = Asked {
-        rt,
+        streams,
         words,
         messages,
     };
@@ -67,10 +68,10 @@ fn run_command<C: Runs>(command: &C, asked: Asked<'_>) -> Outcome
     ensures { Gave (C.gives command.now) result }
 {
     // two files that are one are found before anything is read or written
-    if let Err(refusal) = check_apart(asked.rt, asked.words, command) {
-        return show_refusal(asked.rt, asked.words, refusal);
+    if let Err(refusal) = check_apart(asked.streams.rt(), asked.words, command) {
+        return show_refusal(asked.streams, asked.words, refusal);
     }
-    let mut context = Context::new(asked.rt, asked.messages);
+    let mut context = Context::new(asked.streams, asked.messages);
     match command.run(&mut context) {
         Ok(Completeness::Whole) => Outcome::Done,
         Ok(Completeness::Lacking) => Outcome::Incomplete,

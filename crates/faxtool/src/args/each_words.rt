@@ -1,16 +1,22 @@
 //! The words of the commands for many files: `decode --each`, and `identify` of several files.
 ghost use Rattle.std.specs.Prelude.{◌≡◌, ◌++◌, ◌||◌, IfOk, MatchResult, OnOk, Some, codes, is_some, map, option_map, string_bytes, true};
 ghost use Rattle.clap.specs.Words.{all_of, first_of, found_of, rows_of};
-ghost use Rattle.faxtool.specs.Jobs.{HasNoCommand, IsCommandOf, IsFormIn, has_half_form, has_more, has_one, is_named, texts_of};
+ghost use Rattle.faxtool.specs.Jobs.{HasNoCommand, IsCommandOf, IsFormIn, IsListIn, has_files, has_half_form, has_more, has_one, is_named, most_of};
+ghost use Rattle.faxtool.specs.Jobs.{is_for_many, texts_of};
 
 use crate::args::unfit::Unfit;
-use crate::args::words::{coding_in, decode_options, is_named, order_in, text_in, width_in};
+use crate::args::words::{
+    coding_in, decode_options, is_named, number_in, order_in, text_in, width_in,
+};
 use crate::command::Command;
 use clap::ArgMatches;
-use commands::decode::each::EachCommand;
+use commands::decode::each::{EachCommand, NameList};
 use commands::identify::several::SeveralCommand;
 use page_files::PageForm;
 use std::alloc::{AllocError, Global};
+
+/// The most pages of a file, if no number is given.
+const MOST_PAGES: u32 = 10_000;
 
 // The values of an argument.
 fn texts_in<'b, 'a>(matches: &'b ArgMatches<'a>, id: &str) -> Option<&'b [&'a str]>
@@ -102,25 +108,68 @@ pub(crate) fn each_command(
     let Some(folder) = text_in(matches, "each") else {
         return Ok(Err(Unfit::Missing));
     };
-    let options = decode_options(matches);
-    if options.salvage && options.repair {
-        return Ok(Err(Unfit::RepairAndSalvage));
-    }
     if has_one(matches) {
         return Ok(Err(Unfit::EachAndOne));
     }
     if has_half_form(matches) {
         return Ok(Err(Unfit::HalfForm));
     }
+    if !has_files(matches) {
+        return Ok(Err(Unfit::NoFiles));
+    }
     let mut files = Vec::new(alloc);
     add_names(alloc, matches, "file", &mut files)?;
     add_names(alloc, matches, "out", &mut files)?;
+    let list = list_in(alloc, matches)?;
     Ok(Ok(Command::Each(EachCommand {
         form: form_in(matches),
-        options,
+        fine: is_named(text_in(matches, "fine"), "true"),
+        options: decode_options(matches),
         folder: String::from_str(alloc, folder)?,
         files,
+        list,
+        resume: is_named(text_in(matches, "resume"), "true"),
+        most_pages: most_of(number_in(matches, "most-pages")),
     })))
+}
+
+/// Returns the list of files that is asked for. Errors: memory was refused.
+fn list_in(alloc: Global, matches: &ArgMatches<'_>) -> Result<Option<NameList>, AllocError>
+    ensures { IfOk result (IsListIn (rows_of (found_of matches.now))) }
+{
+    let Some(file) = text_in(matches, "from") else {
+        return Ok(None);
+    };
+    Ok(Some(NameList {
+        file: String::from_str(alloc, file)?,
+        null: is_named(text_in(matches, "null"), "true"),
+    }))
+}
+
+/// Returns the most pages of a file.
+fn most_of(given: Option<u32>) -> u32
+    ensures { result ≡ most_of given }
+{
+    given.unwrap_or(MOST_PAGES)
+}
+
+/// Returns whether a file was given, or the list of files.
+fn has_files(matches: &ArgMatches<'_>) -> bool
+    ensures { result ≡ has_files (rows_of (found_of matches.now)) }
+{
+    text_in(matches, "file").is_some()
+        || text_in(matches, "out").is_some()
+        || text_in(matches, "from").is_some()
+}
+
+/// Returns whether an option for many files was given, which `decode` of one page hasn't.
+pub(crate) fn is_for_many(matches: &ArgMatches<'_>) -> bool
+    ensures { result ≡ is_for_many (rows_of (found_of matches.now)) }
+{
+    text_in(matches, "from").is_some()
+        || is_named(text_in(matches, "null"), "true")
+        || is_named(text_in(matches, "resume"), "true")
+        || text_in(matches, "most-pages").is_some()
 }
 
 /// Returns the command that prints what each of several files is.

@@ -1,5 +1,7 @@
 //! The words of the command `station`.
-ghost use Rattle.std.specs.Prelude.{◌≡◌, IfOk, MatchResult, Some, codes, false, option_map, true};
+ghost use Rattle.faxtool.specs.Jobs.{AreMillis, IsLateNamed};
+ghost use Rattle.station_commands.specs.declared.station.given.GivenWaits.{GivenWaits as GivenWaitsValue};
+ghost use Rattle.std.specs.Prelude.{◌≡◌, ℕ, IfOk, MatchOption, MatchResult, Option, Some, codes, false, option_map, true};
 ghost use Rattle.std.specs.Str.{bytes_eq};
 ghost use Rattle.clap.specs.Words.{first_of, found_of, rows_of};
 ghost use Rattle.faxtool.specs.Jobs.{AreWaitsIn, HasNoCommand, IsCommandOf, caps_in, has_answerer, has_caller, limit_of, is_named, takes_t6};
@@ -70,13 +72,16 @@ fn answer_command(
     if holds_and_limits(matches) {
         return Ok(Err(Unfit::HoldAndLimit));
     }
+    let Some(waits) = waits_in(matches) else {
+        return Ok(Err(Unfit::NoLate));
+    };
     Ok(Ok(Command::Answer(AnswerCommand {
         caps: caps_in(matches, coding),
         limit: limit_of(number_in(matches, "limit")),
         holds: is_named(text_in(matches, "hold"), "true"),
         limits: limits_in(matches),
         refuses: refuses_in(matches),
-        waits: waits_in(matches),
+        waits,
         out: String::from_str(alloc, out)?,
         rights,
         trace: copy_of(alloc, text_in(matches, "trace"))?,
@@ -106,10 +111,13 @@ fn dial_command(
     if is_standard(input) {
         return Ok(Err(Unfit::DocumentStandard));
     }
+    let Some(waits) = waits_in(matches) else {
+        return Ok(Err(Unfit::NoLate));
+    };
     Ok(Ok(Command::Dial(DialCommand {
         options,
         from: page_of(number_in(matches, "from")),
-        waits: waits_in(matches),
+        waits,
         trace: copy_of(alloc, text_in(matches, "trace"))?,
         frames: is_named(text_in(matches, "trace-frames"), "true"),
         input: String::from_str(alloc, input)?,
@@ -249,19 +257,56 @@ fn limits_in(matches: &ArgMatches<'_>) -> GivenLimits
     }
 }
 
-// How long the waits run.
-fn waits_in(matches: &ArgMatches<'_>) -> GivenWaits
-    ensures { AreWaitsIn (rows_of (found_of matches.now)) result }
+// How many milliseconds late an answer may come, if `--late` isn't given.
+const LATE: u32 = 2000;
+
+// The milliseconds that one to seven decimal digits are, 1 to 3,600,000.
+fn millis_in(digits: &str) -> Option<u32>
+    ensures { MatchOption result ((millis : ℕ) → AreMillis digits.now millis → ⊥) (AreMillis digits.now) }
 {
-    GivenWaits {
+    if digits.len() > 7 || digits.starts_with('+') {
+        return None;
+    }
+    match digits.parse::<u32>() {
+        Ok(millis) if 1 <= millis && millis <= 3_600_000 => Some(millis),
+        _ => None,
+    }
+}
+
+// How many milliseconds late an answer may come, or any number.
+fn late_named(text: Option<&str>) -> Option<Option<u32>>
+    ensures { let given = option_map (λ text. text.now) text.entry in
+        MatchOption result ((late : Option ℕ) → IsLateNamed given late → ⊥) (IsLateNamed given) }
+{
+    let Some(text) = text else {
+        return Some(Some(LATE));
+    };
+    if text == "off" {
+        return Some(None);
+    }
+    match millis_in(text) {
+        Some(millis) => Some(Some(millis)),
+        None => None,
+    }
+}
+
+// How long the waits run, and how late an answer may come.
+fn waits_in(matches: &ArgMatches<'_>) -> Option<GivenWaits>
+    ensures { let rows = rows_of (found_of matches.now) in
+        MatchOption result ((waits : GivenWaitsValue) → AreWaitsIn rows waits → ⊥) (AreWaitsIn rows) }
+{
+    let Some(late) = late_named(text_in(matches, "late")) else {
+        return None;
+    };
+    Some(GivenWaits {
         t1: number_in(matches, "t1"),
         t2: number_in(matches, "t2"),
         t4: number_in(matches, "t4"),
         t5: number_in(matches, "t5"),
         hears: is_named(text_in(matches, "hear"), "true"),
         frames: is_named(text_in(matches, "frames"), "true"),
-        late: number_in(matches, "late"),
-    }
+        late,
+    })
 }
 
 // What an answerer can do.

@@ -104,7 +104,7 @@ const LINE_ORDER: Argument<'static> = Argument {
 const EACH: Argument<'static> = Argument {
     id: "each",
     shown: &["DIR"],
-    help: "The folder that every page of each file is written to, as NAME-1.pbm and so on; without --code as identify says it of the file",
+    help: "The folder under which every page of each file is written, as NAME-0001.pbm and so on; without --code as identify says it",
     ..FILE_OPTION
 };
 
@@ -188,7 +188,33 @@ const DECODE_ARGUMENTS: &[Argument<'static>] = &[
         ..FILE_OPTION
     },
     EACH,
-    CODED_PAGE,
+    Argument {
+        id: "from",
+        shown: &["LIST"],
+        help: "Reads the names of more files, one a line; - is standard input (with --each)",
+        ..FILE_OPTION
+    },
+    Argument {
+        id: "null",
+        help: "An octet of 0 ends each name of LIST, as find -print0 writes them, and not a line's end",
+        ..FLAG
+    },
+    Argument {
+        id: "resume",
+        help: "An image that is there already, with the same octets, counts as written (with --each)",
+        ..FLAG
+    },
+    Argument {
+        id: "most-pages",
+        shown: &["N"],
+        parser: Some(ValueParser::Signed(1, 4_294_967_295)),
+        help: "The most pages of a file that are written, 10000 if not said (with --each)",
+        ..FILE_OPTION
+    },
+    Argument {
+        required: false,
+        ..CODED_PAGE
+    },
     Argument {
         id: "out",
         shown: &["OUT"],
@@ -532,8 +558,9 @@ const STATION_ARGUMENTS: &[Argument<'static>] = &[
     },
     Argument {
         id: "late",
-        help: "Sends no answer that comes more than so many milliseconds late, by the system's clock and the times of the lines",
-        ..MILLIS
+        shown: &["MS|off"],
+        help: "Sends no answer that comes more than so many milliseconds late, by the system's clock and the times of the lines, 2000 if not said; off sends all",
+        ..FILE_OPTION
     },
     Argument {
         id: "trace",

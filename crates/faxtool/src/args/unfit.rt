@@ -18,7 +18,13 @@ pub enum Unfit {
     HalfForm,
     /// `--each`, and an option for one page.
     EachAndOne,
-    /// `--repair` and `--salvage`.
+    /// `--each` without a file.
+    NoFiles,
+    /// One page, and an option for many files.
+    OneAndMany,
+    /// `decode` of one page without FILE.
+    NoFile,
+    /// `--repair` and `--salvage`, without `--each`.
     RepairAndSalvage,
     /// `frames` without FILE and without a picture.
     NoCapture,
@@ -66,6 +72,8 @@ pub enum Unfit {
     NoFolder,
     /// A mode that is none.
     NoMode,
+    /// A value of `--late` that is none.
+    NoLate,
     /// `--refuse` and `--no-refuse`.
     RefuseAndNot,
     /// `--hold` and `--limit`.
@@ -91,7 +99,12 @@ impl Unfit {
             Unfit::HalfForm => "--each needs --code and --width, or neither",
             Unfit::EachAndOne =>
                 "--page and --verbose are for one page, and can't be used with --each",
-            Unfit::RepairAndSalvage => "--repair and --salvage can't be used together",
+            Unfit::NoFiles => "FILE is missing, or --from, the list of files",
+            Unfit::OneAndMany =>
+                "--from, --null, --resume and --most-pages are for many files, with --each",
+            Unfit::NoFile => "FILE is missing",
+            Unfit::RepairAndSalvage =>
+                "--repair and --salvage can be used together only with --each",
             Unfit::NoCapture => "FILE is missing, or --diagram with --caller and --answerer",
             Unfit::NoPages => "--salvage needs --pages",
             Unfit::PictureAndListing =>
@@ -120,6 +133,7 @@ impl Unfit {
                 "--frame, --fine, --from and IN are for a station with --call",
             Unfit::NoFolder => "--answer needs --out, the folder of the pages",
             Unfit::NoMode => "a mode is three octal digits, perhaps after a 0, as 0640",
+            Unfit::NoLate => "--late is 1 to 3600000 milliseconds, or off",
             Unfit::RefuseAndNot => "--refuse and --no-refuse can't be used together",
             Unfit::HoldAndLimit =>
                 "--hold takes one page at a time, and can't be used with --limit",

@@ -9,10 +9,11 @@ ghost use Rattle.faxtool.specs.Jobs.{IsWidthIn, ReadsAs};
 ghost use Rattle.faxtool.specs.Jobs.{ReadsNumber, are_both_standard, asks, coding_named, is_named, modems_named, page_of};
 ghost use Rattle.faxtool.specs.Jobs.{IsLineIn, IsRateIn, IsSpoilIn, IsBusyIn, IsTimesIn, calls_of, has_line, is_normal_wanted};
 ghost use Rattle.faxtool.specs.Jobs.{line_order_named, order_named, status_of};
+ghost use Rattle.faxtool.specs.Ran.{status_told};
 ghost use Rattle.calls.specs.declared.losses.BadLine.{BadLine as LineValue};
 
 use crate::args::captures_words::{captures_command, has_captures};
-use crate::args::each_words::{each_command, has_more, several_command};
+use crate::args::each_words::{each_command, has_more, is_for_many, several_command};
 use crate::args::parser::{command_alone, entry_named, faxtool_command};
 use crate::args::station_words::station_command;
 use crate::args::unfit::Unfit;
@@ -72,6 +73,13 @@ pub fn status(outcome: &Outcome) -> u8
         Outcome::Incomplete | Outcome::Fault(_) => 1,
         Outcome::Words(_) => 2,
     }
+}
+
+/// Returns the program's exit status: at least 1 if something was to be told on standard error and there was no room for it.
+pub fn status_told(status: u8, is_cut: bool) -> u8
+    ensures { result ≡ status_told status is_cut }
+{
+    if is_cut { status.max(1) } else { status }
 }
 
 impl From<AllocError> for Outcome {
@@ -235,6 +243,9 @@ fn decode_command(
     if text_in(matches, "each").is_some() {
         return each_command(alloc, matches);
     }
+    if is_for_many(matches) {
+        return Ok(Err(Unfit::OneAndMany));
+    }
     let Some(coding) = coding_in(matches) else {
         return Ok(Err(Unfit::NoCode));
     };
@@ -242,7 +253,7 @@ fn decode_command(
         return Ok(Err(Unfit::NoWidth));
     };
     let Some(input) = text_in(matches, "file") else {
-        return Ok(Err(Unfit::Missing));
+        return Ok(Err(Unfit::NoFile));
     };
     let Some(output) = text_in(matches, "out") else {
         return Ok(Err(Unfit::NoOut));
