@@ -2,8 +2,12 @@
 #![tactic(auto)]
 
 #[cfg(test)]
+mod begins;
+#[cfg(test)]
 mod losses;
 #[cfg(test)]
 mod seams;
+#[cfg(test)]
+mod sizes;
 #[cfg(test)]
 mod stream;

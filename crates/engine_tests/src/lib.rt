@@ -8,4 +8,6 @@ mod frames;
 #[cfg(test)]
 mod pages;
 #[cfg(test)]
+mod sizes;
+#[cfg(test)]
 mod streams;

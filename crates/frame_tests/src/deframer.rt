@@ -132,3 +132,24 @@ fn again_after_a_refusal(rt: HostRuntime) -> Result<(), Fail> {
     assert!(rt; deframer.next().is_none());
     Ok(())
 }
+
+/// The octets of a frame of 300 octets of each value, one after the other.
+fn frames_of_each_value(alloc: Global) -> Result<Vec<u8>, AllocError> {
+    let mut writer = BitWriter::new(alloc, Order::LsbFirst);
+    for value in 0..=255u8 {
+        write_frame(&[value; 300], &mut writer)?;
+    }
+    Ok(writer.into_octets())
+}
+
+#[test]
+fn many_frames_come_in_one_piece(rt: HostRuntime) -> Result<(), Fail> {
+    let mut deframer = Deframer::new(rt.alloc());
+    deframer.feed(&frames_of_each_value(rt.alloc())?)?;
+    assert_eq!(rt; deframer.counts(), Counts { good: 256, ..NONE });
+    for value in 0..=255u8 {
+        assert!(rt; next_is(&mut deframer, &[value; 300]), "{value}");
+    }
+    assert!(rt; deframer.next().is_none());
+    Ok(())
+}

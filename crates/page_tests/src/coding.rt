@@ -164,3 +164,54 @@ fn only_memory_is_refused_for_a_code(rt: HostRuntime) {
         }
     }
 }
+
+/// A page of rows of 1,216 white and as many black pixels in turn.
+fn combs(alloc: Global, rows: u32) -> Result<Page, RasterFault> {
+    let mut page = Page::new(alloc, WIDTH, true)?;
+    for _ in 0..rows {
+        page.push_row(Row::from_runs(alloc, &[1; 2432])?)?;
+    }
+    Ok(page)
+}
+
+/// Asserts that the code of a page of so many such rows has this many bits, and that the page is read of it.
+fn combs_come_back(
+    alloc: Global,
+    rt: &impl Abort,
+    rows: u32,
+    (coding, order): (Coding, Order),
+    bits: u128,
+) -> Result<(), Fail> {
+    let page = combs(alloc, rows)?;
+    let octets = coded(alloc, &page, coding, order)?;
+    assert_eq!(rt; octets.len() as u128, bits.div_ceil(8));
+    let (read, used) = coding.decode(alloc, &octets, order, WIDTH, true)?;
+    assert_eq!(rt; (read.rows().len(), used), (rows as usize, bits));
+    for row in read.rows() {
+        let mut runs = Vec::new(alloc);
+        row.runs(alloc, &mut runs)?;
+        assert!(rt; runs.as_slice() == [1; 2432].as_slice());
+    }
+    Ok(())
+}
+
+// In one dimension a row has an EOL and 1,216 times 000111 010, and the page six EOLs.
+#[test]
+fn a_page_of_4_194_788_octets_comes_back(rt: HostRuntime) -> Result<(), Fail> {
+    let code = (Coding::OneDim, Order::LsbFirst);
+    combs_come_back(rt.alloc(), &rt, 3_063, code, 3_063 * 10_956 + 72)
+}
+
+// In two dimensions the first row has horizontal mode, 001 000111 010, 1,214 times, VL3, VL2, VL1 and V0; each other one 2,432 times V0;
+// and the page EOFB.
+#[test]
+fn the_largest_page_comes_back(rt: HostRuntime) -> Result<(), Fail> {
+    let code = (Coding::T6, Order::MsbFirst);
+    combs_come_back(
+        rt.alloc(),
+        &rt,
+        20_000,
+        code,
+        14_568 + 17 + 19_999 * 2432 + 24,
+    )
+}

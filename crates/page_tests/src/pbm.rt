@@ -1,6 +1,6 @@
 //! Readers that give few octets at once, and that fail; images that a piece's end cuts; refused memory.
 
-use raster::{RasterFault, read_first_pbm, read_pbm, write_text};
+use raster::{Document, Page, RasterFault, Row, read_first_pbm, read_pbm, write_text};
 use std::alloc::{AllocError, Global};
 use std::io;
 use std::io::Read;
@@ -174,5 +174,55 @@ fn only_memory_is_refused_for_images(rt: HostRuntime) -> Result<(), Fail> {
         }
         assert!(rt; matches!(number_of(alloc, octets, false), 0 | 9));
     }
+    Ok(())
+}
+
+/// The image of the largest page, whose pixels are white and black in turn.
+fn largest_image(alloc: Global) -> Result<Vec<u8>, AllocError> {
+    let mut octets = Vec::new(alloc);
+    octets.extend_from_slice(b"P4\n2432 20000\n")?;
+    octets.resize(6_080_014, 0x55)?;
+    Ok(octets)
+}
+
+/// The rows of the only image, or 0 where there are more.
+fn rows_of_the_only(alloc: Global, octets: &[u8]) -> Result<usize, RasterFault> {
+    let mut reader = octets;
+    let document = read_pbm(alloc, &mut reader, true)?;
+    match document.pages() {
+        [page] => Ok(page.rows().len()),
+        _ => Ok(0),
+    }
+}
+
+#[test]
+fn the_largest_image_is_read(rt: HostRuntime) -> Result<(), Fail> {
+    let alloc = rt.alloc();
+    let octets = largest_image(alloc)?;
+    assert_eq!(rt; octets.len(), 14 + 20_000 * 304);
+    assert_eq!(rt; rows_of_the_only(alloc, &octets)?, 20_000);
+    Ok(())
+}
+
+/// A page of a white pixel.
+fn pixel(alloc: Global) -> Result<Page, RasterFault> {
+    let mut page = Page::new(alloc, 1, false)?;
+    page.push_row(Row::from_runs(alloc, &[1])?)?;
+    Ok(page)
+}
+
+/// A document of so many pages and one more.
+fn document_after(alloc: Global, more: u32) -> Result<Document, RasterFault> {
+    let mut document = Document::new(alloc, pixel(alloc)?)?;
+    for _ in 0..more {
+        document.push(pixel(alloc)?)?;
+    }
+    Ok(document)
+}
+
+#[test]
+fn a_document_has_many_pages(rt: HostRuntime) -> Result<(), Fail> {
+    let document = document_after(rt.alloc(), 4_999)?;
+    assert_eq!(rt; document.pages().len(), 5_000);
     Ok(())
 }

@@ -1,6 +1,6 @@
-//! Rows at size: their changing elements.
+//! Rows at size: their changing elements and their runs.
 
-use raster::Row;
+use raster::{RasterFault, Row};
 use std::alloc::{AllocError, Global};
 use std::process::Abort;
 use std::test::Fail;
@@ -36,4 +36,20 @@ fn changes_come_back(rt: HostRuntime) -> Result<(), Fail> {
         changes_come_back_of(alloc, &rt, runs)?;
     }
     changes_come_back_of(alloc, &rt, &[1; 2432])
+}
+
+/// The row's own runs.
+fn runs_of(alloc: Global, row: &Row) -> Result<Vec<u32>, RasterFault> {
+    let mut runs = Vec::new(alloc);
+    row.runs(alloc, &mut runs)?;
+    Ok(runs)
+}
+
+#[test]
+fn a_row_of_single_pixels_has_2432_runs(rt: HostRuntime) -> Result<(), Fail> {
+    let alloc = rt.alloc();
+    let row = Row::from_runs(alloc, &[1; 2432])?;
+    let runs = runs_of(alloc, &row)?;
+    assert_eq!(rt; runs.as_slice(), [1; 2432].as_slice());
+    Ok(())
 }

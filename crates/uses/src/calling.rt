@@ -10,6 +10,7 @@ use call_tallies::drive_many;
 use calls::{BadLine, CallOptions, call_engine};
 use command_files::context::{Context, Messages};
 use command_files::files::printed::say;
+use command_files::streams::Streams;
 use command_files::{Completeness, Runs};
 use commands::version::VersionCommand;
 use conversations::{Conversation, PageStore, TakeFault, TimedLine, answer_line};
@@ -169,7 +170,8 @@ pub fn print_words(rt: &HostRuntime, words: &str) -> Result<(), ToolFault> {
         json: false,
         explain: false,
     };
-    let mut context = Context::new(rt, messages);
+    let streams = Streams::new(rt);
+    let mut context = Context::new(&streams, messages);
     say(&mut context, words.as_bytes())
 }
 
