@@ -10,6 +10,8 @@
 #     make tarball, make deb packs what was built, into packaging/out
 #     make wheel             packs the module for Python with the library, into packaging/out; after make lib-try with G3FAX=build
 #     make book              writes what is proved, and the definitions that it rests on, as pages: out/book/index.html
+#     make plants            tries the planted bugs that the gate leaves out, over what the gate left, and writes docs/PLANTS.md: an hour on
+#                            four processors
 #     make help              prints these lines
 #
 # PREFIX is where the files are used from. DESTDIR is put before it where they are gathered elsewhere first, as for a package. LIBDIR is
@@ -55,4 +57,7 @@ wheel:
 book:
 	docs/book.py
 
-.PHONY: all try lib-try check help install uninstall tarball deb wheel book
+plants:
+	bench/plant/try_edits.py --all
+
+.PHONY: all try lib-try check help install uninstall tarball deb wheel book plants

@@ -224,10 +224,16 @@ def compare(output, wanted):
     need(len(lines) == len(wanted), f"it printed {len(lines)} lines, the reference {len(wanted)}")
 
 
+def remove_outputs(folder):
+    """Removes what a call before has left: --bits replaces no file."""
+    for name in ("pages.pbm", "to-answerer.bits", "to-caller.bits"):
+        if os.path.exists(os.path.join(folder, name)):
+            os.remove(os.path.join(folder, name))
+
+
 def run_once(folder, options):
     out = os.path.join(folder, "pages.pbm")
-    if os.path.exists(out):
-        os.remove(out)
+    remove_outputs(folder)
     files = ["--bits", folder, "--out", out, os.path.join(folder, "in.pbm")]
     words = [PROGRAM, "call", "--script", os.path.join(folder, "script"), *options, *files]
     ran = subprocess.run(words, capture_output=True, timeout=120)

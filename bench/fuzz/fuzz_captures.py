@@ -51,19 +51,20 @@ def pps(ends, page, block, last):
 
 class Reading:
     """Contents, one after the other: `stored` has each page by its number, its width, its rows and whether they are those before a gap;
-    `said` what is said of what is missing."""
+    `told` what is said of what is missing."""
 
     def __init__(self, salvage):
-        self.salvage, self.stored, self.said = salvage, [], []
+        self.salvage, self.stored, self.told = salvage, [], []
         self.begin_call()
 
     def begin_call(self):
-        self.due = 0
+        self.due, self.said = 0, None
+        self.taken, self.held = None, {}
         self.begin_group(None, None)
 
     def begin_group(self, agreed, ended):
         """`agreed` is the width and the most octets of a frame, by a DCS; `ended` what the page before ended with, while a DCS is due."""
-        self.agreed, self.ended, self.taken = agreed, ended, None
+        self.last_agreed, self.ended = agreed, ended
         self.asked, self.kept = None, {}
         self.forget_coming()
         self.begin_page()
@@ -74,16 +75,24 @@ class Reading:
     def forget_coming(self):
         self.coming, self.has_begun = {}, False
 
+    @property
+    def agreed(self):
+        return None if self.ended else self.last_agreed
+
     def hear(self, content):
         kind = content[:3]
         if kind == b"\xff\x13\x83":
-            self.leave()
-            due = 0 if self.ended == EOP else self.due
-            self.begin_group((WIDTHS[content[5] & 3], 64 if content[6] & 8 else 256), None)
-            self.due = due
+            self.leave(is_dcs=True)
+            self.due = 0 if self.said == EOP else self.due
+            if self.said not in (MPS, EOM):
+                self.said, self.taken = None, None
+            agreed = WIDTHS[content[5] & 3], 64 if content[6] & 8 else 256
+            if not self.last_agreed or self.last_agreed[1] != agreed[1]:
+                self.held = {}
+            self.begin_group(agreed, None)
         elif kind == b"\xff\x03\x06":
             self.has_begun = self.has_begun or self.agreed is None or len(content) - 4 <= self.agreed[1]
-            if self.agreed and len(content) - 4 <= self.agreed[1]:
+            if self.last_agreed and len(content) - 4 <= self.last_agreed[1]:
                 self.coming[content[3]] = content[4:]
         elif kind == b"\xff\x13\xbf":
             self.hear_pps(*content[3:])
@@ -92,30 +101,39 @@ class Reading:
             self.begin_call()
 
     def hear_pps(self, ends, page, block, last):
-        if self.taken == (page, block):
-            self.forget_coming()
-            return
         is_again = self.asked and self.asked[1:3] == (page, block)
-        if not is_again and (self.asked or (page, block) != (self.due, self.next)):
+        is_same = all(self.held.get(number) == octets for number, octets in self.coming.items())
+        if self.taken == (page, block) and is_same and not is_again:
+            self.forget_coming()
+            if ends != NULL and self.said != NULL:
+                self.said, self.ended = ends, ends if ends in NAMES else None
+            return
+        is_turn = (page, block) == (self.due, self.next) or self.is_used(page, block)
+        if not is_again and (self.asked or not is_turn):
             self.give_front(self.kept if self.asked else {})
         if not is_again:
             self.give_up()
+        if self.is_used(page, block):
+            self.name_used_number(page, block)
         if page != self.due:
             # a page that is far ahead is one of another call
-            first = self.due if (page - self.due) % 256 < 128 else 0
-            self.said += [f"page {(first + number) % 256 + 1} is missing" for number in range((page - first) % 256)]
+            first = self.due
+            if (page - self.due) % 256 >= 128:
+                first = 0
+                self.name_due()
+            self.told += [f"page {(first + number) % 256 + 1} is missing" for number in range((page - first) % 256)]
             self.begin_page()
             self.due = page
         if block != self.next:
-            self.said.append(f"page {page + 1} block {block}: the blocks before it are missing")
+            self.told.append(f"page {page + 1} block {block}: the blocks before it are missing")
             self.code, self.next, self.is_readable = b"", block, False
         if self.agreed:
             self.judge(ends, page, block, max(last, self.asked[3]) if is_again else last)
             return
         why = f"no DCS after {NAMES[self.ended]}, so it isn't stored" if self.ended else "no DCS before it"
-        self.said.append(f"page {page + 1} block {block}: {why}")
+        self.told.append(f"page {page + 1} block {block}: {why}")
         self.forget_coming()
-        self.taken = (page, block)
+        self.last_agreed, self.taken, self.held = None, (page, block), {}
         self.lose(ends, page, block)
 
     def judge(self, ends, page, block, last):
@@ -126,31 +144,32 @@ class Reading:
         if any(number not in self.kept for number in range(last + 1)):
             return
         whole = b"".join(self.kept[number] for number in range(last + 1))
-        self.asked, self.kept, self.taken = None, {}, (page, block)
+        self.asked, self.held, self.kept, self.taken = None, self.kept, {}, (page, block)
         if self.is_readable:
             self.code += whole
         if ends == NULL:
-            self.next = (block + 1) % 256
+            self.said, self.next = NULL, (block + 1) % 256
             return
         if self.is_readable:
             rows, is_page = read_rows(bits_of(self.code), self.agreed[0], True)
             if is_page:
                 self.stored.append((page + 1, self.agreed[0], rows, False))
             else:
-                self.said.append(f"page {page + 1}: can't be read")
+                self.told.append(f"page {page + 1}: can't be read")
         self.end_page(ends, page)
 
     def end_page(self, ends, page):
         self.begin_page()
-        self.due = (page + 1) % 256
+        self.due, self.said = (page + 1) % 256, ends
         if ends in NAMES:
-            self.agreed, self.ended = None, ends
+            self.ended = ends
 
     def lose(self, ends, page, block):
         """A block isn't there."""
         if ends != NULL:
             self.end_page(ends, page)
             return
+        self.said = NULL
         self.code, self.next, self.is_readable = b"", (block + 1) % 256, False
 
     def give_up(self):
@@ -159,16 +178,41 @@ class Reading:
             return
         ends, page, block, last = self.asked
         missing = [number for number in range(last + 1) if number not in self.kept]
-        self.said += [f"page {page + 1} block {block}: frame {number} is missing" for number in missing]
+        self.told += [f"page {page + 1} block {block}: frame {number} is missing" for number in missing]
         self.asked, self.kept = None, {}
         self.lose(ends, page, block)
 
-    def leave(self):
-        """Nothing more comes of what is open."""
+    def leave(self, is_dcs=False):
+        """Nothing more comes of what is open; after a DCS a page can still come."""
         self.give_front(self.kept if self.asked else self.coming)
         self.give_up()
-        if self.has_begun or self.code:
-            self.said.append("a page has no end")
+        if self.has_begun:
+            self.told.append("a page has no end")
+        elif not is_dcs or self.said == NULL:
+            self.name_due()
+
+    def is_used(self, page, block):
+        """Whether what had to follow comes under the number of what was before."""
+        if self.said == NULL:
+            return self.taken == (page, block) and block != self.next
+        return self.said in (MPS, EOM) and (page + 1) % 256 == self.due
+
+    def name_used_number(self, page, block):
+        """It counts as what had to follow."""
+        if self.said == NULL:
+            self.next = block
+        else:
+            self.due = page
+        said = {NULL: "NULL", MPS: "MPS", EOM: "EOM"}[self.said]
+        self.told.append(f"page {page + 1} block {block}: its number was used already, so it counts as what follows {said}")
+
+    def name_due(self):
+        """What must follow the last PPS didn't come."""
+        if self.said == NULL:
+            self.told.append("a page has no end")
+        elif self.said in (MPS, EOM):
+            ends = "MPS" if self.said == MPS else "EOM"
+            self.told.append(f"page {self.due + 1} is missing: the page before it ended with {ends}")
 
     def give_front(self, frames):
         """The rows of the open page, with those of an open block's frames before the first one that is missing."""
@@ -208,7 +252,7 @@ def read(contents, salvage):
         text = f"page {number}: page-{last}.pbm, {width} x {len(rows)} pixels, standard lines"
         lines.append(text + ", rows before a gap" * is_front)
         images[f"page-{last}.pbm"] = image_of(rows, width)
-    return lines, images, reading.said
+    return lines, images, reading.told
 
 
 # What callers send.
@@ -225,8 +269,9 @@ def blocks_of(rand, octets, most):
 
 
 def call(rand, first):
-    """What a caller sends of one to four pages, of which the first one has this number."""
+    """What a caller sends of one to four pages, of which the first one has this number. Few callers number all pages, or all blocks, alike."""
     count = rand.randint(1, 4)
+    same_page, same_block = rand.random() < 0.1, rand.random() < 0.1
     width, small = rand.choice(WIDTHS), rand.random() < 0.3
     sent = [dcs(width, small)]
     for number in range(first, first + count):
@@ -235,7 +280,8 @@ def call(rand, first):
         blocks = blocks_of(rand, octets_of(prescribed(rows, width, True)), 64 if small else 256)
         for place, block in enumerate(blocks):
             last = len(block) - 1
-            end = pps(ends if place + 1 == len(blocks) else NULL, number % 256, place % 256, last)
+            numbers = first if same_page else number, 0 if same_block else place
+            end = pps(ends if place + 1 == len(blocks) else NULL, numbers[0] % 256, numbers[1] % 256, last)
             frames = [fcd(at, octets) for at, octets in enumerate(block)]
             sent += frames + [end]
             if rand.random() < 0.2:
@@ -264,6 +310,11 @@ def capture(rand):
 # Captures worked by hand, of pages of one white row: the contents, the numbers of the pages stored, what is said.
 WHITE = fcd(0, octets_of("1" + 2 * "000000000001"))
 AGREED = dcs(1728, False)
+TWO_ROWS = fcd(0, octets_of("11" + 2 * "000000000001"))
+# The bits of a white row and its end, in two blocks of one frame.
+HALF, OTHER_HALF = fcd(0, b"\x01"), fcd(0, b"\x10\x00\x01")
+USED = "page 1 block 0: its number was used already, so it counts as what follows {}"
+AFTER_MPS = "page {} is missing: the page before it ended with MPS"
 WORKED = [
     ([AGREED, WHITE, pps(EOP, 0, 0, 0), DCN], [1], []),
     ([AGREED, WHITE, pps(MPS, 0, 0, 0), WHITE, pps(EOP, 2, 0, 0), DCN], [1, 3], ["page 2 is missing"]),
@@ -276,12 +327,24 @@ WORKED = [
     ([AGREED, WHITE, pps(EOM, 0, 0, 0), dcs(2048, False), WHITE, pps(EOP, 1, 0, 0)], [1, 2], []),
     ([AGREED, WHITE, pps(EOP, 2, 0, 0)], [3], ["page 1 is missing", "page 2 is missing"]),
     (2 * [AGREED, WHITE, pps(MPS, 0, 0, 0), WHITE, pps(EOP, 1, 0, 0), DCN], [1, 2, 1, 2], []),
-    (2 * [AGREED, WHITE, pps(MPS, 0, 0, 0), WHITE, pps(MPS, 1, 0, 0)], [1, 2, 1, 2], []),
+    (2 * [AGREED, WHITE, pps(MPS, 0, 0, 0), WHITE, pps(MPS, 1, 0, 0)], [1, 2, 1, 2], 2 * [AFTER_MPS.format(3)]),
     (
         [AGREED] + [content for page in range(255, 259) for content in (WHITE, pps(MPS, page % 256, 0, 0))],
         [256, 1, 2, 3],
-        [f"page {number} is missing" for number in range(1, 256)],
+        [f"page {number} is missing" for number in range(1, 256)] + [AFTER_MPS.format(4)],
     ),
+    ([AGREED, WHITE, pps(MPS, 0, 0, 0), DCN], [1], [AFTER_MPS.format(2)]),
+    ([AGREED, WHITE, pps(EOM, 0, 0, 0), AGREED], [1], ["page 2 is missing: the page before it ended with EOM"]),
+    ([AGREED, fcd(0, b"\0"), pps(NULL, 0, 0, 0), DCN], [], ["a page has no end"]),
+    ([AGREED, WHITE, pps(MPS, 0, 0, 0), AGREED, WHITE, pps(EOP, 1, 0, 0), DCN], [1, 2], []),
+    ([AGREED, WHITE, pps(MPS, 0, 0, 0), WHITE, pps(MPS, 0, 0, 0), DCN], [1], [AFTER_MPS.format(2)]),
+    ([AGREED, WHITE, pps(MPS, 0, 0, 0), pps(EOP, 0, 0, 0), DCN], [1], []),
+    ([AGREED, WHITE, pps(MPS, 0, 0, 0), TWO_ROWS, pps(EOP, 0, 0, 0), DCN], [1, 1], [USED.format("MPS")]),
+    ([AGREED, WHITE, pps(EOM, 0, 0, 0), AGREED, TWO_ROWS, pps(EOP, 0, 0, 0), DCN], [1, 1], [USED.format("EOM")]),
+    ([AGREED, WHITE, pps(MPS, 0, 0, 0), AGREED, WHITE, pps(EOP, 0, 0, 0), DCN], [1], []),
+    ([AGREED, HALF, pps(NULL, 0, 0, 0), OTHER_HALF, pps(EOP, 0, 0, 0), DCN], [1], [USED.format("NULL")]),
+    ([AGREED, WHITE, pps(EOP, 0, 0, 0), TWO_ROWS, pps(EOP, 0, 0, 0)], [1], ["page 1 block 0: no DCS after EOP, so it isn't stored"]),
+    ([AGREED, WHITE, pps(EOP, 0, 0, 0), pps(MPS, 0, 0, 0), WHITE, pps(EOP, 1, 0, 0)], [1, 2], []),
     ([WHITE, pps(EOP, 0, 0, 0), WHITE, pps(EOP, 0, 0, 0)], [], ["page 1 block 0: no DCS before it"]),
 ]
 

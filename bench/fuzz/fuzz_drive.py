@@ -20,7 +20,7 @@ from pathlib import Path
 sys.dont_write_bytecode = True
 sys.path.insert(0, str(Path(__file__).resolve().parent))
 from fuzz_calls import CALLER, PROGRAM, Failed, check, compare, compare_bits, line_of_call, pages_of  # noqa: E402
-from fuzz_calls import random_image, random_options, value_of  # noqa: E402
+from fuzz_calls import random_image, random_options, remove_outputs, value_of  # noqa: E402
 from reference_drive import RNRS, Drawn, Pcg32, drive, rate_of  # noqa: E402
 
 RATES = ["0%", "1%", "2%", "05%", "10%", "20%", "30%", "40%", "100%", "1/20", "3/1000", "1/3", "000000001/7", "999999999/999999999"]
@@ -63,8 +63,7 @@ def try_drive(rand, pages, folder):
     out, document = os.path.join(folder, "pages.pbm"), os.path.join(folder, "in.pbm")
     with open(document, "wb") as file:
         file.write(b"".join(pages.images[number] for number in chosen))
-    if os.path.exists(out):
-        os.remove(out)
+    remove_outputs(folder)
     words = [PROGRAM, "call", *line, *options, "--bits", folder, "--out", out, document]
     ran = subprocess.run(words, capture_output=True, timeout=120)
     left = Path(out).read_bytes() if os.path.exists(out) else None

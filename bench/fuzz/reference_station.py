@@ -409,6 +409,8 @@ class Answering(Ending):
         super().__init__(StationAnswerer(caps, limit), waits)
         self.store, self.has_begun, self.stored, self.failed = store, False, 0, None
         self.refuses, self.by_v21, self.reasons, self.last_pps = refuses, Ear(), [], None
+        # the last page number, and whether one didn't follow that before it
+        self.last_page, self.has_gap = None, False
 
     def rx(self, said):
         if not self.has_begun:
@@ -421,15 +423,20 @@ class Answering(Ending):
             self.cut = "refused"
 
     def note(self, contents):
-        """The DCSs that aren't allowed, and the last PPS."""
+        """The DCSs that aren't allowed, gaps in the numbers of pages, and the last PPS, but for one that repeats a confirmed block."""
         for content in contents:
             why, signal = refusal_of(content, self.station.caps), read_signal(content)
             self.reasons += [why] if why else []
-            self.last_pps = signal[1:3] if signal and signal[0] == "PPS" else self.last_pps
+            if signal and signal[0] == "PPS":
+                page = signal[2][0]
+                self.has_gap |= page not in ((0,) if self.last_page is None else (self.last_page, (self.last_page + 1) % 256))
+                self.last_page = page
+                if self.spoken != "MCF" or not self.last_pps or self.last_pps[1] != signal[2]:
+                    self.last_pps = signal[1:3]
 
     def is_whole(self):
-        """Whether the last block ended with EOP and was answered by MCF."""
-        return self.spoken == "MCF" and self.last_pps == ("EOP", self.station.accepted)
+        """Whether the last block ended with EOP and was answered by MCF, and no page number was passed over."""
+        return self.spoken == "MCF" and self.last_pps == ("EOP", self.station.accepted) and not self.has_gap
 
     def listen(self, said):
         station = self.station
@@ -466,8 +473,12 @@ class Answering(Ending):
             self.stored += 1
 
     def last_line(self):
-        why = f"the call is refused: {self.reasons[1]}\n" if self.name() == "refused" else ""
-        return f"{why}end {self.name() or 'line-lost'} pages {self.stored}"
+        name, why = self.name() or "line-lost", ""
+        if name == "refused":
+            why = f"the call is refused: {self.reasons[1]}\n"
+        if name == "normal" and self.spoken != "MCF":
+            name, why = "peer-left", "the caller left before its last page was confirmed\n"
+        return f"{why}end {name} pages {self.stored}"
 
 
 # Files.

@@ -1,7 +1,8 @@
 #!/bin/sh
-# Refuses each growth of memory in turn, one a run, until a run meets none, and tells how the runs ended:
+# Refuses each growth of memory in turn, one a run, until a run meets none, and tells how the runs ended. Those of whole calls are the
+# gate's, by .ci/growths.py:
 #
-#     bench/memory/refuse_growths.sh [CRATE.. | calls | words]       with no word all crates of tests, the calls and the words
+#     bench/memory/refuse_growths.sh [CRATE.. | words]       with no word all crates of tests, and the words
 #
 # Of a crate: each of its tests alone. A run has to end with an error that says that memory was refused, or by a stop of
 # the test's own. Ends with status 1 where one ends by another error or a signal, or takes more than a minute. To be looked at are
@@ -9,17 +10,11 @@
 # pass though a growth was refused (right where the test expects the refusal, or the growth wasn't needed).
 # A test of more than MOST growths (300) has half as many refused from its first on, and the others spread over the rest.
 #
-# Of `calls`: whole calls of a world, and both stations alone, by the program of bench/memory/refusals. Where a world is refused, the
-# fault is 9. Else the pages are a beginning of the document, `confirmed` is at most their number, `refused` is the number of
-# marks and at most 1, and a normal end means that all pages are there. Where the growth is the CFR's delivery, a time-out and
-# polite deliveries bring the call to its normal end. A station whose step was refused is as it was: the same input again
-# brings its call to its normal end.
-#
 # Of `words`: commands of the program that read one file. Where a growth is refused, it ends with fault 9, after lines that are a
 # beginning of those that it prints else; with fault 8 where the growth was that of an image in memory, which is a writer like others;
 # or it does all that it does else.
 #
-# Not covered: what a test doesn't call, two refusals in one run, and growths of the C library itself.
+# Not covered: what a test doesn't call, and two refusals in one run.
 # The tests are those that `rt ci` or `rt test` left, where no source is newer, or are built with no proof. Needs gcc.
 set -e
 root=$(cd "$(dirname "$0")/../.." && pwd)
@@ -27,13 +22,13 @@ work=$(mktemp -d)
 trap 'rm -rf "$work"' EXIT
 ulimit -c 0
 bad=0
-gcc -O2 -Wall -shared -fPIC -o "$work/refuse.so" "$root/bench/memory/refuse_growths.c"
+gcc -O2 -Wall -shared -fPIC -o "$work/refuse.so" "$root/.ci/end_to_end/memory.c"
 
 # refuse K PROGRAM WORDS: one run whose growth K is refused, 0 for none. Leaves what it said, and answers its status.
 refuse() {
     k=$1
     shift
-    timeout 60 env REFUSE="$k" GROWTHS="$work/growths" LD_PRELOAD="$work/refuse.so" "$@" > "$work/said" 2>&1
+    timeout 60 env MEMORY_AT="$k" MEMORY_COUNT="$work/growths" LD_PRELOAD="$work/refuse.so" "$@" > "$work/said" 2>&1
 }
 
 memory='\(NoMemory\|AllocError\|AllocFailed\|No(9)\)'
@@ -96,62 +91,6 @@ try_crate() {
     done
 }
 
-# Whether a call was kept: its name, its pages, and the line `confirmed C pages P refused R marks M caller X answerer Y beginning B`.
-is_kept() {
-    name=$1 all=$2
-    shift 2
-    [ "$1" = confirmed ] && [ "${14}" = true ] && [ "$2" -le "$4" ] && [ "$4" -le "$all" ] && [ "$6" = "$8" ] && [ "$6" -le 1 ] || return 1
-    [ "${10}" != "Some(Normal)" ] || [ "$2" = "$all" ] || return 1
-    [ "${12}" != "Some(Normal)" ] || [ "$4" = "$all" ] || return 1
-    case $name in
-    stations*) [ "$6 ${10} ${12} $2" = "1 Some(Normal) Some(Normal) $all" ] ;;
-    esac
-}
-
-# Whether, where the CFR's delivery was refused, a time-out and polite deliveries brought the call to its normal end.
-is_mended() {
-    [ "$1" = again ] || return 0
-    sed -n 's/^entry 4 //p' "$work/said" | grep -q 'item: Some(Cfr), turn: Silent, .*refused: true' || return 0
-    mended=$((mended + 1))
-    sed -n 's/^entry 5 //p' "$work/said" | grep -q 'event: CallerTimeout, item: None, turn: Training' &&
-        grep -q '^confirmed 1 pages 1 .* caller Some(Normal) answerer Some(Normal)' "$work/said"
-}
-
-# try_call NAME PAGES: refuses each growth of a call.
-try_call() {
-    refuse 0 "$work/refusals" "$1" || { echo "calls $1: FAILS with no growth refused"; bad=1; return; }
-    growths=$(cat "$work/growths") none=0 room=0 marked=0 mended=
-    [ "$growths" -gt 0 ] || bad=1
-    for k in $(seq "$growths"); do
-        status=0
-        refuse "$k" "$work/refusals" "$1" || status=$?
-        line=$(sed -n 2p "$work/said")
-        if [ $status = 0 ] && [ "$line" = "fault 9" ]; then
-            none=$((none + 1))
-        elif [ $status = 0 ] && is_kept "$1" "$2" $line && is_mended "$1"; then
-            case $line in *" refused 0 "*) room=$((room + 1)) ;; *) marked=$((marked + 1)) ;; esac
-        else
-            echo "BAD: calls $1, growth $k, status $status: $line"
-            bad=1
-        fi
-    done
-    lost=${mended:+", $mended of them the CFR's delivery"}
-    echo "calls $1: $growths growths, refused in turn: $none fault 9, $room with no mark, $marked with one$lost"
-}
-
-try_calls() {
-    mkdir -p "$work/copy/crates/refusals/src"
-    tar cf - -C "$root" --exclude=out crates crates.txt HANDLES | tar xf - -C "$work/copy"
-    cp "$root/bench/memory/refusals/main.txt" "$work/copy/crates/refusals/src/main.rt"
-    echo "refusals: $(cat "$root/bench/memory/refusals/libraries.txt")" >> "$work/copy/crates.txt"
-    "$root/packaging/build_unproved.sh" "$work/copy/crates/refusals" "$work/refusals"
-    export FROM="call "
-    for call in one:1 two:2 again:1 groups:2 frames:1 stations:2 stations-groups:2; do
-        try_call "${call%:*}" "${call#*:}"
-    done
-    unset FROM
-}
-
 # try_command WORDS: refuses each growth of a command of the program.
 try_command() {
     refuse 0 "$work/faxtool" "$@" || { echo "words $*: FAILS with no growth refused"; bad=1; return; }
@@ -187,10 +126,8 @@ try_words() {
     try_command frames --data 8 "$examples/line.bits"
 }
 
-for name in ${*:-$(sed -n 's/^\([a-z_]*_tests\):.*/\1/p' "$root/crates.txt") calls words}; do
-    if [ "$name" = calls ]; then
-        try_calls
-    elif [ "$name" = words ]; then
+for name in ${*:-$(sed -n 's/^\([a-z_]*_tests\):.*/\1/p' "$root/crates.txt") words}; do
+    if [ "$name" = words ]; then
         try_words
     elif [ -d "$root/crates/$name/src" ]; then
         try_crate "$name"

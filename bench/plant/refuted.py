@@ -33,6 +33,10 @@ import subprocess
 import sys
 import tempfile
 
+sys.dont_write_bytecode = True
+sys.path.append(os.path.join(os.path.dirname(os.path.abspath(__file__)), "..", "..", ".ci"))
+from refusals import are_proved
+
 ROOT = os.path.dirname(os.path.dirname(os.path.dirname(os.path.abspath(__file__))))
 TABLES = f"{ROOT}/bench/plant/tables"
 JOBS = int(os.environ.get("JOBS", "4"))
@@ -148,7 +152,7 @@ def refused(top, row, right):
     command = QUEUE + ["rt", "check", "--jobs", "1", "--only", f"{crate}::refuted::refuted"]
     done = subprocess.run(command, cwd=folder, capture_output=True, text=True)
     lines = (done.stdout + done.stderr).split("\n")
-    proved = done.returncode == 0 and any(re.match(r"only=1 proved=1\b", line) for line in lines)
+    proved = done.returncode == 0 and are_proved(lines, 1)
     said = [line for line in lines if "error" in line or "no proof" in line] or lines[-6:]
     return proved, "\n      ".join(line[:400] for line in said[:4])
 
@@ -170,17 +174,25 @@ def side_by_side(rows, judged):
         yield from pool.map(judged_there, rows)
 
 
+def all_rows():
+    """The wrong definitions of all tables."""
+    return [row for name in sorted(os.listdir(TABLES)) for row in table(f"{TABLES}/{name}")]
+
+
+def tried(rows, right=False):
+    """Prints what each row comes to; each with the name of the law that refuses it, None if it doesn't."""
+    for row, (proved, said) in side_by_side(rows, lambda mine, row: refused(mine, row, right)):
+        verdict = f"refused by {row['law']}" if proved else f"not refused\n      {said}"
+        print(f"{row['crate']}: {row['name']}: {verdict}", flush=True)
+        yield row, row["law"].rpartition(".")[2] if proved else None
+
+
 def main():
     words = sys.argv[1:]
     right = "--right" in words
     word = next((given for given in words if given != "--right"), "")
-    rows = [row for name in sorted(os.listdir(TABLES)) for row in table(f"{TABLES}/{name}")]
-    rows = [row for row in rows if word in row["name"] or word == row["crate"]]
-    count = 0
-    for row, (proved, said) in side_by_side(rows, lambda mine, row: refused(mine, row, right)):
-        count += proved
-        verdict = f"refused by {row['law']}" if proved else f"not refused\n      {said}"
-        print(f"{row['crate']}: {row['name']}: {verdict}", flush=True)
+    rows = [row for row in all_rows() if word in row["name"] or word == row["crate"]]
+    count = sum(law is not None for _row, law in tried(rows, right))
     print(f"{count} of {len(rows)} refused")
     return 0 if rows and count == (0 if right else len(rows)) else 1
 

@@ -2,35 +2,94 @@
 """Tries the planted bugs that the gate leaves out for their time, those of bench/plant/edits, as .ci/must_fail.py tries the gate's.
 
     bench/plant/try_edits.py [CRATE[/WORD]..]        (at the top of the repository, over what a gate or `rt check` left)
+    bench/plant/try_edits.py --all [CRATE..]         `make plants`: an hour on four processors
 
 Without a word it tries those of every crate; with one, those whose name has it. Where a function is still proved with its bug, the whole
-crate is checked: then what calls it has to refuse. JOBS in the environment is how many crates are tried side by side, 4 where it isn't
-set. Prints what each comes to, and a count. Ends with status 1 if one is still proved, or is refused for another reason alone than a goal
-that became false."""
+crate is checked: then what calls it has to refuse. With `--all` it also tries the laws' wrong rows of the same crates, as refuted.py does,
+and without a crate the bodies of wrong_definitions.py; and it writes what came of it into docs/PLANTS.md, of sources that are committed.
+JOBS in the environment is how many checks run side by side, 4 where it isn't set. Prints what each comes to, and a count. Ends with
+status 1 if one is still proved, or is refused for another reason alone than a goal that became false."""
 import concurrent.futures
+import datetime
 import os
 import sys
 from pathlib import Path
 
 TOP = Path(__file__).resolve().parent.parent.parent
-sys.path.append(str(TOP / ".ci"))
+sys.dont_write_bytecode = True
+sys.path += [str(TOP / ".ci"), str(TOP / "bench" / "plant")]
+import plants
+import refuted
+import wrong_definitions
 from must_fail import try_edits
 
-EDITS = TOP / "bench" / "plant" / "edits"
+JOBS = int(os.environ.get("JOBS", "4"))
+
+
+def lacking(crates):
+    """Whether a crate has no edits; it is told."""
+    none = [crate for crate in crates if not (plants.EDITS / crate).is_dir()]
+    if none:
+        print(f"bench/plant/edits has no edits of {none[0]}", file=sys.stderr)
+    return bool(none)
+
+
+def edits_tried(edits):
+    """The goals that refused the edits of each crate."""
+    with concurrent.futures.ThreadPoolExecutor(JOBS) as pool:
+        return dict(zip(edits, pool.map(lambda crate: try_edits(TOP / "crates", crate, edits[crate]), edits)))
+
+
+def every_of(crates):
+    """The edits of each crate."""
+    return {crate: sorted((plants.EDITS / crate).glob("*.edit")) for crate in crates}
+
+
+def counted(found, edits):
+    """Prints how many edits were refused, and returns whether all were."""
+    count, every = sum(map(len, found.values())), sum(map(len, edits.values()))
+    print(f"{count} of {every} refused by a goal that became false")
+    return bool(every) and count == every
+
+
+def row_of(crate, goals, edits, laws, commit):
+    """A row of the record, of the goals that refused edits of a crate and of the laws that refused its wrong rows."""
+    told = goals + [law for law in laws if law]
+    refused = sum(law is not None for law in laws)
+    return plants.Row(crate, commit, f"{datetime.date.today()}", len(goals), edits, refused, len(laws), plants.goals_told(told))
+
+
+def try_all(words):
+    """Tries all, writes the record, and returns whether all was refused."""
+    crates = words or sorted(folder.name for folder in plants.EDITS.iterdir())
+    if lacking(crates):
+        return False
+    changed = [crate for crate in crates if plants.changed(crate)]
+    if changed:
+        print(f"the sources of {changed[0]} aren't committed, and a record is of a commit", file=sys.stderr)
+        return False
+    commit = plants.git("rev-parse", "--short=10", "HEAD")
+    edits = every_of(crates)
+    found, laws = edits_tried(edits), {crate: [] for crate in crates}
+    for row, law in refuted.tried([row for row in refuted.all_rows() if row["crate"] in crates]):
+        laws[row["crate"]].append(law)
+    alike = None if words else wrong_definitions.tried()
+    rows = [row_of(crate, found[crate], len(edits[crate]), laws[crate], commit) for crate in crates]
+    told = None if alike is None else f"{alike[0]} of {alike[1]} refused by `headline`, and by a run ({commit}, {datetime.date.today()})."
+    plants.PAGE.write_text(plants.written(plants.PAGE.read_text(), rows, told))
+    print(f"docs/PLANTS.md has the record of {len(rows)} crates")
+    are_all = counted(found, edits) and all(law for each in laws.values() for law in each)
+    return are_all and (alike is None or alike[0] == alike[1])
 
 
 def main(words):
-    wanted = [word.partition("/") for word in words] or [(folder.name, "", "") for folder in sorted(EDITS.iterdir())]
-    lacking = [crate for crate, _slash, _word in wanted if not (EDITS / crate).is_dir()]
-    if lacking:
-        print(f"bench/plant/edits has no edits of {lacking[0]}", file=sys.stderr)
+    if words[:1] == ["--all"]:
+        return 0 if try_all(words[1:]) else 1
+    wanted = [word.partition("/") for word in words] or [(folder.name, "", "") for folder in sorted(plants.EDITS.iterdir())]
+    if lacking([crate for crate, _slash, _word in wanted]):
         return 2
-    edits = {crate: [edit for edit in sorted((EDITS / crate).glob("*.edit")) if word in edit.stem] for crate, _slash, word in wanted}
-    with concurrent.futures.ThreadPoolExecutor(int(os.environ.get("JOBS", "4"))) as pool:
-        counts = pool.map(lambda crate: try_edits(TOP / "crates", crate, edits[crate]), edits)
-        count, every = sum(counts), sum(map(len, edits.values()))
-    print(f"{count} of {every} refused by a goal that became false")
-    return 0 if every and count == every else 1
+    edits = {crate: [edit for edit in every_of([crate])[crate] if word in edit.stem] for crate, _slash, word in wanted}
+    return 0 if counted(edits_tried(edits), edits) else 1
 
 
 if __name__ == "__main__":
