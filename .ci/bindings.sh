@@ -1,7 +1,8 @@
 #!/bin/sh
 # Builds the library for C, and its examples with the kit's clang under the address sanitizer and with traps for what C doesn't define;
 # runs them on files that other programs wrote, and compares octets and texts. Then it installs the library, runs the first programs of
-# bindings/README.md, tries the fax terminal over the library, and tests the module for Python. Ends with status 1 at the first difference.
+# bindings/README.md, tries the fax terminal and the archive over the library, and tests the module for Python. Ends with status 1 at the
+# first difference.
 #
 #     .ci/bindings.sh [CALLS]
 #
@@ -113,9 +114,11 @@ done
 through() {
     wanted=$1 from=$2 name=$3
     shift 3
-    # a pipe's status is that of its last command; is_same sees what the example hasn't written
+    rm -f "$work/status"
+    # a pipe's status is that of its last command
     # shellcheck disable=SC2002
-    cat "$from" | timeout 600 "$work/$name" "$@" 2> "$work/error" | cat > "$work/output"
+    cat "$from" | { timeout 600 "$work/$name" "$@" 2> "$work/error" || echo $? > "$work/status"; } | cat > "$work/output"
+    [ ! -e "$work/status" ] || fails "$name through pipes ended with status $(cat "$work/status")"
     is_same "$work/output" "$wanted" "$name through pipes"
     runs=$((runs + 1))
 }
@@ -126,8 +129,8 @@ through "$work/a4.pbm" "$work/a4.pbm" raster /dev/stdin /dev/stdout
 through "$work/wanted" "$data/line.bits" frames /dev/stdin
 "$work/signals" "$data/line.bits" > "$work/wanted"
 through "$work/wanted" "$data/line.bits" signals /dev/stdin
-# shellcheck disable=SC2002
-cat "$work/a4.pbm" | timeout 600 "$work/call" /dev/stdin "$work/stored.pbm" 3 | cat > "$work/output"
+"$work/call" "$work/a4.pbm" "$work/stored.pbm" 3 > "$work/wanted"
+through "$work/wanted" "$work/a4.pbm" call /dev/stdin "$work/stored.pbm" 3
 is_same "$work/stored.pbm" "$work/a4.pbm" "call through pipes"
 
 # raster of the narrowest page and of the widest one
@@ -245,6 +248,7 @@ esac
 "$top/.ci/readme_programs.sh" "$work"
 "$top/.ci/wheel.sh" "$work"
 "$top/.ci/softfax.sh" "$work"
+"$top/.ci/archive.py" "$work"
 
 # the module for Python, over the shared library
 PYTHONDONTWRITEBYTECODE=1 G3FAX_LIBRARY=$work/libg3fax.so.0 timeout 600 python3 -W error "$top/bindings/python/test_g3fax.py" \

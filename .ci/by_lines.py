@@ -5,7 +5,8 @@ has come.
     .ci/by_lines.py PROGRAM OUT TALK..
 
 Each talk is TALK.lines, and TALK.expected has the answers. The answerer is the program with the word OUT. Ends with status 1 if an answer
-doesn't come within five minutes, or is another one."""
+doesn't come within five minutes, or is another one,
+or if the answerer ends with a status other than 0 and 1."""
 
 import subprocess
 import sys
@@ -34,6 +35,8 @@ def talks(command, talk):
     answers.append(process.stdout.read())
     process.wait()
     late.cancel()
+    if process.returncode not in (0, 1):
+        sys.exit(f"{talk}: the answerer ended with status {process.returncode}")
     return "".join(answers)
 
 

@@ -4,21 +4,24 @@
     .ci/definitions.py
     .ci/definitions.py --clauses   writes .ci/public_clauses.txt anew
 
-.ci/public_clauses.txt has each public clause (docs/clauses.py says what that is) by crate, item and name, or by its first words if it has
-no name: a clause that is added or deleted shows there. A public clause that names no definition, or has a part that is `Unit`, says
-nothing, and is refused.
+.ci/public_clauses.txt has each public clause (docs/clauses.py says what that is) by crate, file, item and name, with its text, and each
+definition that public clauses rest on: one that is added, deleted or changed shows there as a line. A public clause that names no
+definition, or has a part that is `Unit`, says nothing, and is refused.
 Each definition that a public clause names, or that such a definition rests on, has a comment of at least three words beside it. None of
 them has a case that is `⊤`, which says nothing, but those that are listed below with the reason.
 The book (docs/book.py) has no dead link, and each public item has its `///`.
-Each crate has a README of at most 100 lines, and all committed documents together have at most 25,000 words by `wc -w`.
+Each crate has a README of at most 100 lines. Each committed document has at most the words of its kind by `wc -w`: README.md 1,300, a crate's
+README 450, any other 2,200; and all together have at most 31,000.
 The table of docs/STATION.md, under `## Timers`, has exactly the waits of each state that the definitions of
 `crates/stations/specs/Waits.antt` have.
 The table of docs/FAULTS.md has exactly the faults of the program: those of a whole file, of a bit and of a line by the kinds of
 `FaultKind`, and those that the crates number beside them. The table in faxtool's help has the same but those that no command meets.
+docs/TESTS.md, under `## Calls that take memory`, names a test for each of those calls, and the test makes it, itself or by what it calls.
 Prints what is missing and ends with status 1, or prints one line of counts. .ci/test_checks.py sees each of these checks fail. It needs
 Python's standard library alone."""
 
 import collections
+import hashlib
 import re
 import subprocess
 import sys
@@ -31,9 +34,17 @@ import book as books
 from specs import WORD
 
 KEPT_CLAUSES = TOP / ".ci" / "public_clauses.txt"
+KEPT_HEADER = """\
+# What is promised: each public clause, with its text, and each definition that these rest on. `.ci/definitions.py --clauses` writes it
+# anew. A clause ends with the first digits of a SHA-256 of its text and of the full names of the definitions that it cites. A definition
+# has those of its text, without comments, and of the full names that it rests on. Not here are definitions of the kit, signatures and types.
+"""
 LEAST_WORDS = 3
 MOST_LINES = 100
-MOST_WORDS = 25_000
+MOST_WORDS = 31_000
+# The most words of a document, by its path; of any other, those of a guide.
+MOST_OF_A_PAGE = {r"README\.md": 1_300, r"crates/\w+/README\.md": 450}
+MOST_OF_A_GUIDE = 2_200
 # The definitions with cases that say nothing: how many, and why.
 EMPTY_CASES = {
     ("page_code", "RowCoders", "HoldsBefore"): (1, "a one-dimensional row is coded without the row before it"),
@@ -46,6 +57,21 @@ TIMERS = re.compile(r"^## Timers\n(.*?)(?=^## |\Z)", re.M | re.S)
 FAULTS = TOP / "docs" / "FAULTS.md"
 HELP = TOP / "crates" / "faxtool" / "src" / "args" / "fault_table.rt"
 KINDS = TOP / "crates" / "faults" / "specs" / "FaultKinds.antt"
+TESTS = TOP / "docs" / "TESTS.md"
+AT_SIZE = re.compile(r"^## Calls that take memory\n(.*?)(?=^##|\Z)", re.M | re.S)
+# The calls that take memory, by the crate that has them: what is public and can answer that memory was refused.
+TAKE_MEMORY = {
+    "raster": "Row::from_runs Row::runs RowRef::to_row Page::push_row Document::new Document::push read_pbm",
+    "run_tables": "BitWriter::push BitWriter::write_run BitWriter::write_eol BitWriter::write_row_1d BitReader::read_row_1d",
+    "page_code": "Coding::encode Coding::decode PageReader::read_on PageReader::finish",
+    "hdlc": "write_frame Deframer::feed",
+    "partial_page": "Blocks::cut BlockStore::put BlockStore::append_joined",
+    "stations": "Caller::step Answerer::step",
+    "line_sim": "World::new World::event World::polite run answer_stream",
+    "page_files": "code_engine show_engine",
+    "captures": "frames_engine",
+    "calls": "call_engine",
+}
 # The line of what a station refuses, which is no `ToolFault`.
 STATION_LINE = ("at a line", 31)
 
@@ -54,14 +80,34 @@ def named_clauses(crates):
     """Each public clause of the crates, and what it is called in the list."""
     for crate in crates.values():
         for file, clause in crate.clauses():
-            yield clause, f"{crate.name} {file.relative_to(crate.folder / 'src')} {clause.owner}: {clause.called}"
+            yield clause, f"{crate.name} {file.relative_to(crate.folder / 'src')} {clause.owner}: {clause.kind} {clause.name}".rstrip()
 
 
-def clause_faults(named, kept):
-    """The public clauses that are there and not kept, those that are kept and not there, and those that say nothing."""
-    kept, now = collections.Counter(kept), collections.Counter(name for _, name in named)
-    yield from (f"a public clause is missing: {clause}" for clause in sorted((kept - now).elements()))
-    yield from (f"{KEPT_CLAUSES.relative_to(TOP)} hasn't the public clause: {clause}" for clause in sorted((now - kept).elements()))
+def digits_of(text, keys):
+    """The first digits of a sum of a text and of the full names that it cites."""
+    return hashlib.sha256("\n".join([text, *sorted(".".join(key) for key in keys)]).encode()).hexdigest()[:12]
+
+
+def promised(named, definitions):
+    """The lines of the list, in order: of the public clauses, and of the definitions that they rest on."""
+    clauses = ((name, " ".join(clause.text.split()), clause.cited) for clause, name in named)
+    lines = [f"{name} {{ {text} }} {digits_of(text, cited)}" for name, text, cited in clauses]
+    for each in definitions:
+        place = each.file.relative_to(TOP / "crates" / each.crate)
+        text = "\n".join(line.rstrip() for line in each.bare.splitlines() if line.strip())
+        lines.append(f"{each.crate} {place} {each.name}: definition {digits_of(text, each.rests_on)}")
+    return sorted(lines)
+
+
+def promise_faults(promises, kept):
+    """What is promised and not kept, and what is kept and not promised any more."""
+    kept, now = collections.Counter(line for line in kept if not line.startswith("#")), collections.Counter(promises)
+    yield from (f"{KEPT_CLAUSES.relative_to(TOP)} has, and the crates haven't: {line}" for line in sorted((kept - now).elements()))
+    yield from (f"{KEPT_CLAUSES.relative_to(TOP)} hasn't, and the crates have: {line}" for line in sorted((now - kept).elements()))
+
+
+def empty_clauses(named):
+    """The public clauses that say nothing."""
     yield from (f"a public clause says nothing: {name}" for clause, name in named if clause.says_nothing)
 
 
@@ -102,13 +148,18 @@ def documents():
     return {str(file.relative_to(TOP)): file.read_text() for file in sorted(files) if file.is_file()}
 
 
+def most_of(name):
+    """The most words of the document of this path."""
+    return next((most for pages, most in MOST_OF_A_PAGE.items() if re.fullmatch(pages, name)), MOST_OF_A_GUIDE)
+
+
 def words_of(texts):
     """How many words documents have, split at white space as `wc -w` does; the bars of a table count too."""
     return sum(len(text.split()) for text in texts.values())
 
 
 def document_faults(texts, crates):
-    """The READMEs of crates that are missing or too long, and too many words."""
+    """The READMEs of crates that are missing or have too many lines, the documents with too many words, and too many words of all."""
     for name in crates:
         if f"crates/{name}/README.md" not in texts:
             yield f"crates/{name}/README.md is missing"
@@ -116,6 +167,8 @@ def document_faults(texts, crates):
         lines = text.count("\n")
         if re.fullmatch(r"crates/\w+/README\.md", name) and lines > MOST_LINES:
             yield f"{name} has {lines} lines, more than {MOST_LINES}"
+        if words_of({name: text}) > most_of(name):
+            yield f"{name} has {words_of({name: text})} words, more than {most_of(name)}"
     if words_of(texts) > MOST_WORDS:
         yield f"the documents have {words_of(texts)} words, more than {MOST_WORDS}"
 
@@ -167,28 +220,72 @@ def fault_faults(table, texts):
     ]
 
 
+def functions_of(source):
+    """The text of each function of a formatted source, and the names of its tests."""
+    found = dict(re.findall(r"^(?:pub )?fn (\w+)(.*?^\}$)", source, re.M | re.S))
+    return found, set(re.findall(r"^#\[test\]\n(?:pub )?fn (\w+)", source, re.M))
+
+
+def reached_in(functions, name):
+    """The text of a function and of all of its source that it calls, directly or not."""
+    names = [name]
+    for each in names:
+        names += [other for other in functions if other not in names and re.search(rf"\b{other}\(", functions[each])]
+    return "\n".join(functions[each] for each in names)
+
+
+def makes(text, call):
+    """Whether a text has a call of a function or of a method of a type."""
+    owner, _, name = call.rpartition("::")
+    return bool(re.search(rf"(\.|\b{owner}::){name}\(" if owner else rf"(?<![\w.:]){name}\(", text))
+
+
+def at_size_faults(proof, source_of):
+    """The calls that take memory and have no test in the table, and the rows whose test isn't there or doesn't make its calls."""
+    section = AT_SIZE.search(proof)
+    rows = re.findall(r"^\| (`.*`) \| `(\w+) (\w+)::(\w+)` \|$", section[1] if section else "", re.M)
+    told = [(call, *test) for calls, *test in rows for call in re.findall(r"`([\w:]+)`", calls)]
+    for call in sorted({call for calls in TAKE_MEMORY.values() for call in calls.split()} - {row[0] for row in told}):
+        yield f"docs/TESTS.md has no test of `{call}` under `Calls that take memory`"
+    for call, crate, module, test in told:
+        functions, tests = functions_of(source_of(crate, module))
+        if test not in tests:
+            yield f"docs/TESTS.md names the test `{crate} {module}::{test}`, which isn't there"
+        elif not makes(reached_in(functions, test), call):
+            yield f"docs/TESTS.md: the test `{crate} {module}::{test}` doesn't call `{call}`"
+
+
+def test_source(crate, module):
+    """The text of a module of a crate of tests; of none, nothing."""
+    file = TOP / "crates" / crate / "src" / f"{module}.rt"
+    return file.read_text() if file.is_file() else ""
+
+
 def main(words):
     if words not in ([], ["--clauses"]):
         print(__doc__)
         return 2
     book = books.Book()
     named = list(named_clauses(book.crates))
-    if words:
-        KEPT_CLAUSES.write_text("".join(f"{name}\n" for name in sorted(name for _, name in named)))
     asked = asked_of(book.crates, named)
     reached = [book.specs.definitions[key] for key in sorted(book.specs.reached_from(asked))]
+    promises = promised(named, reached)
+    if words:
+        KEPT_CLAUSES.write_text(KEPT_HEADER + "".join(f"{line}\n" for line in promises))
     texts = documents()
     pages, faults = books.faults_of(book)
-    faults += clause_faults(named, KEPT_CLAUSES.read_text().splitlines())
+    faults += promise_faults(promises, KEPT_CLAUSES.read_text().splitlines())
+    faults += empty_clauses(named)
     faults += comment_faults(reached)
     faults += empty_faults(reached)
     faults += document_faults(texts, book.crates)
     faults += timer_faults(WAITS.read_text(), STATION.read_text())
     faults += fault_faults(FAULTS.read_text(), HELP.read_text())
+    faults += at_size_faults(TESTS.read_text(), test_source)
     for fault in faults:
         print(f"definitions: {fault}")
     if faults:
-        print("definitions: --clauses writes the file of public clauses anew")
+        print("definitions: --clauses writes the list of what is promised anew")
         return 1
     print(
         f"definitions: {len(named)} public clauses name {len(asked)} definitions and rest on {len(reached)} of "

@@ -4,8 +4,9 @@
     .ci/edits.py
 
 Each `old:` text of .ci/must-fail/*/*.edit, and of bench/plant/edits/*/*.edit, which the gate doesn't try, stands exactly once in the
-file that the edit names, after the pairs before it; each .rt and .antt file is as the kit's formatter writes it; and no module has the
-name of a library that its crate uses. Prints what is wrong and ends with status 1, or prints one line of counts. It needs Python's
+file that the edit names, after the pairs before it; docs/PLANTS.md names bugs that are there, and has a record of those of bench that isn't
+too old; each .rt and .antt file is as the kit's formatter writes it; and no module has the name of a library that its crate uses.
+Prints what is wrong and ends with status 1, or prints one line of counts. It needs Python's
 standard library and the kit's `rattle`."""
 
 import os
@@ -13,6 +14,9 @@ import shutil
 import subprocess
 import sys
 from pathlib import Path
+
+sys.dont_write_bytecode = True
+import plants
 
 TOP = Path(__file__).resolve().parent.parent
 PARTS = ["src", "specs", "proofs"]
@@ -74,10 +78,14 @@ def main():
         wrong += unformatted(crate)
     for line in (TOP / "crates.txt").read_text().splitlines():
         wrong += shadowed(line)
+    wrong += plants.faults_here()
     for fault in wrong:
         print(f"edits: {fault}")
     if not wrong:
         print(f"edits: {len(edits)} edits can be made, and the sources of {len(crates)} crates are formatted")
+        untried = plants.untried(plants.PAGE.read_text(), plants.edits_here())
+        if untried:
+            print(f"edits: `make plants` has not yet tried those of {', '.join(untried)}")
     return 1 if wrong else 0
 
 

@@ -66,6 +66,8 @@ for program in "$@"; do
     try_most_rows
     try_large_frames
     try_captured
+    try_lost_page
+    try_used_number
     try_words
     try_helps
     try_version
@@ -77,6 +79,8 @@ for program in "$@"; do
     try_strips
     try_outputs
     try_closed
+    try_calls_fail
+    try_limits
     try_scripts
     try_calls
     try_call_memory
@@ -89,6 +93,8 @@ for program in "$@"; do
     try_first
     try_reference
     try_readme
+    try_recipes
+    try_archive
     [ "$count" -ge "$least" ] || fails "$count runs, and not $least at least"
     echo "end to end: ${program##*/} passed $count runs"
 done

@@ -19,35 +19,11 @@ from pathlib import Path
 
 from edits import PARTS, RATTLE, TOP, faults_of, pairs_of
 from prove import below, read_crates
+from refusals import PLACE, goal_of, goals, is_read, places, shows_a_goal
 
 KIT = Path(os.environ.get("KIT", "/opt/rattle"))
 # How a function begins in a formatted source.
 FUNCTION = re.compile(r'(?:    )?(?:pub(?:\(\w+\))? )?(?:const |extern "C" |unsafe )*fn (\w+)')
-# An open goal of the function, or a value that doesn't fit.
-FALSE_GOAL = re.compile(
-    r"it is not proved that |the two (types|sides) (first )?differ"
-    r"|`omega`: the goal does not follow|`search`: no proof of "
-    # what `cc` says where the equations at hand don't give the goal
-    r"|list the missing equation with its arguments"
-)
-# A name, a field or a file that is gone.
-GONE = re.compile(r"is not in scope|is no name|has no field|has no `|was not admitted")
-TYPES = re.compile(r"expected type `([^`]*)`, but this has type `([^`]*)")
-SIGN = re.compile(r"◌[^\w\s`]+◌")
-
-
-def is_of_one_shape(reason):
-    """Whether the two types that it names differ by numbers and names alone, as far as it is printed."""
-    types = TYPES.search(reason)
-    if not types:
-        return False
-    wanted, found = SIGN.findall(types[1]), SIGN.findall(types[2])
-    return found == wanted if reason[types.end():types.end() + 1] == "`" else found == wanted[:len(found)]
-
-
-def shows_a_goal(reason):
-    """Whether a line of a check says that a goal became false, and not that a proof no longer fits."""
-    return not GONE.search(reason) and bool(FALSE_GOAL.search(reason) or is_of_one_shape(reason))
 
 
 def function_at(text, at, module):
@@ -127,7 +103,7 @@ class Bug:
         """What a check said of its function that shows a goal which became false; None if nothing."""
         proofs = "/" + self.function.removeprefix(f"{crate}::").replace("::", "/") + "/"
         for line in lines:
-            place = re.match(r"(?:note: )?(?:\./)?(\S+?):(\d+):\d+: ", line)
+            place = PLACE.match(line)
             if place and shows_a_goal(line) and (proofs in place[1] or self.is_at(folder, crate, place[1], int(place[2]))):
                 return line
         return None
@@ -168,7 +144,7 @@ class Tries:
     def together(self, bugs):
         """Of bugs of different functions those that are refused, with what is said of each."""
         planted, folder, _status, lines = self.check(bugs)
-        if len(bugs) > 1 and not any(line.startswith("only=") for line in lines):
+        if len(bugs) > 1 and not is_read(lines):
             # one of them isn't read, or doesn't compile
             half = len(bugs) // 2
             return self.together(bugs[:half]) | self.together(bugs[half:])
@@ -184,9 +160,8 @@ class Tries:
             _planted, folder, status, lines = self.check([bug], False)
         if status == 0:
             return False, "NOT REFUSED"
-        told = [line.strip() for line in lines if re.match(r"(note: )?(\./)?\S+:\d+:\d+:", line)]
-        reason = next(filter(shows_a_goal, told), None)
-        return (True, reason) if reason else (False, "for another reason: " + next(iter(told), lines[-2:][0]))
+        reason = next(iter(goals(lines)), None)
+        return (True, reason) if reason else (False, "for another reason: " + next(iter(places(lines)), lines[-2:][0]))
 
     def all(self, edits):
         """Each edit, whether it is refused, and what is said of it."""
@@ -204,20 +179,20 @@ class Tries:
 
 
 def try_edits(crates, crate, edits):
-    """Prints what each edit of a crate comes to, and returns how many are refused."""
-    count = 0
+    """Prints what each edit of a crate comes to, and returns the name of the goal that refuses it, of each that is refused."""
+    found = []
     with tempfile.TemporaryDirectory(prefix="must-fail-") as room:
         for edit, is_refused, said in Tries(crates, crate, room).all(edits):
-            count += is_refused
+            found += [goal_of(said)] if is_refused else []
             print(f"{crate}/{edit.stem}: {'refused: ' if is_refused else ''}{said[:200]}", flush=True)
-    print(f"{crate}: {count} of {len(edits)} planted bugs refused by a goal that became false", flush=True)
-    return count
+    print(f"{crate}: {len(found)} of {len(edits)} planted bugs refused by a goal that became false", flush=True)
+    return found
 
 
 def main(crates, *names):
     edits = {name: sorted((TOP / ".ci" / "must-fail" / name).glob("*.edit")) for name in names}
-    counts = [try_edits(crates, name, found) == len(found) > 0 for name, found in edits.items()]
-    return 0 if counts and all(counts) else 1
+    passed = [len(try_edits(crates, name, found)) == len(found) > 0 for name, found in edits.items()]
+    return 0 if passed and all(passed) else 1
 
 
 if __name__ == "__main__":

@@ -6,7 +6,8 @@
 Each document's lines run in a copy of docs/examples of their own, where `faxtool` is the program. In a block that is fenced as `console`
 a line that begins with `$ ` is a command, one that begins with `> ` goes on with it, and the lines up to the next command are all that it
 prints, on standard output and standard error; a line `...` stands for any lines. In a table each cell that is a `faxtool` command is run:
-it must end with status 0 and say nothing on standard error, but how a station's call ended. Blocks of another name are not run.
+it must end with status 0 and say nothing on standard error, but how a station's call ended. No command is ended by a signal. Blocks of
+another name are not run.
 A pipe whose second command ends before `faxtool` has written all, as `head` does, is refused: whether `faxtool` then says that its output
 was closed is another thing in each run.
 A command with `jq` is named and left out where there is none. Prints how many commands there are, or the first difference, and ends with
@@ -80,6 +81,9 @@ def try_document(program, document):
             if ENDS_EARLY.search(command):
                 sys.exit(f"{document.name}: `{command}` doesn't read all that `faxtool` writes")
             printed, errors, status = run(command, folder, status, subprocess.PIPE if shown is None else subprocess.STDOUT)
+            # of a signal, by the shell's count, or by Python's where the shell was the program
+            if status > 128 or status < 0:
+                sys.exit(f"{document.name}: `{command}` ended with status {status}")
             if shown is None and (status != 0 or errors and not ENDED.fullmatch(errors)):
                 sys.exit(f"{document.name}: `{command}` ended with status {status}:\n{errors}")
             if shown is not None and not are_shown(printed, shown):

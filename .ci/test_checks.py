@@ -1,5 +1,5 @@
 #!/usr/bin/env python3
-"""Sees each check of .ci/definitions.py and docs/book.py refuse what it is there for, by a change of what it reads:
+"""Sees each check of .ci/definitions.py, .ci/witnesses.py and docs/book.py refuse what it is there for, by a change of what it reads:
 
     .ci/test_checks.py
 
@@ -10,6 +10,7 @@ import sys
 
 sys.dont_write_bytecode = True
 import definitions as checks
+import witnesses as given
 
 books = checks.books
 BOOK = books.Book()
@@ -47,28 +48,67 @@ def comments():
     yield refuses("one empty case more than is listed", checks.empty_faults, [stops], [more], "StopsSo")
 
 
+def is_one_line(name, kept, anew):
+    """Once the list is written anew nothing is refused, and one line of it has changed, that of this name."""
+    assert not list(checks.promise_faults(anew, anew))
+    changes = sorted({*kept} ^ {*anew})
+    assert len(kept) == len(anew) and len(changes) == 2 and all(line.startswith(f"{name} ") for line in changes), changes
+
+
 def clauses():
-    """A clause that is added, one that is taken away, and one that says nothing."""
-    kept = [name for _, name in NAMED]
+    """A clause that is added, one that is taken away, one that is weaker under its name, or cites another definition under the same name,
+    and one that says nothing; and a definition that is weaker, or rests on another one."""
+    definitions = [BOOK.specs.definitions[key] for key in sorted(REACHED)]
+    kept = checks.promised(NAMED, definitions)
+
+    def check(named):
+        return checks.promise_faults(checks.promised(named, definitions), kept)
+
+    def check_definitions(others):
+        return checks.promise_faults(checks.promised(NAMED, others), kept)
+
     clause, name = next(pair for pair in NAMED if pair[1].endswith("calls_bear: ensures two"))
     without = [pair for pair in NAMED if pair[0] is not clause]
-    yield refuses("a clause that is gone", lambda named: checks.clause_faults(named, kept), NAMED, without, name)
-    older = [one for one in kept if one != name]
-    yield refuses("a clause that is new", lambda list_of: checks.clause_faults(NAMED, list_of), kept, older, name)
+    yield refuses("a clause that is gone", check, NAMED, without, name)
+    older = [line for line in kept if not line.startswith(f"{name} ")]
+    yield refuses("a clause that is new", lambda lines: checks.promise_faults(kept, lines), kept, older, name)
+    for title, other in [
+        ("a weaker clause", changed(clause, text=f"{clause.text} ⊎ (two ≡ two)")),
+        ("a clause that cites another definition", changed(clause, cited=[("line_sim", "Elsewhere", key[2]) for key in clause.cited])),
+    ]:
+        named = [*without, (other, name)]
+        yield refuses(title, check, NAMED, named, f"hasn't, and the crates have: {name}")
+        is_one_line(name, kept, checks.promised(named, definitions))
     empty = [*without, (changed(clause, text="Unit"), name)]
-    yield refuses("a clause that is Unit", lambda named: checks.clause_faults(named, kept), NAMED, empty, "says nothing")
+    yield refuses("a clause that is Unit", checks.empty_clauses, NAMED, empty, "says nothing")
+    rest = [each for each in definitions if each.key != BORNE.key]
+    line = "line_sim specs/Tolerance.antt AnyTwoLossesAreBorne: definition"
+    for title, other in [
+        ("a weaker definition", changed(BORNE, lines=[*BORNE.lines, "    ⊎ ⊤"])),
+        ("a definition that rests on another one", changed(BORNE, rests_on={*BORNE.rests_on, ("line_sim", "Elsewhere", "IsBorne")})),
+    ]:
+        yield refuses(title, check_definitions, definitions, [*rest, other], f"hasn't, and the crates have: {line}")
+        is_one_line(line, kept, checks.promised(NAMED, [*rest, other]))
+    comment = changed(BORNE, lines=["-- Another comment.", *BORNE.lines])
+    assert not list(check_definitions([*rest, comment]))
 
 
 def documents():
-    """A README of 101 lines, one that is missing, a word too many, and a bar of a table too many."""
+    """A README of 101 lines, one that is missing, a page of each kind and all of them with a word too many, and a bar of a table too many."""
     def check(texts):
         return checks.document_faults(texts, ["hdlc"])
 
-    short, words = {"crates/hdlc/README.md": 100 * "\n"}, {"README.md": 25_000 * "word "}
+    short = {"crates/hdlc/README.md": 100 * "\n"}
     yield refuses("a README of 101 lines", check, short, {"crates/hdlc/README.md": 101 * "\n"}, "101 lines")
     yield refuses("a crate without a README", check, short, {}, "is missing")
-    yield refuses("a word too many", check, words, {**words, "docs/USING.md": "word\n"}, "25001 words")
-    yield refuses("a bar of a table too many", check, words, {**words, "docs/USING.md": "|\n"}, "25001 words")
+    guides = ["docs/USING.md", "docs/examples/README.md", "bindings/README.md", "packaging/README.md", "CONTRIBUTING.md", "CHANGELOG.md"]
+    for name, most in [("README.md", 1300), ("crates/hdlc/README.md", 450), *((guide, 2200) for guide in guides)]:
+        full = {**short, name: most * "word "}
+        assert not list(check(full))
+        yield refuses(f"a word too many in {name}", check, full, {**full, name: (most + 1) * "word "}, f"{name} has {most + 1} words")
+        yield refuses(f"a bar of a table too many in {name}", check, full, {**full, name: most * "word " + "|"}, f"{name} has {most + 1} words")
+    words = {f"docs/{number}.md": 1000 * "word " for number in range(31)}
+    yield refuses("a word too many in all", check, words, {**words, "docs/USING.md": "word\n"}, "the documents have 31001 words")
 
 
 def tables():
@@ -84,6 +124,29 @@ def tables():
     faults, helped = checks.FAULTS.read_text(), checks.HELP.read_text()
     row = next(line for line in faults.splitlines() if line.startswith("| 12 "))
     yield refuses("a fault that is missing", lambda text: checks.fault_faults(text, helped), faults, faults.replace(row + "\n", ""), "12")
+
+
+def at_size():
+    """A call without a row, a test that isn't there, one that doesn't call what its row says, and one in which a function does no more."""
+    proof, source_of = checks.TESTS.read_text(), checks.test_source
+    assert not list(checks.at_size_faults(proof, source_of))
+
+    def check(text):
+        return checks.at_size_faults(text, source_of)
+
+    def check_sources(old, new):
+        return checks.at_size_faults(proof, lambda crate, module: source_of(crate, module).replace(old, new))
+
+    yield refuses("a call without a test", check, proof, proof.replace("`World::new`, `World::polite`", "`World::new`"), "no test of `World::polite`")
+    yield refuses("calls that no table has", check, proof, proof.replace("## Calls that take memory", "## Calls"), "no test of `run`")
+    yield refuses("a test that isn't there", check, proof, proof.replace("sizes::runs_over", "sizes::run_over"), "isn't there")
+    yield refuses("a function that is no test", check, proof, proof.replace("runs_over_257_blocks", "run_over"), "isn't there")
+    yield refuses("a test that makes another call", check, proof, proof.replace("rows::a_row_of_single_pixels_has_2432_runs", "rows::changes_come_back"),
+                  "doesn't call `Row::runs`")
+    change = "world.polite(100_000)?", "100_000"
+    yield refuses("a call that a test makes no more", lambda pair: check_sources(*pair), ("", ""), change, "doesn't call `World::polite`")
+    change = "told(&run(alloc, document, WISH, CAPS, events)?)", "told(&rerun(alloc, document, WISH, CAPS, events)?)"
+    yield refuses("a call of another name", lambda pair: check_sources(*pair), ("", ""), change, "doesn't call `run`")
 
 
 def links():
@@ -108,8 +171,23 @@ def links():
     yield refuses("a guarantee of no clause", check, there, there.replace("two", "three"), "three")
 
 
+def witnesses():
+    """A premise that nothing gives any more, an entry of the list that isn't needed, and a type of which no law speaks."""
+    laws, others = given.cited_by(BOOK.crates, BOOK.specs)
+    coming = {key for key in laws | others if key[1] == "Coming"}
+
+    def premises(without, listed=given.NOT_GIVEN):
+        return given.premise_faults(BOOK.specs, laws - without, others - without, listed)
+
+    yield refuses("a premise that nothing gives", premises, set(), coming, "PieceComes")
+    entry = {**given.NOT_GIVEN, ("joined_terminals", "Octets", "PieceComes"): "it is given"}
+    yield refuses("a premise that is given", lambda listed: premises(set(), listed), given.NOT_GIVEN, entry, "PieceComes")
+    dialled = {key for key in laws if key[2] == "DialledAnswer"}
+    yield refuses("a keeper of no law", lambda own: given.trait_faults(BOOK.crates, BOOK.specs, own), laws, laws - dialled, "Confirmed")
+
+
 def main():
-    seen = [name for trials in (comments, clauses, documents, tables, links) for name in trials()]
+    seen = [name for trials in (comments, clauses, documents, tables, at_size, links, witnesses) for name in trials()]
     print(f"test_checks: {len(seen)} changes are refused: {', '.join(seen)}")
 
 

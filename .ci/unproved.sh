@@ -1,9 +1,10 @@
 #!/bin/sh
 # Builds the program and the library without proof, as a newcomer does, and runs every command of that program on real files: a wrong word or
-# a race shows in minutes, and not after the proofs.
+# a race shows in minutes, and not after the proofs. Calls have each growth of memory refused in turn.
 set -e
 cd "$(dirname "$0")/.."
 packaging/try.sh
 packaging/try.sh --library
 .ci/readme_programs.sh build
+.ci/growths.py
 .ci/end_to_end.sh build/faxtool

@@ -101,8 +101,10 @@ cp -r "$root/usr/share/doc/faxtool/examples" "$work/try/docs/examples"
 commands=$("$work/try/.ci/sessions.py" "$root/usr/bin/faxtool" "$root/usr/share/doc/faxtool/README.md" \
     "$root/usr/share/doc/faxtool/docs/USING.md") || ends "a command line of a document"
 [ "$commands" -gt 20 ] || ends "the documents have $commands commands alone"
-[ "$("$root/usr/bin/faxtool" version)" = "$version" ] || ends "faxtool version"
-grep -qxF "$("$root/usr/bin/faxtool" version --proof)" "$root/usr/share/doc/faxtool/docs/PROOF.md" || ends "faxtool version --proof"
+"$root/usr/bin/faxtool" version > "$work/said" || ends "faxtool version: status $?"
+[ "$(cat "$work/said")" = "$version" ] || ends "faxtool version"
+"$root/usr/bin/faxtool" version --proof > "$work/said" || ends "faxtool version --proof: status $?"
+grep -qxF "$(cat "$work/said")" "$root/usr/share/doc/faxtool/docs/PROOF.md" || ends "faxtool version --proof"
 
 if command -v man > /dev/null; then
     for page in "$root"/usr/share/man/man1/*.1.gz "$root"/usr/share/man/man3/*.3.gz; do
@@ -133,11 +135,12 @@ ldd "$work/shared" | grep -q 'libg3fax\.so\.0' || ends "the example doesn't want
 ! ldd "$work/static" | grep -q g3fax || ends "the example wants libg3fax though it has the archive"
 
 # the module for Python finds the installed library; what Python compiles it to goes with the package
-shown=$(cd "$work" && PYTHONPATH=$root/usr/lib/python3/dist-packages LD_LIBRARY_PATH=$root$libdir python3 -W error -c '
+(cd "$work" && PYTHONPATH=$root/usr/lib/python3/dist-packages LD_LIBRARY_PATH=$root$libdir python3 -W error -c '
 import g3fax, pathlib, sys
 with g3fax.Page.read_pbm(pathlib.Path(sys.argv[1]).read_bytes()) as page:
-    sys.stdout.buffer.write(page.encode())' "$root/usr/share/doc/faxtool/examples/page.pbm" | sha256sum)
-[ "$shown" = "$(sha256sum < "$root/usr/share/doc/faxtool/examples/page.mmr")" ] || ends "the module for Python codes a page to other octets"
+    sys.stdout.buffer.write(page.encode())' "$root/usr/share/doc/faxtool/examples/page.pbm") > "$work/code" \
+    || ends "the module for Python: status $?"
+is_same "$work/code" "$root/usr/share/doc/faxtool/examples/page.mmr" "the module for Python"
 [ -d "$root/usr/lib/python3/dist-packages/g3fax/__pycache__" ] || [ -n "$PYTHONDONTWRITEBYTECODE" ] || ends "Python compiled no module"
 
 # what the packages say that they need is what Debian's own tool finds

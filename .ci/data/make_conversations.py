@@ -193,8 +193,35 @@ JUMPED = [
     "end normal pages 2",
 ]
 STORED_TWO = [STORED.replace("14000", "7000"), STORED.replace("14000", "10000").replace('page-1', 'page-2').replace('"page":1', '"page":2')]
-GAP = ['{"at":10000,"gap":8}', '{"pages":2,"whole":true}', '{"end":"normal","pages":2}']
+GAP = ['{"at":10000,"gap":8}', '{"pages":2,"whole":false}', '{"end":"normal","pages":2}']
 worked_whole("page_number_that_jumps", "--answer --out DIR", JUMPED, pages=[WHITE, WHITE], records=[STORED_TWO[0], GAP[0], STORED_TWO[1], *GAP[1:]])
+# A second page under the number of the first: its PPS can't be told from a repeated one, so DCN is answered in place of MCF. So it is where the
+# first page ends a group (X111 0001), and a DCS and a check come between.
+USED = [*JUMPED[:6], (("rx 10000", "v21", [LAST]), [("v21", ["FF13FA"]), "done"])]
+GROUP = "FF13BF8F000000"
+USED_IN_A_GROUP = [
+    *HELD[:4],
+    (("rx 7000", "v21", [GROUP]), [("v21", [MCF]), "wait"]),
+    (("rx 9000", "v21", [DCS]), ["wait"]),
+    (("rx 11000", PAGE, CHECK), [("v21", [CFR]), "wait"]),
+    (("rx 13000", PAGE, WHITE_BURST), ["wait"]),
+    (("rx 14000", "v21", [LAST]), [("v21", ["FF13FA"]), "done"]),
+]
+IS_USED = "a page came under the number of the last one"
+USED_END = [f'{{"pages":1,"whole":false,"why":"{IS_USED}"}}', '{"end":"refused","pages":1}']
+for name, table in (("page_under_a_used_number", USED), ("page_under_a_used_number_in_a_new_group", USED_IN_A_GROUP)):
+    end = f"the call is refused: {IS_USED}\nend refused pages 1"
+    worked_whole(name, "--answer --out DIR", [*table, end], pages=[WHITE], records=[STORED_TWO[0], *USED_END])
+# The same PPS once more, and once more with another end, brings no frame: it is confirmed again.
+REPEATED = [
+    *JUMPED[:5],
+    (("rx 10000", "v21", [FIRST_OF_TWO]), [("v21", [MCF]), "wait"]),
+    (("rx 12000", "v21", [LAST]), [("v21", [MCF]), "wait"]),
+    (("rx 14000", "v21", [DCN]), ["done"]),
+    "end peer-left pages 1",
+]
+REPEATED_END = ['{"pages":1,"whole":false}', '{"end":"peer-left","pages":1}']
+worked_whole("page_confirmed_again", "--answer --out DIR", REPEATED, pages=[WHITE], records=[STORED_TWO[0], *REPEATED_END])
 worked_whole("answerer_in_frames", "--answer --frames --out DIR", FRAMED, pages=[WHITE])
 worked_whole("content_of_two_octets", "--answer --frames --out DIR", TWO_OCTETS)
 worked("caller_before_a_busy_answerer", "--call IN", CALLED, document=WHITE)

@@ -59,6 +59,14 @@ def burst(block, numbers, ends, page, count):
     return sent + [bytes([0xFF, 0x03, 0x86])] * 3 + [bytes([0xFF, 0x13, 0xBF, ends, page, count, len(block) - 1])]
 
 
+def ran(*words):
+    """A run of the program, which ends with status 0 or 1."""
+    done = subprocess.run([program, *words], capture_output=True)
+    if done.returncode not in (0, 1):
+        sys.exit(f"{words}: status {done.returncode}")
+    return done
+
+
 def blocks_of(code, small):
     """A page's code as blocks of frames."""
     size = 64 if small else 256
@@ -82,8 +90,7 @@ def tried(name, contents, wanted, said, status, numbers=None):
         file.write(line(contents))
     shutil.rmtree(pages, ignore_errors=True)
     os.mkdir(pages)
-    done = subprocess.run([program, "frames", "--pages", pages, bits], capture_output=True)
-    plain = subprocess.run([program, "frames", bits], capture_output=True)
+    done, plain = ran("frames", "--pages", pages, bits), ran("frames", bits)
     # a page has the number that it has in what is said, where one before it is missing
     got = [open(f"{pages}/page-{number}.pbm", "rb").read() for number in range(1, 9) if os.path.exists(f"{pages}/page-{number}.pbm")]
     said_of = [text for text in done.stdout.splitlines() if text.startswith(b"page ")]
@@ -128,7 +135,7 @@ def front(code, mmr):
     if os.path.exists(out):
         os.remove(out)
     words = ["--salvage", "--code", "mmr" if mmr else "mh", "--order", "lsb", "--width", "2432", f"{folder}/captured.code", out]
-    subprocess.run([program, "decode", *words], capture_output=True)
+    ran("decode", *words)
     return open(out, "rb").read() if os.path.exists(out) else b""
 
 
@@ -141,7 +148,7 @@ def salvaged(name, contents, fronts, wanted, said, first=1, pages_of_calls=9):
     for words in [], ["--json"]:
         shutil.rmtree(pages, ignore_errors=True)
         os.mkdir(pages)
-        done = subprocess.run([program, "frames", *words, "--pages", pages, "--salvage", bits], capture_output=True)
+        done = ran("frames", *words, "--pages", pages, "--salvage", bits)
         told = [text for text in done.stdout.decode().splitlines() if text.startswith(("page ", '{"file"'))]
         sizes = [octets.split(b"\n", 2)[1].decode().split() for octets in wanted]
         lines = [
@@ -181,7 +188,7 @@ def try_salvage(name, codes, mmr, small):
     salvaged(f"{name}, a frame lost", gap, [1], [rows, few], [missing])
     salvaged(f"{name}, a frame lost before a DCS", gap + both, [1], [rows, few, large, few], [missing], 1, 2)
     alone = [dcs(2432, mmr, small)] + burst(blocks[0], [n for n in range(len(blocks[0])) if n != lost], NULL, 0, 0)
-    salvaged(f"{name}, a frame lost at the end", alone, [1], [rows], [missing])
+    salvaged(f"{name}, a frame lost at the end", alone, [1], [rows], [missing, "a page has no end"])
     # no PPS comes after the last frames, of which one is missing
     salvaged(f"{name}, no PPS", alone[:-4], [1], [rows], ["a page has no end"])
     salvaged(f"{name}, no last PPS", both[:-4], [2], [large, few], ["a page has no end"])
@@ -235,8 +242,7 @@ for mmr in False, True:
             piece = codes[0][:200]
             with open(f"{folder}/captured.code", "wb") as file:
                 file.write(b"".join(blocks_of(piece, small)[0]))
-            words = [program, "show", "--code", "mmr", "--order", "lsb", "--width", "2432", f"{folder}/captured.code"]
-            fault = subprocess.run(words, capture_output=True, text=True).stderr.strip()
+            fault = ran("show", "--code", "mmr", "--order", "lsb", "--width", "2432", f"{folder}/captured.code").stderr.decode().strip()
             tried(f"{name}, cut", call([piece], mmr, small), [], [f"page 1: can't be read, {fault}"], 1)
 
 # a long capture takes no more memory than its longest page: forty pages of 20,000 white rows in 24 MiB of address space

@@ -20,7 +20,10 @@ program, bits, folder = sys.argv[1:]
 
 
 def run(*words):
-    return subprocess.run([program, "frames", *words], capture_output=True, check=False)
+    ran = subprocess.run([program, "frames", *words], capture_output=True, check=False)
+    if ran.returncode not in (0, 1):
+        sys.exit(f"frames {' '.join(words)} ended with status {ran.returncode}")
+    return ran
 
 
 def frame_text(frame):
@@ -41,6 +44,8 @@ def ranges(numbers):
 
 def missing_text(found):
     what = found["missing"]
+    if what == "page" and "after" in found:
+        return f"page {found['page']} is missing: the page before it ended with {found['after']}"
     if what == "page" and "fault" not in found:
         return f"page {found['page']} is missing"
     if what == "page":
@@ -52,6 +57,8 @@ def missing_text(found):
         return f"{block}: frame {found['frame']} is missing"
     if what == "blocks before":
         return f"{block}: the blocks before it are missing"
+    if what == "new number":
+        return f"{block}: its number was used already, so it counts as what follows {found['after']}"
     if what == "DCS" and "after" in found:
         return f"{block}: no DCS after {found['after']}, so it isn't stored"
     if what == "DCS":

@@ -2,8 +2,8 @@
 
 FOLDER has large.pbm, and large.mh, its code with the most significant bit first. What is written is the page but for two rows at
 most, one after the other, in whose place are two at most: a bit can make an EOL inside a row. Those that standard error tells as
-repaired are as many as it says, and each is the row before it. The whole page is repaired to itself, with nothing told. Ends with
-status 1 at the first that differs."""
+repaired are as many as it says, and each is the row before it. That RTC is missing is told where a bit of its six EOLs is flipped, and
+only there. The whole page is repaired to itself, with nothing told. Ends with status 1 at the first that differs."""
 
 import re
 import subprocess
@@ -26,7 +26,7 @@ def rows_of(image):
     return rows
 
 
-def repaired(octets, name):
+def repaired(octets, name, has_end=True):
     with open(f"{folder}/flipped", "wb") as file:
         file.write(octets)
     words = [program, "decode", "--repair", "--code", "mh", "--width", str(WIDTH), f"{folder}/flipped", f"{folder}/repaired.pbm"]
@@ -35,6 +35,10 @@ def repaired(octets, name):
         sys.exit(f"{name}: status {done.returncode}, {done.stderr!r}")
     rows = rows_of(open(f"{folder}/repaired.pbm", "rb").read())
     lines = done.stderr.decode().splitlines()
+    no_end = f"the page ends without its RTC after {len(rows)} rows"
+    if (no_end in lines[-1:]) == has_end:
+        sys.exit(f"{name}: other lines of RTC: {lines}")
+    lines = lines if has_end else lines[:-1]
     told = [re.fullmatch(r"row (\d+) repaired at bit (\d+)", line) for line in lines[:-1]]
     if lines and (None in told or lines[-1] != f"repaired rows: {len(told)}"):
         sys.exit(f"{name}: other lines: {lines}")
@@ -58,11 +62,13 @@ octets = open(f"{folder}/large.mh", "rb").read()
 if repaired(octets, "the whole page") != (page, 0):
     sys.exit("the whole page isn't repaired to itself")
 bits = 8 * len(octets)
+# where the six EOLs of RTC begin, each of 12 bits, without the fill at the end
+end = len(f"{int.from_bytes(octets):b}".rstrip("0")) + bits - int.from_bytes(octets).bit_length() - 72
 for k in range(1000):
     bit = bits * k // 1000
     flipped = bytearray(octets)
     flipped[bit // 8] ^= 0x80 >> bit % 8
-    rows, _ = repaired(flipped, f"bit {bit}")
+    rows, _ = repaired(flipped, f"bit {bit}", has_end=not end <= bit < end + 72)
     changed = differing(page, rows)
     if max(changed) > 2:
         sys.exit(f"bit {bit}: {changed[1]} other rows in place of {changed[0]}")

@@ -33,7 +33,7 @@ for code in "mh", "mmr":
                 sys.exit(f"{code} cut to {len(piece)} octets: other rows")
         # no row has more than 2,000 octets of code: of 2,432 pixels two have at most 12 bits
         least = min(rows, max(len(piece) - 2000, 0) // 2000)
-        if count < max(before, least) or (status == 0) != (count == rows and k == 60) and code == "mmr":
+        if status not in (0, 1) or count < max(before, least) or (status == 0) != (count == rows and k == 60) and code == "mmr":
             sys.exit(f"{code} cut to {len(piece)} octets: {count} rows, status {status}")
         before = count
     if before != rows:

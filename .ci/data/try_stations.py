@@ -510,9 +510,10 @@ STATES = {
     "WaitTraining": ("a", [("H", DCS)]),
     "Message": ("a", [("H", DCS), ("C", 2700 * "00")]),
 }
-INPUTS = {"CallerIn::Timeout": "T", "CallerIn::T5": "5", "AnswererIn::T1": "1", "AnswererIn::T2": "2"}
+# What a station of the program for streams hears once a wait is over.
+INPUTS = {("Caller", "T1"): "T", ("Caller", "T4"): "T", ("Caller", "T5"): "5", ("Answerer", "T1"): "1", ("Answerer", "T2"): "2"}
 TURNS = {"DCS and training": "Training", "PPS": "Pps", "RR": "Rr", "DCN": "Dcn", "DIS": "Dis"}
-ROW = re.compile(r"\| (?:Caller|Answerer), (.*?) \| (T\d) \| (\d+) s(?: ± .*?)? \| `(.*?)` \| (.*) \|")
+ROW = re.compile(r"\| (Caller|Answerer), (.*?) \| (T\d) \| (\d+) s(?: ± .*?)? \| (.*) \|")
 
 
 def told(state, kind, times):
@@ -527,11 +528,11 @@ def end_of(lines):
     return [line for line in lines if line.startswith("end")][0]
 
 
-def try_row(states, wait, seconds, name, does):
+def try_row(who, states, wait, seconds, does):
     """A row of the table: the wait runs in each of its states; once it is over the station sends what the row says and ends, if it says
     so; where there are tries, after the third."""
     for state in states:
-        lines, kind = told(state, "", 0), INPUTS[name]
+        lines, kind = told(state, "", 0), INPUTS[who, wait]
         if f"wait {wait} {seconds}000" not in lines:
             sys.exit(f"docs/STATION: {wait} of {seconds} s doesn't run in {state}: {lines}")
         first, _, third = does.partition("; after the third try ")
@@ -551,9 +552,9 @@ def try_timers():
     with open(timers, encoding="utf-8") as file:
         rows = [ROW.fullmatch(line).groups() for line in file.read().splitlines() if re.match(r"\| (Caller|Answerer), ", line)]
     runs = {state: set() for state in STATES}
-    for where, wait, seconds, name, does in rows:
+    for who, where, wait, seconds, does in rows:
         states = re.findall(r"`(\w+)`", where)
-        try_row(states, wait, seconds, name, does)
+        try_row(who, states, wait, seconds, does)
         for state in states:
             runs[state].add(f"wait {wait} {seconds}000")
     for state, waits in runs.items():

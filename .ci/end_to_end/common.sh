@@ -7,13 +7,42 @@ fails() {
     exit 1
 }
 
-# gives STATUS WORDS: the program ends with the status.
-gives() {
+# is_status STATUS WORDS: $status is this one. A program that a signal ended has 128 and the signal's number, so it is no status that a
+# case wants.
+is_status() {
+    [ "$status" = "$1" ] || { end=$1; shift; fails "$* ended with status $status, and not $end"; }
+}
+
+# ends STATUS WORDS: the program ends with the status. It reads the standard input of this call.
+ends() {
     end=$1 status=0
     shift
-    timeout 60 "$program" "$@" > "$work/output" 2> "$work/error" < /dev/null || status=$?
-    [ "$status" = "$end" ] || fails "faxtool $* ended with status $status, and not $end"
+    timeout 60 "$program" "$@" > "$work/output" 2> "$work/error" || status=$?
+    is_status "$end" "faxtool $*"
+}
+
+# gives STATUS WORDS: the same without standard input, counted as a run.
+gives() {
+    ends "$@" < /dev/null
     count=$((count + 1))
+}
+
+# finds_least: $least is the memory, in KB for `ulimit -v`, under which the program begins in each run: no case gives it less. With the
+# least memory the system can't map the program's file and ends it by SIGSEGV, status 139: below 2,000 KB for a program of clang, and some
+# 2,840 for one of Rattle's own compiler. With more the loader can't map the C library, status 127. A SIGSEGV after that is the program's own.
+finds_least() {
+    is_mapped=
+    for least in $(seq 1000 20 12000); do
+        status=0
+        { (ulimit -v "$least"; exec "$program" version) || status=$?; } > "$work/output" 2> "$work/error"
+        case $is_mapped$status in
+        139) ;;
+        *127) is_mapped=yes ;;
+        *) break ;;
+        esac
+    done
+    [ "$status" -le 1 ] || fails "faxtool version with $least KB of memory ended with status $status"
+    least=$((least + 40))
 }
 
 # is_same FILE WANTED WORDS: the file has the octets of the other one.

@@ -123,27 +123,35 @@ CASES
 # Pages with rows that can't be read: each is given as the one before it, and named; where no row can be read, that is a fault.
 try_repair() {
     eol=000000000001 row="0111 11 1011" bad=10100
-    end="$eol $eol $eol $eol $eol $eol"
-    works decode --repair --code mh --width 8 "$(bits "$eol $row $end")" "$work/repaired"
+    rtc="$eol $eol $eol $eol $eol $eol"
+    works decode --repair --code mh --width 8 "$(bits "$eol $row $rtc")" "$work/repaired"
     is_same "$work/repaired" "$(octets "50 34 0A 38 20 31 0A 30")" "decode --repair of a whole page"
-    gives 0 decode --repair --code mh --width 8 "$(bits "$eol $row $eol $bad $eol $row $end")" "$work/repaired"
+    gives 0 decode --repair --code mh --width 8 "$(bits "$eol $row $eol $bad $eol $row $rtc")" "$work/repaired"
     is_same "$work/repaired" "$(octets "50 34 0A 38 20 33 0A 30 30 30")" "decode --repair of a page with a bad row"
     printf 'row 2 repaired at bit 34\nrepaired rows: 1\n' > "$work/wanted"
     is_same "$work/error" "$work/wanted" "what decode --repair tells"
     [ ! -s "$work/output" ] || fails "decode --repair printed something"
-    gives 0 decode --repair --explain --verbose --code mh --width 8 "$(bits "$eol $bad $eol $row $end")" "$work/repaired"
+    # an RTC of five EOLs, or none, is no end
+    for short in "$eol $eol $eol $eol $eol" "$eol" ""; do
+        gives 0 decode --repair --code mh --width 8 "$(bits "$eol $row $eol $bad $eol $row $short")" "$work/repaired"
+        printf 'row 2 repaired at bit 34\nrepaired rows: 1\nthe page ends without its RTC after 3 rows\n' > "$work/wanted"
+        is_same "$work/error" "$work/wanted" "what decode --repair tells of a page that ends with: $short"
+        gives 1 decode --repair --whole --code mh --width 8 "$(bits "$eol $row $eol $row $short")" "$work/repaired"
+    done
+    works decode --repair --whole --code mh --width 8 "$(bits "$eol $row $eol $row $rtc $eol")" "$work/repaired"
+    gives 0 decode --repair --explain --verbose --code mh --width 8 "$(bits "$eol $bad $eol $row $rtc")" "$work/repaired"
     is_same "$work/repaired" "$(octets "50 34 0A 38 20 32 0A 00 30")" "decode --repair of a page with a bad first row"
     printf 'row 1 repaired at bit 12\nrepaired rows: 1\nrows 2\n' > "$work/wanted"
     is_same "$work/error" "$work/wanted" "what decode --repair --verbose tells"
     rm -f "$work/repaired"
-    cp "$(bits "$eol $bad $end")" "$work/bad_page"
+    cp "$(bits "$eol $bad $rtc")" "$work/bad_page"
     explains "fault 12 at bit 12" "$work/bad_page: row 1: this run goes past the row's width: is --width right? (try --order lsb, or --code mmr)" \
         decode --repair --code mh --width 8 "$work/bad_page" "$work/repaired"
     faults "fault 8" decode --repair --code mh --width 8 "$work/missing" "$work/repaired"
     [ ! -e "$work/repaired" ] || fails "decode --repair made OUT after a fault"
     for words in "--repair --salvage --code mh" "--repair --salvage --code mmr"; do
         refuses decode $words --width 8 "$work/bad_page" "$work/repaired"
-        grep -qF -e "--repair and --salvage can't be used together" "$work/error" || fails "decode $words doesn't say what is wrong"
+        grep -qF -e "--repair and --salvage can be used together only with --each" "$work/error" || fails "decode $words doesn't say what is wrong"
     done
     refuses decode --repair --repair --code mh --width 8 "$work/bad_page" "$work/repaired"
     refuses show --repair --code mh --width 8 "$work/bad_page"
@@ -301,7 +309,8 @@ try_rtc() {
         head -c "$kept" "$data/page.mh.msb" > page
         status=0
         "$program" decode --code mh --width 315 page made 2> error || status=$?
-        [ "$status" = 0 ] || continue
+        [ "$status" != 1 ] || continue
+        is_status 0 "decode of $kept octets of a page"
         rows=$(head -c 20 made | sed -n '2s/.* //p')
         [ "$(cat error)" = "the page ends without its RTC after $rows rows" ] || fails "decode of $kept octets of a page didn't tell that its RTC is missing"
         gives 1 decode --whole --code mh --width 315 page made
@@ -357,11 +366,81 @@ MAKES
         [ "$(cat "$work/error")" = "page 3 is in a code that faxtool doesn't read: mr" ] || fails "strips.py doesn't name the page in two dimensions"
         is_same "$order-1-1.mh" "$data/page.mh.msb" "the strip of a TIFF"
         is_same "$order-2-2.mmr" "$data/page.mmr.lsb" "the second strip of a TIFF"
-        (faxtool() { "$program" "$@"; } && . ./commands) || fails "a strip of a TIFF isn't decoded"
+        (faxtool() { "$program" "$@" || fails "a strip of a TIFF: faxtool $* ended with status $?"; } && . ./commands) || exit 1
         for made in "$order-1-1.mh" "$order-2-1.mmr" "$order-2-2.mmr"; do
             is_same "$made.pbm" "$data/page.pbm" "the image of a strip"
         done
         count=$((count + 3))
     done
+    try_wrong_strips
     cd "$top"
+}
+
+# strips_say STATUS TEXT WORDS: strips.py ends with the status and one line on standard error that has the text, and in a second or two.
+strips_say() {
+    end=$1 text=$2 status=0
+    shift 2
+    (ulimit -f 10000; exec timeout 10 "$top/docs/examples/strips.py" "$@") > printed 2> "$work/error" || status=$?
+    [ "$status $(wc -l < "$work/error")" = "$end 1" ] && grep -qF -e "$text" "$work/error" ||
+        fails "strips.py $* ended with status $status, and not $end with: $text"
+    count=$((count + 1))
+}
+
+# A damaged TIFF, and files that can't be read or written, are refused with words; what was there stays; and the pages before are written.
+try_wrong_strips() {
+    mkdir new taken full
+    python3 -B - << 'MAKES'
+import struct
+whole = open("II.tif", "rb").read()
+second = struct.unpack_from("<I", whole, 8 + 2 + 12 * 7)[0]
+def changed(name, at, value):
+    with open(name, "wb") as file:
+        file.write(whole[:at] + struct.pack("<I", value) + whole[at + 4:])
+# the entries of a page: 12 octets each after the first two; the last four octets of an entry are its value, or the place of it
+changed("self.tif", 8 + 2 + 12 * 7, 8)
+changed("back.tif", second + 2 + 12 * 7, 8)
+changed("away.tif", 8 + 2 + 12 * 7, 1 << 31)
+changed("outside.tif", 8 + 2 + 12 * 4 + 8, len(whole))
+changed("long.tif", 8 + 2 + 12 * 5 + 8, 1 << 31)
+changed("many.tif", second + 2 + 12 * 4 + 4, 1 << 31)
+changed("none.tif", 8 + 2 + 12 * 4 + 4, 0)
+changed("no_width.tif", 8 + 2, 0)
+changed("overlap.tif", 8 + 2 + 12 * 5 + 8, len(whole) - struct.unpack_from("<I", whole, 8 + 2 + 12 * 4 + 8)[0])
+for length in (3, 6, 9, 60, second, second + 50):
+    with open(f"cut{length if length < second else 'page' if length == second else 'second'}.tif", "wb") as file:
+        file.write(whole[:length])
+MAKES
+    for name in self back; do
+        strips_say 1 "$name.tif: its pages lead back to an earlier one" "$name.tif" new
+    done
+    [ "$(ls new | tr '\n' ' ')" = "back-1-1.mh back-2-1.mmr back-2-2.mmr self-1-1.mh " ] || fails "strips.py wrote $(ls new | wc -l) files of circles"
+    is_same new/self-1-1.mh "$data/page.mh.msb" "the strip before a circle"
+    rm new/*
+    for name in away cut6 cut9 cut60 cutpage cutsecond many; do
+        strips_say 1 "$name.tif: it is cut short" "$name.tif" new
+    done
+    is_same new/cutsecond-1-1.mh "$data/page.mh.msb" "the strip before the end of a TIFF"
+    strips_say 1 "cut3.tif: it is no TIFF" cut3.tif new
+    strips_say 1 "outside.tif: a strip is empty, or lies outside the file" outside.tif new
+    strips_say 1 "long.tif: a strip is empty, or lies outside the file" long.tif new
+    strips_say 1 "overlap.tif: its parts overlap" overlap.tif new
+    strips_say 1 "none.tif: tag 273 is missing or wrong" none.tif new
+    strips_say 1 "no_width.tif: tag 256 is missing or wrong" no_width.tif new
+    echo mine > taken/II-1-1.mh
+    ln -s ../victim taken/MM-1-1.mh
+    strips_say 1 "taken/II-1-1.mh: File exists" II.tif taken
+    strips_say 1 "taken/MM-1-1.mh: File exists" MM.tif taken
+    [ "$(cat taken/II-1-1.mh)" = mine ] && [ ! -e victim ] && [ "$(ls taken | wc -l)" = 2 ] || fails "strips.py wrote into a file that was there"
+    strips_say 1 "missing.tif: No such file or directory" missing.tif new
+    strips_say 1 "missing/II-1-1.mh: No such file or directory" II.tif missing
+    strips_say 1 "/proc/II-1-1.mh: " II.tif /proc
+    strips_say 1 "/dev/zero: it is no TIFF" /dev/zero new
+    strips_say 2 "usage: strips.py page.tif FOLDER"
+    strips_say 2 "usage: strips.py page.tif FOLDER" II.tif
+    for output in "> /dev/full" ">&-"; do
+        status=0
+        eval '"$top/docs/examples/strips.py" II.tif full' "$output" 2> "$work/error" || status=$?
+        [ "$status $(wc -l < "$work/error")" = "1 1" ] || fails "strips.py $output ended with status $status"
+        count=$((count + 1))
+    done
 }

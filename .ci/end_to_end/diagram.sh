@@ -20,6 +20,7 @@ draws_captures() {
 # captures WORDS: a call's two directions are drawn as what comes in it, with no training checks; where not all comes what is lost is drawn
 # too, each answer after the first frame that it can answer.
 captures() {
+    rm -f "$work/sent"/*
     works call "$@" --bits "$work/sent"
     awk '$2 ~ /^to-/ && $3 != "TRAINING" && $3 != "-" { print ++n, $2, $3, "-" }' "$work/output" > "$work/come"
     for to in answerer caller; do

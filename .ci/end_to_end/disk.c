@@ -4,6 +4,11 @@
  *     DISK_AT=N            the Nth of these calls is DISK_DOES: `kill` (the process is killed before it), `after` (right after it), `fail`
  *                          (it does nothing, and says that the disk is broken)
  *     DISK_SYNCS=none      fsync and fdatasync do nothing, and say that all is well, without a line
+ *     DISK_LINK=ERROR      each link fails with this number of an error, as on a file system without links
+ *     DISK_FOLDER=ERROR    each fsync of a folder fails with this number
+ *     DISK_LOCK=ERROR      each flock fails with this number
+ *     DISK_STOPS=CALL      the first such call, `link`, `rename`, `sync` or `unlink`, does nothing and says that a signal interrupted it
+ *     DISK_SLOW=CALL       50 ms pass before each such call
  */
 #define _GNU_SOURCE
 #include <dlfcn.h>
@@ -14,6 +19,7 @@
 #include <stdio.h>
 #include <stdlib.h>
 #include <string.h>
+#include <sys/file.h>
 #include <sys/stat.h>
 #include <sys/types.h>
 #include <unistd.h>
@@ -54,9 +60,44 @@ static const char *name_of(int fd)
     return fd == 1 ? "out" : fd == 2 ? "error" : name;
 }
 
+static void wait_before(const char *call)
+{
+    const char *slow = getenv("DISK_SLOW");
+    if (slow != NULL && strcmp(slow, call) == 0) usleep(50000);
+}
+
+/* Returns whether a call of this name is the one that a signal interrupts: the first one. */
+static int is_stopped(const char *call)
+{
+    static int was;
+    const char *stops = getenv("DISK_STOPS");
+    if (stops == NULL || was || strcmp(stops, call) != 0) return 0;
+    was = 1;
+    errno = EINTR;
+    return 1;
+}
+
+/* Returns whether the setting has an error's number, which is the error then. */
+static int is_set(const char *setting)
+{
+    const char *number = getenv(setting);
+    if (number == NULL) return 0;
+    errno = atoi(number);
+    return 1;
+}
+
+static int is_folder(int fd)
+{
+    struct stat found;
+    return fstat(fd, &found) == 0 && S_ISDIR(found.st_mode);
+}
+
 #define DO(call, what, real)                                   \
     do {                                                       \
-        int is_last, fails = is_failing(&is_last);             \
+        int is_last, fails;                                    \
+        wait_before(call);                                     \
+        fails = is_failing(&is_last);                          \
+        fails = fails || is_stopped(call);                     \
         long result = fails ? -1 : (long)(real);               \
         note(call, what, result);                              \
         if (is_last) raise(SIGKILL);                           \
@@ -85,7 +126,7 @@ ssize_t write(int fd, const void *octets, size_t length)
 int fsync(int fd)
 {
     if (getenv("DISK_SYNCS") != NULL) return 0;
-    DO("sync", name_of(fd), REAL(fsync)(fd));
+    DO("sync", name_of(fd), is_folder(fd) && is_set("DISK_FOLDER") ? -1 : REAL(fsync)(fd));
 }
 
 int fdatasync(int fd)
@@ -101,10 +142,15 @@ int rename(const char *from, const char *to)
 
 int link(const char *from, const char *to)
 {
-    DO("link", to, REAL(link)(from, to));
+    DO("link", to, is_set("DISK_LINK") ? -1 : REAL(link)(from, to));
 }
 
 int unlink(const char *path)
 {
     DO("unlink", path, REAL(unlink)(path));
+}
+
+int flock(int fd, int how)
+{
+    return is_set("DISK_LOCK") ? -1 : REAL(flock)(fd, how);
 }

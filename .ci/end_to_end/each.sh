@@ -10,7 +10,7 @@ tells_each() {
     [ ! -s "$work/error" ] || fails "$* wrote to standard error"
 }
 
-# Each file is decoded as it is identified, or as the words say; a file that fails stops no other one, and two files of one name are refused.
+# Each file is decoded as it is identified, or as the words say; a file that fails stops no other one.
 try_each() {
     cd "$work"
     rm -rf each
@@ -22,41 +22,307 @@ try_each() {
     cp "$data/page.pbm" each/image
     printf 'II*\0' > each/tiff
     printf '\0\0' > each/zeros
+    head -c 200 "$data/wide.mmr.lsb" > each/short
     tells_each 1 "each/mh: whole 1 pages\neach/two: whole 2 pages\neach/open: cut at row 41 of page 1: fault 17 at bit $(g4_end)\n\
 each/image: no fax: PBM\neach/tiff: no fax: TIFF\neach/zeros: not read: identify may tell what it is\neach/none: fault 8\n" \
         decode --each each/out each/mh each/two each/open each/image each/tiff each/zeros each/none
-    [ "$(ls each/out | tr '\n' ' ')" = "mh-1.pbm two-1.pbm two-2.pbm " ] || fails "decode --each wrote $(ls each/out)"
-    is_same each/out/mh-1.pbm "$data/page.pbm" "decode --each of T.4"
+    [ "$(ls each/out/each | tr '\n' ' ')" = "mh-0001.pbm two-0001.pbm two-0002.pbm " ] || fails "decode --each wrote $(ls -R each/out)"
+    is_same each/out/each/mh-0001.pbm "$data/page.pbm" "decode --each of T.4"
     works decode --code mmr --order lsb --width 1728 each/two each/one.pbm
-    is_same each/out/two-1.pbm each/one.pbm "the first page of decode --each"
-    is_same each/out/two-2.pbm each/one.pbm "the second page of decode --each"
-    tells_each 0 "each/open: whole 1 pages\neach/mh: whole 1 pages\n" decode --each each/out --repair each/open each/mh
-    tells_each 1 "each/open: 1 pages, and one or more has no end\n" decode --each each/out --repair --whole each/open
-    tells_each 1 "{\"file\":\"each/image\",\"is\":\"no fax: PBM\",\"whole\":false}\n{\"file\":\"each/mh\",\"is\":\"whole 1 pages\",\"whole\":true}\n" \
+    is_same each/out/each/two-0001.pbm each/one.pbm "the first page of decode --each"
+    is_same each/out/each/two-0002.pbm each/one.pbm "the second page of decode --each"
+    rm -r each/out/*
+    open="each/open: 1 pages, and one or more has no end\n    page 1: the page ends without its EOFB after 40 rows, at bit $(g4_end)\n"
+    tells_each 0 "${open}each/mh: whole 1 pages\n" decode --each each/out --repair each/open each/mh
+    rm -r each/out/*
+    tells_each 1 "$open" decode --each each/out --repair --whole each/open
+    tells_each 1 "{\"file\":\"each/image\",\"is\":\"no fax: PBM\",\"not_read\":\"PBM\",\"pages\":[],\"whole\":false}\n\
+{\"file\":\"each/mh\",\"is\":\"whole 1 pages\",\"not_read\":null,\"pages\":[$(page_record 7689 mh null false msb each/mh 0 30 false 315)],\"whole\":true}\n" \
         decode --each each/out --json each/image each/mh
-    rm each/out/*
+    rm -r each/out/*
     gives 1 decode --each each/out --salvage --code mh --width 315 each/cut each/mh
     grep -q "^each/cut: cut at row [0-9]* of page 1: fault 1[0-9] at bit [0-9]*$" "$work/output" || fails "decode --each of a cut page said otherwise"
     works decode --code mh --width 315 each/mh each/one.pbm
-    is_same each/out/mh-1.pbm each/one.pbm "decode --each after a cut page"
+    is_same each/out/each/mh-0001.pbm each/one.pbm "decode --each after a cut page"
     gives 1 decode --salvage --code mh --width 315 each/cut each/one.pbm
-    is_same each/out/cut-1.pbm each/one.pbm "the salvaged rows of decode --each"
-    cp each/mh each/other/mh
-    refuses decode --each each/out each/mh each/other/mh
-    grep -q "are the same file" "$work/error" || fails "decode --each of two files of one name doesn't say why it is refused"
+    is_same each/out/each/cut-0001.pbm each/one.pbm "the salvaged rows of decode --each"
     faults "fault 8" decode --each each/none each/mh
     for words in "--each each/out --code mh each/mh" "--each each/out --width 8 each/mh" "--each each/out --page 1 each/mh" \
-        "--each each/out --verbose each/mh" "--each each/out --salvage --repair each/mh" "--each each/out" "--code mh --width 8 each/mh a b"; do
+        "--each each/out --verbose each/mh" "--each each/out" "--code mh --width 8 each/mh a b" "--code mh --width 8 --salvage --repair each/mh a" \
+        "--code mh --width 8 --from each/mh a b" "--code mh --width 8 --resume each/mh a" "--code mh --width 8"; do
         refuses decode $words
     done
+    try_each_whole
+    try_each_words
+    try_each_names
+    try_each_new
     cd "$top"
     FAXTOOL=$program timeout 600 python3 -B "$top/bench/fuzz/fuzz_each.py" --times 100 > "$work/output" || fails "fuzz_each.py: $(cat "$work/output")"
     count=$((count + 100))
 }
 
+# Whole is what has all its rows and its end: of each page `decode --each` says what `decode` says of it alone.
+try_each_whole() {
+    no_rtc="the page ends without its RTC after 23 rows"
+    head -c 395 "$data/page.mh.msb" > each/early
+    cat "$data/page.mh.msb" each/early > each/second
+    rm -rf each/out/*
+    gives 0 decode --code mh --width 315 each/early each/one.pbm
+    [ "$(cat "$work/error")" = "$no_rtc" ] || fails "decode of a page without its RTC says otherwise"
+    tells_each 0 "each/early: 1 pages, and one or more has no end\n    page 1: $no_rtc\neach/mh: whole 1 pages\n" \
+        decode --each each/out --code mh --width 315 each/early each/mh
+    is_same each/out/each/early-0001.pbm each/one.pbm "the rows of a page without its RTC by decode --each"
+    rm -r each/out/*
+    tells_each 1 "each/second: 2 pages, and one or more has no end\n    page 2: $no_rtc\n" \
+        decode --each each/out --whole --code mh --width 315 each/second
+    rm -r each/out/*
+    is="1 pages, and one or more has no end"
+    tells_each 0 "{\"file\":\"each/early\",\"is\":\"$is\",\"not_read\":null,\"pages\":[$(page_record 3160 mh null true msb each/early 0 23 false 315)],\"says\":\"page 1: $no_rtc\\\\n\",\"whole\":false}\n" \
+        decode --each each/out --json each/early
+    # read line by line, the page is as much without its RTC
+    gives 0 decode --repair --code mh --width 315 each/early each/one.pbm
+    [ "$(cat "$work/error")" = "$no_rtc" ] || fails "decode --repair of a page without its RTC doesn't say so"
+    gives 1 decode --repair --whole --code mh --width 315 each/early each/one.pbm
+    works decode --repair --whole --code mh --width 315 each/mh each/one.pbm
+    # a row that can't be read, in a page with its RTC and in one without
+    { head -c 100 each/mh; printf '\377\377'; tail -c +103 each/mh; } > each/broken
+    head -c 395 each/broken > each/both
+    for file in broken both; do
+        rm -rf each/out/*
+        gives 0 decode --repair --code mh --width 315 "each/$file" each/one.pbm
+        cp "$work/error" each/said
+        rows=$(sed -n 's/^repaired rows: //p' each/said)
+        { echo "each/$file: repaired $rows rows of page 1; a page after it is not looked for"; sed 's/^/    page 1: /' each/said; } > each/wanted
+        gives 0 decode --each each/out --repair --code mh --width 315 "each/$file"
+        is_same "$work/output" each/wanted "what decode --each --repair says of each/$file"
+        is_same "each/out/each/$file-0001.pbm" each/one.pbm "the repaired rows of each/$file"
+        rm -r each/out/*
+        gives 0 decode --each each/out --json --repair --code mh --width 315 "each/$file"
+        grep -q '"whole":false}$' "$work/output" || fails "a repaired page is whole"
+    done
+    grep -q "^$no_rtc" each/said || fails "decode --repair doesn't say that RTC is missing"
+    rm -rf each/out/*
+}
+
+# as_alone WORDS: a command of one file says a fault with these words and --explain; the line under the last file of a list is the same.
+as_alone() {
+    gives 1 "$@" --explain
+    tail -n 1 "$work/error" | sed 's/^/    /' > each/wanted
+}
+
+# A file's fault is told in a list as it is told of the file alone.
+try_each_words() {
+    mkdir -p each/folder
+    for name in each/none each/folder each/mh/none; do
+        as_alone identify "$name"
+        gives 1 identify --explain each/mh "$name"
+        tail -n 1 "$work/output" > each/found
+        is_same each/found each/wanted "the words of $name in a list"
+        gives 1 identify each/mh "$name"
+        [ "$(wc -l < "$work/output")" = 2 ] || fails "identify of a list explains unasked"
+        rm -rf each/out/*
+        gives 1 decode --explain --each each/out "$name" each/mh
+        sed -n 2p "$work/output" > each/found
+        is_same each/found each/wanted "the words of $name by decode --each"
+        words=$(sed 's/^ *//' each/wanted)
+        rm -rf each/out/*
+        gives 1 decode --json --each each/out "$name"
+        [ "$(cat "$work/output")" = "{\"fault\":8,\"file\":\"$name\",\"is\":\"fault 8\",\"not_read\":null,\"pages\":[],\"whole\":false,\"words\":\"$words\"}" ] ||
+            fails "the record of $name has no fault or no words: $(cat "$work/output")"
+        gives 1 identify --json each/mh "$name"
+        [ "$(tail -n 1 "$work/output")" = \
+            "{\"bits\":null,\"code\":null,\"fault\":8,\"file\":\"$name\",\"is\":\"fault 8\",\"known\":false,\"not_read\":null,\"order\":null,\"rows\":null,\"width\":null,\"words\":\"$words\"}" ] ||
+            fails "the record of $name has no fault or no words: $(cat "$work/output")"
+    done
+    for file in open cut; do
+        coding="--code mh --width 315"
+        [ "$file" = cut ] || coding="--code mmr --width 1728"
+        as_alone decode $coding "each/$file" each/one.pbm
+        gives 1 decode --explain $coding --each each/out each/none "each/$file"
+        tail -n 1 "$work/output" > each/found
+        is_same each/found each/wanted "the words of each/$file by decode --each"
+    done
+    # nothing of the file before is in the words of the next one
+    gives 1 decode --explain --code mmr --width 1728 --each each/out each/open each/none
+    [ "$(tail -n 1 "$work/output")" = "    each/none: no such file or folder" ] || fails "a file's words have those of the one before"
+    rm -rf each/out/*
+}
+
+# A name is on one line, whatever octets it has, and one that isn't UTF-8 costs that file alone.
+try_each_names() {
+    for name in 'two\nlines' 'esc\033[2J' 'back\\slash' 'high\302\233c'; do
+        file=$(printf "each/$name")
+        shown=$(printf %s "$file" | python3 -c 'import sys
+for octet in (name := sys.stdin.buffer.read()):
+    print("\\\\" if octet == 92 else chr(octet) if 32 <= octet < 127 else f"\\x{octet:02x}", end="")')
+        cp each/mh "$file"
+        works identify "$file" each/mh
+        [ "$(wc -l < "$work/output")" = 2 ] && [ "$(head -n 1 "$work/output" | cut -c "1-$((${#shown} + 6))")" = "$shown: T.4," ] ||
+            fails "identify shows the name $shown otherwise: $(head -n 1 "$work/output")"
+        works decode --each each/out "$file"
+        [ "$(cat "$work/output")" = "$shown: whole 1 pages" ] || fails "decode --each shows the name $shown otherwise"
+        rm -r each/out/*
+        gives 1 identify --explain "$file.none" each/mh
+        [ "$(sed -n 2p "$work/output")" = "    $shown.none: no such file or folder" ] || fails "the words show the name $shown otherwise"
+        gives 1 decode --explain --code mh --width 315 "$file.none" each/one.pbm
+        [ "$(tail -n 1 "$work/error")" = "$shown.none: no such file or folder" ] || fails "the words of one file show the name $shown otherwise"
+        rm "$file"
+    done
+    none=$(printf 'each/no\377text\001')
+    cp each/mh "$none"
+    text='each/no\xfftext\x01'
+    gives 1 identify "$none" each/mh
+    cp "$work/output" each/listed
+    works identify each/mh
+    { printf "%s: its name isn't UTF-8\n" "$text"; sed 's|^|each/mh: |' "$work/output"; } > each/wanted
+    is_same each/listed each/wanted "identify of a list with a name that isn't UTF-8"
+    gives 1 decode --each each/out each/mh "$none" each/early
+    [ "$(sed -n 2p "$work/output")" = "$text: its name isn't UTF-8" ] && [ "$(ls each/out/each | tr '\n' ' ')" = "early-0001.pbm mh-0001.pbm " ] ||
+        fails "decode --each with a name that isn't UTF-8: $(cat "$work/output")"
+    rm -r each/out/*
+    for words in "identify" "decode --code mh --width 315" "show --code mh --width 315"; do
+        gives 1 $words "$none"
+        [ "$(cat "$work/error")" = "fault 8" ] && [ ! -s "$work/output" ] || fails "$words takes a name that isn't UTF-8"
+    done
+    gives 1 decode --each "$none" each/mh
+    [ "$(cat "$work/error")" = "fault 8" ] && [ ! -s "$work/output" ] || fails "decode --each takes a folder that isn't UTF-8"
+    rm "$none"
+}
+
+# A page's image is a new file: what is there under its name stays, and costs that file alone.
+try_each_new() {
+    cp each/mh each/other/mh
+    tells_each 1 "each/mh: whole 1 pages\n./each/mh: page 1 is not written: fault 8\n    each/out/each/mh-0001.pbm: there is a file of this name already\n\
+each/other/mh: whole 1 pages\neach/early: 1 pages, and one or more has no end\n    page 1: the page ends without its RTC after 23 rows\n" \
+        decode --explain --each each/out each/mh ./each/mh each/other/mh each/early
+    for name in mh other/mh; do
+        is_same "each/out/each/$name-0001.pbm" "$data/page.pbm" "the page of each/$name"
+    done
+    # an input under the name of a page, a link, and one that leads nowhere
+    cat each/mh each/mh each/mh > each/x
+    cp each/mh each/x-0002.pbm
+    gives 1 decode --code mh --width 315 --each . each/x each/x-0002.pbm
+    is_same each/x-0002.pbm each/mh "an input under the name of a page of decode --each"
+    [ "$(head -n 1 "$work/output")" = "each/x: page 2 is not written: fault 8" ] || fails "decode --each of an input: $(cat "$work/output")"
+    [ "$(tail -n 1 "$work/output")" = "each/x-0002.pbm: whole 1 pages" ] || fails "decode --each after it: $(cat "$work/output")"
+    echo kept > each/victim
+    for to in ../../victim ../../nowhere; do
+        rm -rf each/out/each/*
+        ln -s "$to" each/out/each/mh-0001.pbm
+        for words in "" "--resume"; do
+            tells_each 1 "each/mh: page 1 is not written: fault 8\n" decode $words --each each/out each/mh
+        done
+        [ "$(cat each/victim) $(readlink each/out/each/mh-0001.pbm)" = "kept $to" ] && [ ! -e each/nowhere ] ||
+            fails "decode --each wrote through a link"
+    done
+    # two runs at once: each page is stored by one of them
+    rm -rf each/out/*
+    "$program" decode --code mh --width 315 --each each/out each/x > each/first 2>&1 &
+    status=0
+    "$program" decode --code mh --width 315 --each each/out each/x > each/last 2>&1 || status=$?
+    [ "$status" -le 1 ] || fails "the second of two runs at once ended with status $status"
+    status=0
+    wait $! || status=$?
+    [ "$status" -le 1 ] || fails "the first of two runs at once ended with status $status"
+    for page in 1 2 3; do
+        [ ! -e "each/out/each/x-000$page.pbm" ] || is_same "each/out/each/x-000$page.pbm" "$data/page.pbm" "page $page of two runs at once"
+    done
+    [ "$(cat each/first each/last | grep -c 'whole 3 pages')" -le 1 ] || fails "two runs at once both stored the same pages"
+    [ -z "$(ls -R each/out | grep part)" ] || fails "decode --each left $(ls -R each/out)"
+    count=$((count + 2))
+    try_each_places
+    try_each_resumed
+    try_each_listed
+    rm -rf each/out each/x-* each/x && mkdir each/out
+}
+
+# Pages lie under the folder at the file's own place; the root, `.` and `..` are left out.
+try_each_places() {
+    rm -rf each/out && mkdir each/out
+    for name in "$work/each/mh" ../"${work##*/}"/each/mh each/.././each/other//mh; do
+        works decode --each each/out "$name"
+    done
+    "$program" decode --each each/out - < each/mh > "$work/output" || fails "decode --each of standard input ended with status $?"
+    (cd each/out && find . -type f | sort) > each/found
+    printf '%s\n' "./${work#/}/each/mh-0001.pbm" "./${work##*/}/each/mh-0001.pbm" ./each/each/other/mh-0001.pbm ./stdin-0001.pbm | sort > each/wanted
+    is_same each/found each/wanted "the places of pages"
+    # a folder that can't be made costs that file alone
+    rm -rf each/out && mkdir each/out && echo > each/out/each && cp each/mh mh
+    tells_each 1 "each/mh: page 1 is not written: fault 8\nmh: whole 1 pages\n" decode --each each/out each/mh mh
+    rm -rf each/out mh && mkdir each/out
+}
+
+# With --resume a page that is there counts as written, and is not written again; another file under its name stays. Of more pages than are
+# asked for the first are written.
+try_each_resumed() {
+    form="--code mh --width 315"
+    tells_each 1 "each/x: 2 pages, and more follow that weren't asked for\n" decode $form --most-pages 2 --each each/out each/x
+    [ "$(ls each/out/each | tr '\n' ' ')" = "x-0001.pbm x-0002.pbm " ] || fails "decode --each --most-pages wrote $(ls each/out/each)"
+    ls -i each/out/each > each/before
+    tells_each 0 "each/x: whole 3 pages\n" decode $form --resume --each each/out each/x
+    ls -i each/out/each | head -n 2 > each/after
+    is_same each/after each/before "the pages that were there"
+    is_same each/out/each/x-0003.pbm "$data/page.pbm" "the page that wasn't there"
+    tells_each 0 "each/x: whole 3 pages\n" decode $form --resume --most-pages 3 --each each/out each/x
+    for other in other longer shorter empty; do
+        case $other in
+            other) sed 's/$/x/' "$data/page.pbm" ;;
+            longer) cat "$data/page.pbm" && printf '\0' ;;
+            shorter) head -c -1 "$data/page.pbm" ;;
+            empty) : ;;
+        esac > each/kept
+        cp each/kept each/out/each/x-0002.pbm
+        tells_each 1 "each/x: page 2 is not written: fault 8\n" decode $form --resume --each each/out each/x
+        is_same each/out/each/x-0002.pbm each/kept "the $other file under the name of a page"
+    done
+    # both may be asked for: a page is repaired, and salvaged only if that can't be
+    for words in "--code mmr --order lsb --width 1728 each/short" "$form each/broken"; do
+        rm -rf each/out/*
+        status=0
+        "$program" decode --repair --json --each each/out $words > each/repaired || status=$?
+        rm -rf each/out/*
+        gives "$status" decode --repair --salvage --json --each each/out $words
+        is_same "$work/output" each/repaired "decode --each --repair --salvage of $words"
+    done
+    rm -rf each/out/*
+}
+
+# The names of files come from a list too, one a line or each with an octet of 0; an empty one is none.
+try_each_listed() {
+    name=$(printf 'each/two\nlines')
+    cp each/mh "$name"
+    printf 'each/mh\n\neach/none\neach/early' > each/list
+    printf 'each/mh\0%s\0\0each/none\0' "$name" > each/nulls
+    early="each/early: 1 pages, and one or more has no end\n    page 1: the page ends without its RTC after 23 rows\n"
+    tells_each 1 "each/mh: whole 1 pages\neach/none: fault 8\n$early" decode --each each/out --from each/list
+    rm -rf each/out/*
+    tells_each 1 "each/mh: whole 1 pages\neach/two\\\\x0alines: whole 1 pages\neach/none: fault 8\n" decode --each each/out --null --from each/nulls
+    rm -rf each/out/*
+    # after the names that are given
+    "$program" decode --each each/out --from - each/early < each/list > each/said && fails "decode --each of a list with a missing file ended with status 0"
+    printf "${early}each/mh: whole 1 pages\neach/none: fault 8\neach/early: page 1 is not written: fault 8\n" > each/wanted
+    is_same each/said each/wanted "decode --each of names and a list"
+    faults "fault 8" decode --each each/out --from each/nowhere
+    rm -rf each/out/*
+    # an endless list and an endless name end
+    head -c 500000 /dev/zero | tr '\0' x > each/long
+    faults "fault 8" decode --each each/out --from each/long
+    yes each/none | head -n 20000 > each/many
+    gives 1 decode --each each/out --from each/many
+    [ "$(grep -c '^each/none: fault 8$' "$work/output")" = 20000 ] || fails "a long list isn't read to its end"
+    rm "$name"
+}
+
+# page_record BITS CODE FAULT MISSING_END ORDER FILE REPAIRED ROWS SALVAGED WIDTH: the record of a page 1 with an image.
+page_record() {
+    printf '{"bit":null,"bits":%s,"code":"%s","fault":%s,"lines":"standard","missing_end":%s,"order":"%s",' "$1" "$2" "$3" "$4" "$5"
+    printf '"out":"each/out/%s-0001.pbm","repaired":%s,"rows":%s,"salvaged":%s,"width":%s}' "$6" "$7" "$8" "$9" "${10}"
+}
+
 # g4_end: the bit after the last row of the page of ghostscript.
 g4_end() {
-    "$program" decode --code mmr --width 1728 "$data/wide.faxg4" "$work/none.pbm" 2>&1 | sed 's/.* bit //'
+    gives 1 decode --code mmr --width 1728 "$data/wide.faxg4" "$work/none.pbm"
+    sed 's/.* bit //' "$work/error"
 }
 
 # One line a file, and a record.
@@ -66,6 +332,21 @@ try_several() {
     tells_each 1 "each/mh: T.4, $msb, width 315, 30 rows\neach/tiff: TIFF, by its first octets\neach/none: fault 8\neach/zeros: no page and no known format\n" \
         identify each/mh each/tiff each/none each/zeros
     tells_each 0 "each/mh: T.4, $msb, width 315, 30 rows\neach/tiff: TIFF, by its first octets\n" identify each/mh each/tiff
-    tells_each 0 "{\"file\":\"each/mh\",\"is\":\"T.4, $msb, width 315, 30 rows\",\"known\":true}\n" identify --json each/mh
+    tells_each 0 "{\"bits\":7689,\"code\":\"mh\",\"file\":\"each/mh\",\"is\":\"T.4, $msb, width 315, 30 rows\",\"known\":true,\"not_read\":null,\
+\"order\":\"msb\",\"rows\":30,\"width\":315}\n" identify --json each/mh
+    # what it names is what decode takes
+    eval "set -- $(sed 's/.*"code":"\([a-z0-9]*\)".*"order":"\([a-z]*\)".*"width":\([0-9]*\).*/--code \1 --order \2 --width \3/' "$work/output")"
+    works decode "$@" each/mh each/one.pbm
+    is_same each/one.pbm "$data/page.pbm" "the page as identify --json names its way"
+    # a damaged page of T.4 has its own line, not one of MR, which it reads as in its first row
+    head -c 300 each/mh > each/half
+    gives 1 identify each/half each/mh
+    grep -q "^each/half: T.4, $msb, width 315: fault 1[0-9] at bit [0-9]* after 1[0-9] rows$" "$work/output" || fails "identify of a damaged page: $(cat "$work/output")"
+    gives 1 decode --each each/out each/half
+    grep -q "^each/half: cut at row 1[0-9] of page 1: fault 1[0-9] at bit [0-9]*$" "$work/output" || fails "decode --each of a damaged page: $(cat "$work/output")"
+    [ ! -e each/out/each ] || fails "decode --each wrote a damaged page unasked"
+    gives 1 decode --each each/out --salvage each/half
+    gives 1 decode --salvage --code mh --width 315 each/half each/one.pbm
+    is_same each/out/each/half-0001.pbm each/one.pbm "the rows of a damaged page by decode --each --salvage"
     cd "$top"
 }

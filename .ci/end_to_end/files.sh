@@ -84,16 +84,44 @@ try_apart() {
     cd "$top"
 }
 
-# An output that can't be written to its end: what was there stays, and nothing lies beside it. And one that is a link, or has
-# permissions of its own.
+# too_large SIZE SIGNAL WORDS: the words with OUT after them, where no file may be larger than SIZE blocks, are refused, and OUT stays as it was.
+# The program's own words go through a pipe, which has no greatest size. SIGNAL is ignored, if it isn't `none`.
+too_large() {
+    size=$1 signal=$2
+    shift 2
+    cp "$work/kept" "$work/made"
+    {
+        (
+            [ "$signal" = none ] || trap '' "$signal"
+            ulimit -f "$size"
+            FAXTOOL_EXPLAIN=1 exec "$program" "$@" "$work/made" 2>&1
+        ) || echo "status $?"
+    } | cat > "$work/output"
+    printf '%s\n' "fault 8" "$work/made: it would be larger than a file may be" "status 1" > "$work/wanted"
+    is_same "$work/output" "$work/wanted" "$1 where a file has at most $size blocks, with $signal ignored"
+    is_same "$work/made" "$work/kept" "OUT where a file has at most $size blocks"
+    ! ls "$work"/faxtool-* > "$work/listed" 2>&1 || fails "$1 left a part of OUT"
+    count=$((count + 1))
+}
+
+# An output that can't be written to its end: what was there stays, and nothing lies beside it. The system ends a process that writes past the
+# greatest size of a file, unless its signal is ignored; a block has 512 or 1,024 octets. And an output that is a link, or has permissions
+# of its own.
 try_kept() {
     echo "as it was" > "$work/kept"
+    for size in 0 1 8 100; do
+        too_large $size none decode --code mmr --width 1728 "$top/docs/examples/a4.mmr"
+        too_large $size XFSZ decode --code mmr --width 1728 "$top/docs/examples/a4.mmr"
+    done
+    too_large 1 none code --code mh "$work/large.pbm"
+    ln -s far "$work/link"
+    echo before > "$work/far"
+    { (ulimit -f 1; exec "$program" code --code mh "$work/large.pbm" "$work/link" 2>&1) || echo "status $?"; } | cat > "$work/output"
+    printf '%s\n' "fault 8" "status 1" > "$work/wanted"
+    is_same "$work/output" "$work/wanted" "code to a link where a file has at most a block"
+    rm -f "$work/link" "$work/far" "$work/made"
+    (ulimit -f 2000; exec "$program" decode --code mmr --width 1728 "$top/docs/examples/a4.mmr" "$work/made") || fails "decode below the greatest size"
     cp "$work/kept" "$work/made"
-    status=0
-    (trap '' XFSZ; ulimit -f 1; exec "$program" code --code mh "$work/large.pbm" "$work/made" 2> /dev/null) || status=$?
-    [ $status = 1 ] || fails "code above the greatest size of a file ended with status $status"
-    is_same "$work/made" "$work/kept" "OUT where the disk is full"
-    ! ls "$work"/faxtool-* > "$work/listed" 2>&1 || fails "code left a part of OUT"
     chmod 640 "$work/made"
     works code --code mh "$data/page.pbm" "$work/made"
     [ "$(stat -c %a "$work/made")" = 640 ] || fails "OUT has other permissions"
@@ -102,7 +130,7 @@ try_kept() {
     is_same "$work/made" "$data/page.mmr.msb" "OUT by a link"
     [ -L "$work/link" ] || fails "code replaced a link"
     rm -f "$work/link" "$work/made"
-    count=$((count + 1))
+    count=$((count + 3))
 }
 
 # What is printed can't be written: a full disk, and a closed output.
@@ -188,23 +216,15 @@ try_beside() {
     try_taken_names
 }
 
-# Names that are taken already: the next one is used, up to the hundredth. The shell's number is the program's after exec.
+# Part files that others have left, however many: OUT is written, and they stay as they are. The shell's number is the program's after exec.
 try_taken_names() {
-    for taken in 99 100; do
-        echo before > out
-        status=0
-        timeout 60 sh -c 'for number in $(seq "$1"); do echo mine > faxtool-$$-$number.part; done
-            exec "$2" code --explain --code mh "$3" out' sh "$taken" "$program" "$data/page.pbm" 2> error || status=$?
-        [ "$(cat faxtool-*.part | sort -u) $(ls faxtool-*.part | wc -l)" = "mine $taken" ] || fails "code wrote or removed a file that it hadn't made"
-        rm faxtool-*.part
-        if [ "$taken" = 99 ]; then
-            [ "$status" = 0 ] || fails "code with 99 names taken ended with status $status"
-            wrote_page "99 names taken"
-        else
-            [ "$status $(cat out) $(head -1 error)" = "1 before fault 8" ] || fails "code with 100 names taken ended with status $status"
-        fi
-        count=$((count + 1))
-    done
+    echo before > out
+    timeout 60 sh -c 'for number in $(seq 200); do echo mine > faxtool-$$-$number.part; done
+        exec "$1" code --code mh "$2" out' sh "$program" "$data/page.pbm" 2> error || fails "code among 200 part files ended with status $?"
+    [ "$(cat faxtool-*.part | sort -u) $(ls faxtool-*.part | wc -l)" = "mine 200" ] || fails "code wrote or removed a file that it hadn't made"
+    rm faxtool-*.part
+    wrote_page "200 part files"
+    count=$((count + 1))
 }
 
 # OUT stays as it was: read-only, in a folder that takes no new file, and where the program is ended in the midst.
@@ -261,4 +281,21 @@ try_numbers() {
         [ ! -s "$work/output" ] || fails "frames --pages printed a line before it looked at its folder"
         [ "$(cat "$work/error")" = "fault 8" ] || fails "frames --pages $folder"
     done
+}
+
+# Each call of the system fails once, in each command that writes files: nothing that was there is lost, no file is cut short under its
+# name, and that is said.
+try_calls_fail() {
+    ${CC:-cc} -std=gnu11 -Wall -Wextra -O1 -shared -fPIC -o "$work/calls_fail.so" "$top/.ci/end_to_end/calls_fail.c" -ldl ||
+        fails "calls_fail.c isn't compiled"
+    runs=$(python3 -B "$top/.ci/end_to_end/calls_fail.py" "$program" "$work/calls_fail.so" "$top") ||
+        fails "commands whose calls of the system fail"
+    rm "$work/calls_fail.so"
+    count=$((count + runs))
+}
+
+# Standard output, standard error and the file of `--trace` at the greatest size of a file: no run ends by a signal.
+try_limits() {
+    runs=$(python3 -B "$top/.ci/end_to_end/limits.py" "$program" "$top") || fails "commands at the greatest size of a file"
+    count=$((count + runs))
 }

@@ -26,12 +26,13 @@ try_data() {
     done
     mkfifo "$work/bits"
     "$program" frames - < "$work/bits" > "$work/output" &
+    lists=$!
     exec 3> "$work/bits"
     cat "$frames" >&3
     for _wait in $(seq 100); do [ -s "$work/output" ] || sleep 0.05; done
     [ "$(cat "$work/output")" = "1 ff138c MCF" ] || fails "frames doesn't list a frame as soon as it has come"
     exec 3>&-
-    wait
+    wait "$lists" || fails "frames of bits that come one after the other ended with status $?"
     rm "$work/bits"
 }
 
@@ -125,4 +126,41 @@ CASES
         gives 1 frames --json --pages "$work/captured" "$none"
         [ "$(cat "$work/error")" = '{"notice":"no frame: no pages"}' ] || fails "frames --json --pages of $none"
     done
+}
+
+# A capture of three pages whose last one was lost after PPS-MPS: two pages are written, and the third one is named.
+try_lost_page() {
+    lost=$data/last_page_lost.bits
+    mkdir -p "$work/two_pages"
+    for salvage in "" --salvage; do
+        rm -f "$work/two_pages"/*
+        gives 1 frames --pages "$work/two_pages" $salvage "$lost"
+        [ "$(ls "$work/two_pages" | xargs)" = "page-1.pbm page-2.pbm" ] || fails "frames --pages $salvage doesn't write two pages of three"
+        [ "$(cat "$work/error")" = "page 3 is missing: the page before it ended with MPS" ] ||
+            fails "frames --pages $salvage doesn't name a last page that is missing"
+    done
+    rm -f "$work/two_pages"/*
+    gives 1 frames --json --pages "$work/two_pages" "$lost"
+    [ "$(cat "$work/error")" = '{"after":"MPS","missing":"page","page":3}' ] || fails "frames --json --pages: another record of a last page that is missing"
+    rm -f "$work/two_pages"/*
+    python3 -B "$data/try_json.py" "$program" "$lost" "$work/two_pages" || fails "frames --json of $lost"
+}
+
+# A capture of three pages whose PPSs all have page number 0: all three are written, and the numbers that were used already are named.
+try_used_number() {
+    used=$data/page_number_stays.bits
+    mkdir -p "$work/three_pages"
+    gives 1 frames --pages "$work/three_pages" "$used"
+    printf 'page 1: page-%d.pbm, 1728 x %d pixels, fine lines\n' 1 400 2 400 3 300 > "$work/wanted"
+    grep "^page" "$work/output" > "$work/numbered"
+    is_same "$work/numbered" "$work/wanted" "the pages whose PPSs have one number"
+    [ "$(sha256sum "$work/three_pages"/page-?.pbm | cut -c1-64 | sort -u | wc -l)" = 3 ] || fails "frames --pages: a page is written twice"
+    words="page 1 block 0: its number was used already, so it counts as what follows MPS"
+    [ "$(cat "$work/error")" = "$(printf '%s\n' "$words" "$words")" ] || fails "frames --pages doesn't name a number that was used already"
+    rm -f "$work/three_pages"/*
+    gives 1 frames --json --pages "$work/three_pages" "$used"
+    [ "$(tail -1 "$work/error")" = '{"after":"MPS","block":0,"missing":"new number","page":1}' ] ||
+        fails "frames --json --pages: another record of a number that was used already"
+    rm -f "$work/three_pages"/*
+    python3 -B "$data/try_json.py" "$program" "$used" "$work/three_pages" || fails "frames --json of $used"
 }

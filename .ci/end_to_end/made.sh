@@ -11,7 +11,9 @@ made_by() {
 
 # is_said CODE IDENTIFIED DECODED REPAIRED FILE: what the first line of identify has, and decode and decode --repair end with.
 is_said() {
-    "$program" identify "$5" > "$work/output" 2> /dev/null || true
+    status=0
+    "$program" identify "$5" > "$work/output" 2> /dev/null || status=$?
+    [ "$status" -le 1 ] || fails "identify of ${5##*/} ended with status $status"
     grep -qF "$2" "$work/output" || fails "identify of ${5##*/} says $(cat "$work/output")"
     status=0
     "$program" decode --code "$1" --width 1728 "$5" "$work/made.pbm" > /dev/null 2> "$work/error" || status=$?

@@ -14,6 +14,8 @@ converse() {
     is_same "$work/error" "$kept.error" "what is told of conversation $1"
     wanted=1
     ! grep -q '^end normal ' "$kept.error" && [ ! -f "$kept.done" ] || wanted=0
+    # a call with a gap in the numbers of its pages isn't whole
+    [ ! -f "$kept.records" ] || ! grep -q '"gap":' "$kept.records" || wanted=1
     [ "$status" = "$wanted" ] || fails "conversation $1 ended with status $status, and not $wanted"
     cat "$work/stored"/* > "$work/pages" 2> /dev/null || :
     if [ -f "$kept.pages" ]; then
@@ -24,7 +26,7 @@ converse() {
     count=$((count + 1))
     [ -f "$kept.records" ] || return 0
     rm -f "$work/stored"/*
-    "$program" station --json $words < "$kept.lines" > "$work/output" 2> "$work/error" || :
+    ends "$wanted" station --json $words < "$kept.lines"
     is_same "$work/error" "$kept.records" "the records of conversation $1"
     count=$((count + 1))
 }
@@ -45,22 +47,29 @@ try_taken_numbers() {
     count=$((count + 1))
 }
 
-# A page that can't be written isn't confirmed: the station sends DCN where it would send MCF, and ends with fault 8.
+# A page that can't be written isn't confirmed: the station sends DCN where it would send MCF, and ends with fault 8. That is so whether or not
+# the system's signal at the greatest size of a file, which ends a process, is ignored.
 try_unwritten() {
-    rm -rf "$work/stored"
-    mkdir "$work/stored"
     lines=$top/.ci/conversations/reference_page_of_many_rows
-    status=$(
-        exec 4>&1
-        {
-            (trap '' XFSZ; ulimit -f 1; exec "$program" station --answer --out "$work/stored" 4>&-) < "$lines.lines" 2> "$work/error" ||
-                echo $? >&4
-        } | cat > "$work/output"
-    )
-    [ "$status $(head -1 "$work/error")" = "1 fault 8" ] || fails "a page that can't be written: status $status"
-    is_same "$work/output" "$lines.unwritten" "what is answered to a page that can't be written"
-    [ -z "$(ls "$work/stored")" ] || fails "a part of a page stayed"
-    count=$((count + 1))
+    for ignored in XFSZ ''; do
+        rm -rf "$work/stored"
+        mkdir "$work/stored"
+        status=$(
+            exec 4>&1
+            {
+                (
+                    [ -z "$ignored" ] || trap '' $ignored
+                    ulimit -f 1
+                    exec "$program" station --answer --out "$work/stored" 4>&-
+                ) < "$lines.lines" 2> "$work/error" ||
+                    echo $? >&4
+            } | cat > "$work/output"
+        )
+        [ "$status $(head -1 "$work/error")" = "1 fault 8" ] || fails "a page that can't be written: status $status"
+        is_same "$work/output" "$lines.unwritten" "what is answered to a page that can't be written"
+        [ -z "$(ls "$work/stored")" ] || fails "a part of a page stayed"
+        count=$((count + 1))
+    done
 }
 
 # The mode of a page's file: its owner's alone, less the umask, and with --mode that mode whatever the umask is. And those of
@@ -83,7 +92,9 @@ try_modes() {
 022 --mode=0000 0
 000 --mode=600 600
 CASES
-    (umask 027; exec "$program" frames --pages "$work/stored" "$top/docs/examples/line.bits") > "$work/output" 2> "$work/error" || :
+    status=0
+    (umask 027; exec "$program" frames --pages "$work/stored" "$top/docs/examples/line.bits") > "$work/output" 2> "$work/error" || status=$?
+    is_status 1 "frames --pages with umask 027"
     [ "$(stat -c %a "$work/stored/page-2.pbm")" = 640 ] || fails "frames --pages with umask 027: mode $(stat -c %a "$work/stored/page-2.pbm")"
     count=$((count + 1))
 }
@@ -123,7 +134,7 @@ try_whole() {
 CASES
     { head -n -1 "$lines"; echo hush; } > "$work/lines"
     rm -f "$work/stored"/*
-    "$program" station --json --answer --out "$work/stored" < "$work/lines" > "$work/output" 2> "$work/error" || :
+    ends 1 station --json --answer --out "$work/stored" < "$work/lines"
     [ "$(sed -n 2p "$work/error")" = '{"pages":1,"whole":true}' ] || fails "the record before that of a fault"
     sed -n 3p "$work/error" | grep -q '^{"fault":31,' || fails "the record of a fault"
     count=$((count + 1))
@@ -156,7 +167,7 @@ end stopped pages 0" --limit 1 --most-octets "$((first - 1))"
     { for at in $(seq 1000 20000 201000); do
         printf 'quiet %s\nrx %s v21 hdlc 74 7E7EDF47A85AD6FAF901\nquiet %s\n' "$at" "$((at + 5000))" "$((at + 10000))"
     done; } > "$work/lines"
-    "$program" station --answer --out "$work/stored" < "$work/lines" > "$work/output" 2> "$work/error" || :
+    ends 1 station --answer --out "$work/stored" < "$work/lines"
     before=$(wc -l < "$work/output")
     [ "$(tail -n 1 "$work/error")" = "end line-lost pages 0" ] || fails "a good frame every 20 s doesn't hold the line"
     status=0
@@ -173,27 +184,38 @@ try_unwritable_folder() {
     status=0
     echo "no line" | "$program" station --answer --out /proc > "$work/output" 2> "$work/error" || status=$?
     [ "$status $(head -1 "$work/error")" = "1 fault 8" ] || fails "a folder that can't be written: status $status"
+    for how in --explain --json; do
+        ends 1 station $how --answer --out /proc < /dev/null
+        grep -q '/proc: no new file can be made in it: ' "$work/error" && [ ! -s "$work/output" ] || fails "the words of a folder that can't be written"
+    done
     rm -rf "$work/stored"
     mkdir "$work/stored"
-    echo "end 1" | "$program" station --answer --out "$work/stored" > "$work/output" 2> "$work/error" || :
+    echo "end 1" | ends 1 station --answer --out "$work/stored"
     [ "$(cat "$work/error")" = "end line-lost pages 0" ] && [ -z "$(ls "$work/stored")" ] || fails "a station left a file where it looked"
-    count=$((count + 2))
+    count=$((count + 4))
 }
 
-# A station, or `frames --pages`, that is killed while it writes a page leaves no file of the page's name: only a part file, as it was.
+# `frames --pages` that is killed while it writes a page leaves no file of the page's name: only a part file, as it was; and where no octet may
+# be written, nothing is left. disk.py kills a station.
 try_killed() {
-    for words in "station --answer --out $work/stored" "frames --pages $work/stored -"; do
-        input=$top/.ci/conversations/reference_page_of_many_rows.lines
-        [ "${words%% *}" = station ] || input=$top/docs/examples/line.bits
-        rm -rf "$work/stored"
-        mkdir "$work/stored"
-        # a write past the limit kills
-        { (ulimit -c 0; ulimit -f 0; exec "$program" $words) < "$input" | cat > "$work/output"; } 2> /dev/null
-        ls "$work/stored" > "$work/left"
-        grep -q '^faxtool-[0-9]*-1\.part$' "$work/left" || fails "$words wasn't killed while it wrote a page"
-        [ "$(wc -l < "$work/left")" = 1 ] || fails "$words was killed, and left: $(cat "$work/left")"
-        count=$((count + 1))
-    done
+    words="frames --pages $work/stored $top/docs/examples/line.bits"
+    rm -rf "$work/stored"
+    mkdir "$work/stored"
+    # the second call that changes a file is the first that writes one
+    status=$({
+        { DISK_AT=2 DISK_DOES=kill LD_PRELOAD=$work/disk.so "$program" $words || echo $? >&3; } | cat > "$work/output"
+    } 3>&1 2> /dev/null)
+    # SIGKILL
+    is_status 137 "$words that is killed"
+    ls "$work/stored" > "$work/left"
+    grep -q '^faxtool-[0-9a-f]\{16\}\.part$' "$work/left" || fails "$words wasn't killed while it wrote a page"
+    [ "$(wc -l < "$work/left")" = 1 ] || fails "$words was killed, and left: $(cat "$work/left")"
+    rm "$work/stored"/*
+    status=$({ (ulimit -f 0; exec "$program" $words 2>&1) || echo "status $?"; } | tail -n 2)
+    [ "$status" = "fault 8
+status 1" ] || fails "$words where no octet may be written: $status"
+    [ -z "$(ls "$work/stored")" ] || fails "$words where no octet may be written left a file"
+    count=$((count + 2))
 }
 
 # Lines of no allowed form, and one of more than 400,000 octets; and one of as many, which is allowed.
@@ -228,7 +250,7 @@ CASES
     rm -f "$work/told"
     for time in 1 01; do
         { printf "rx $time v21 hdlc 1599912 "; head -c 399978 /dev/zero | tr '\0' 0; echo; } > "$work/long"
-        "$program" station --answer --out "$kept" < "$work/long" > "$work/output" 2> "$work/error" || :
+        ends 1 station --answer --out "$kept" < "$work/long"
         echo "$time $(cat "$work/output" "$work/error" | tr '\n' ' ')" >> "$work/told"
     done
     printf '%s\n' "1 wait end line-lost pages 0 " "01 fault 31 at line 1 " > "$work/wanted"
@@ -246,7 +268,7 @@ try_no_line_words() {
         printf 'fault 31 at line %s\nstandard input: line %s, %s\n' "$number" "$number" "$words" > "$work/wanted"
         [ "$status" = 1 ] || fails "the line '$line' ended with status $status"
         is_same "$work/error" "$work/wanted" "the words of the line '$line'"
-        "$program" station --json --answer --out "$work/stored" < "$work/lines" > "$work/output" 2> "$work/error" || :
+        ends 1 station --json --answer --out "$work/stored" < "$work/lines"
         grep -qF "\"line\":$number,\"words\":\"standard input: line $number, $words\"" "$work/error" || fails "the record of the line '$line'"
         count=$((count + 2))
     done << 'CASES'
@@ -272,7 +294,7 @@ quiet 5\n|rx 4 v21 raw 0 |column 4: the time is before that of the line before, 
 |rx 1 v21 hdlc 8 0G|column 17: two hexadecimal digits are expected for each octet of the bits
 CASES
     { printf "quiet 1\nrx 1 v21 hdlc 1599912 "; head -c 399979 /dev/zero | tr '\0' 0; echo; } > "$work/long"
-    "$program" station --explain --answer --out "$work/stored" < "$work/long" > "$work/output" 2> "$work/error" || :
+    ends 1 station --explain --answer --out "$work/stored" < "$work/long"
     [ "$(tail -n 1 "$work/error")" = "standard input: line 2, column 400001: the line has more than 400000 octets" ] ||
         fails "the words of a line that is too long"
     count=$((count + 1))
@@ -317,7 +339,7 @@ try_trace_frames() {
     works decode --code mmr --width 1728 "$top/docs/examples/a4.mmr" "$work/third.pbm"
     for option in "" --trace-frames; do
         rm -f "$work/trace$option"
-        "$program" station --call --trace "$work/trace$option" $option "$work/third.pbm" < "$kept.lines" > "$work/output" 2> "$work/error" || :
+        ends 0 station --call --trace "$work/trace$option" $option "$work/third.pbm" < "$kept.lines"
         [ "$(grep -c " said PPS " "$work/trace$option")" -ge 1 ] || fails "a trace $option has no PPS"
         count=$((count + 1))
     done
@@ -396,7 +418,7 @@ late_by() {
     rm -rf "$work/stored"
     mkdir "$work/stored"
     { sed '/^rx 14000 /,$d' "$kept.lines"; sleep 2; sed -n '/^rx 14000 /,$p' "$kept.lines"; } |
-        "$program" station --answer --out "$work/stored" --late "$1" > "$work/output" 2> "$work/error" || :
+        ends 0 station --answer --out "$work/stored" --late "$1"
     is_same "$work/stored/page-1.pbm" "$kept.pages" "the page of an answer with --late $1"
     count=$((count + 1))
 }
@@ -406,6 +428,8 @@ try_late() {
     kept=$top/.ci/conversations/worked_answerer
     late_by 3600000
     is_same "$work/output" "$kept.expected" "the answers with --late 3600000"
+    late_by off
+    is_same "$work/output" "$kept.expected" "the answers with --late off"
     late_by 500
     printf '%s\n' "14000 page 1 in page-1.pbm: 1728 x 1, standard, mmr, v17-14400" \
         "the answer to the line at 14000 isn't sent: it comes too late" "end normal pages 1" > "$work/wanted"
@@ -414,13 +438,16 @@ try_late() {
 }
 
 # A page is synced under another name, and its folder after it has its own, before MCF; that holds whatever call on the disk fails, and
-# whenever the process is killed.
+# whenever the process is killed, with links and without. What a killed one leaves, the next one removes.
 try_disk() {
     ${CC:-cc} -std=gnu11 -Wall -Wextra -O1 -shared -fPIC -o "$work/disk.so" "$top/.ci/end_to_end/disk.c" -ldl || fails "disk.c isn't compiled"
     runs=$(python3 -B "$top/.ci/end_to_end/disk.py" "$program" "$work/disk.so" "$top/.ci/conversations/worked_answerer") ||
         fails "pages on a disk that fails"
-    rm "$work/disk.so"
     count=$((count + runs))
+    runs=$(python3 -B "$top/.ci/end_to_end/leftovers.py" "$program" "$work/disk.so") || fails "part files that were left"
+    count=$((count + runs))
+    try_killed
+    rm "$work/disk.so"
 }
 
 # Memory that is refused once: the line is lost, and the call goes on.
@@ -432,26 +459,74 @@ try_memory_refused() {
     count=$((count + runs))
 }
 
-# pool_by WORDS: calls of three pages over lines that lose, with a disk that holds answers for up to 12 s, and a fifth of the callers and
-# answerers killed: no page is confirmed and not stored, none is there twice or cut short.
-pool_by() {
-    rm -rf "$work/stored"
-    mkdir "$work/stored"
-    timeout 300 python3 -B "$top/docs/examples/pool.py" "$@" --command "$program station" "$work/three.pbm" "$work/stored" \
-        > "$work/output" 2> "$work/error" || { cat "$work/error" >&2; fails "pool.py $*: $(cat "$work/output")"; }
-    grep -q '00 calls: .* normal; ' "$work/output" || fails "pool.py $*: $(cat "$work/output")"
-    count=$((count + 100))
+# What is told is written a line at a time, and nowhere else if standard error is closed.
+try_whole_lines() {
+    runs=$(python3 -B "$top/.ci/end_to_end/lines.py" "$program" "$top/.ci/conversations/worked_page_number_that_jumps") ||
+        fails "lines of a station"
+    count=$((count + runs))
 }
 
-# 200 calls, and 100 whose pages are handed over.
+# A caller that leaves while its last page is answered by RNR alone, or not at all, wasn't sent a confirmation: the end says so. And a PPS that
+# repeats a confirmed block with EOP in place of MPS makes no call whole.
+try_left() {
+    kept=$top/.ci/conversations/worked_answerer
+    rm -rf "$work/stored"
+    mkdir "$work/stored"
+    sed '/^rx 15000 /d' "$kept.lines" > "$work/lines"
+    status=0
+    "$program" station --answer --out "$work/stored" < "$work/lines" > "$work/output" 2> "$work/error" || status=$?
+    printf '%s\n' "14000 page 1 in page-1.pbm: 1728 x 1, standard, mmr, v17-14400" "the caller left before its last page was confirmed" \
+        "end peer-left pages 1" > "$work/wanted"
+    [ "$status" = 1 ] || fails "a caller that leaves after RNR: status $status"
+    is_same "$work/error" "$work/wanted" "what is said of a caller that leaves after RNR"
+    rm "$work/stored"/*
+    ends 1 station --json --answer --out "$work/stored" < "$work/lines"
+    [ "$(sed -n 2p "$work/error")" = '{"pages":1,"whole":false,"why":"the caller left before its last page was confirmed"}' ] ||
+        fails "the record of a caller that leaves after RNR: $(cat "$work/error")"
+    rm "$work/stored"/*
+    # PPS-MPS of page 0, block 0, which is confirmed; then PPS-EOP of the same, and the line drops
+    { sed '/^rx 8000 /,$d' "$top/.ci/conversations/reference_room_for_one_page.lines"
+        printf '%s\n' "rx 9000 v21 frames FF13BF2F000000" "end 12000"; } > "$work/lines"
+    status=0
+    "$program" station --answer --out "$work/stored" < "$work/lines" > "$work/output" 2> "$work/error" || status=$?
+    [ "$status $(tail -n 1 "$work/error")" = "1 end line-lost pages 1" ] || fails "a repeat with another end: $status $(cat "$work/error")"
+    count=$((count + 3))
+}
+
+# pool_by FOLDER WORDS: the pool of the folder plays calls over lines that lose, with a disk that holds answers for seconds, and with kills:
+# each page is stored whole, once, before it is confirmed.
+pool_by() {
+    pool=$1
+    shift
+    rm -rf "$work/stored"
+    mkdir "$work/stored"
+    timeout 300 python3 -B "$pool/pool.py" "$@" "$work/stored" --command "$program station" > "$work/output" 2> "$work/error"
+}
+
+# 200 calls of five pages, and in each a station is killed if the call lasts; and 100 calls whose three pages are handed over. A line that
+# sends the answers to older lines too confirms pages that aren't stored: the pool must see that.
 try_pool() {
     works decode --code mmr --width 1728 "$data/wide.mmr.msb" "$work/second.pbm"
     works decode --code mmr --width 1728 "$top/docs/examples/a4.mmr" "$work/third.pbm"
     cat "$top/docs/examples/row.pbm" "$work/second.pbm" "$work/third.pbm" > "$work/three.pbm"
-    pool_by --calls 200
-    pool_by --calls 100 --hold
-    rm -r "$work/stored" "$work/second.pbm" "$work/third.pbm" "$work/three.pbm"
-    count=$((count + 100))
+    python3 -B -c 'import random, sys
+chance = random.Random(5)
+for rows in range(20, 53, 8):
+    octets = bytes(chance.choice((0, 0, 0, 255, 15, 60)) for _ in range(216 * rows))
+    sys.stdout.buffer.write(b"P4\n1728 %d\n" % rows + octets)' > "$work/five.pbm"
+    killed="--lose 0.08 --slow 4000 --kill 1 --seed 6 $work/five.pbm"
+    for words in "--calls 200 $killed" "--calls 100 --hold $work/three.pbm"; do
+        pool_by "$top/docs/examples" $words || { cat "$work/error" >&2; fails "pool.py $words: $(cat "$work/output")"; }
+        grep -q '00 calls: .* normal; ' "$work/output" || fails "pool.py $words: $(cat "$work/output")"
+    done
+    rm -rf "$work/older"
+    mkdir "$work/older"
+    cp "$top/docs/examples/pool.py" "$work/older"
+    sed '/if line.startswith(("busy ", "rx ")):/,+1d' "$top/docs/examples/join.py" > "$work/older/join.py"
+    ! pool_by "$work/older" --calls 20 $killed || fails "pool.py doesn't see answers to older lines"
+    grep -q 'is confirmed by the answer to an older line$' "$work/error" || fails "pool.py says something else of answers to older lines"
+    rm -r "$work/stored" "$work/older" "$work/second.pbm" "$work/third.pbm" "$work/three.pbm" "$work/five.pbm"
+    count=$((count + 320))
 }
 
 # The kept conversations, of which there are 26 at least; words that are no station's; and random conversations for a minute.
@@ -500,6 +575,11 @@ IN|a station answers or calls: either --answer or --call is needed
 --call --limit 1 IN|--out, --standard, --widest, --limit, --mode, --most-.., --refuse and --hold are for a station with --answer
 --call --widest 1728 IN|--out, --standard, --widest, --limit, --mode, --most-.., --refuse and --hold are for a station with --answer
 --call --t4 x IN|
+--answer --out DIR --late 0|--late is 1 to 3600000 milliseconds, or off
+--answer --out DIR --late +5|--late is 1 to 3600000 milliseconds, or off
+--answer --out DIR --late 3600001|--late is 1 to 3600000 milliseconds, or off
+--answer --out DIR --late Off|--late is 1 to 3600000 milliseconds, or off
+--call --late 20ms IN|--late is 1 to 3600000 milliseconds, or off
 CASES
     faults "fault 8" station --answer --out "$work/missing"
     faults "fault 8" station --call "$work/missing"
@@ -510,7 +590,6 @@ CASES
     try_modes
     try_limits
     try_whole
-    try_killed
     try_no_lines
     try_no_line_words
     try_trace
@@ -521,6 +600,8 @@ CASES
     try_held
     try_late
     try_disk
+    try_whole_lines
+    try_left
     try_memory_refused
     try_pool
     python3 -B "$top/bench/fuzz/reference_station.py" --dry > "$work/output" || fails "reference_station.py: $(cat "$work/output")"

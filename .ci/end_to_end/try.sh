@@ -90,12 +90,13 @@ try_first_kit() {
     [ -n "$KIT" ] || unset KIT
 }
 
-# joins STATUS WORDS: docs/examples/join.py ends with the status, with one line on standard error where that isn't 0.
+# joins STATUS WORDS: docs/examples/join.py ends with the status, with one line on standard error if that isn't 0; no signal ended a station.
 joins() {
     end=$1 status=0
     shift
     timeout 60 python3 -B "$top/docs/examples/join.py" "$@" > "$work/output" 2> "$work/error" || status=$?
     [ "$status" = "$end" ] || fails "join.py $* ended with status $status, and not $end"
+    ! grep ', status -' "$work/output" >&2 || fails "join.py $*: a signal ended a station"
     [ "$end" = 0 ] || [ "$(wc -l < "$work/error")" = 1 ] || fails "join.py $* wrote $(wc -l < "$work/error") lines on standard error"
     count=$((count + 1))
 }

@@ -30,18 +30,22 @@ try_explained() {
     cd "$top"
 }
 
-# Names with a control character are shown as "a file", and others as they are; and a word that isn't UTF-8.
+# Names are shown with each octet of a control character as \xHH and a backslash as two, and others as they are; and a word that isn't UTF-8.
 try_explained_names() {
-    for control in 001 012 015 033 037 177 302\\200 302\\205 302\\233 302\\237; do
+    for octets in '001 \x01' '012 \x0a' '015 \x0d' '033 \x1b' '037 \x1f' '177 \x7f' '302\200 \xc2\x80' '302\205 \xc2\x85' \
+        '302\233 \xc2\x9b' '302\237 \xc2\x9f'; do
+        control=${octets% *}
+        shown=${octets#* }
         name=$(printf "two\\${control}lines")
-        explains "fault 8" "a file: no such file or folder" frames "$name"
-        explains "fault 8" "a file: no such file or folder" call --script "$name" "$data/page.pbm"
+        explains "fault 8" "two${shown}lines: no such file or folder" frames "$name"
+        explains "fault 8" "two${shown}lines: no such file or folder" call --script "$name" "$data/page.pbm"
         for words in "code --code mh a b" "code --code mh a --order" "show"; do
             refuses $words "$name"
             [ "$(head -1 "$work/error")" = "error: the words are not a command, and one of them has a control character" ] \
                 || fails "$words and a name with the control character $control: shown as it is"
         done
     done
+    explains "fault 8" 'a\\x0ab: no such file or folder' frames 'a\x0ab'
     for name in 'a b' 'a~b' "$(printf 'a\302\240b')" "$(printf 'a\303\200b')" "$(printf 'a\342\202\254b')" "$(printf 'a\303\237')"; do
         explains "fault 8" "$name: no such file or folder" frames "$name"
     done
@@ -239,7 +243,9 @@ try_terminal() {
     printf 'fault 10 at bit 12\r\npage: row 1: no code word of a white run begins here (try --order lsb, or --code mmr)\r\n' > wanted
     [ $status = 1 ] || fails "decode on a terminal ended with status $status"
     is_same output wanted "the words on a terminal"
-    script -qec "'$program' decode --code mh --width 8 page made 2> error" /dev/null < /dev/null > output || true
+    status=0
+    script -qec "'$program' decode --code mh --width 8 page made 2> error" /dev/null < /dev/null > output || status=$?
+    is_status 1 "decode on a terminal, with standard error in a file"
     [ "$(cat error)$(cat output)" = "fault 10 at bit 12" ] || fails "decode wrote words where standard error is no terminal"
     script -qec "(head -c 500 '$data/page.pbm'; sleep 3.5; tail -c +501 '$data/page.pbm') | '$program' code --code mh - made" \
         /dev/null < /dev/null > output
@@ -383,21 +389,24 @@ try_environment() {
 try_memory() {
     "$program" code --code mh "$work/large.pbm" "$work/large.mh"
     named=0
-    for most in $(seq 3000 20 5000); do
+    finds_least
+    for most in $(seq "$least" 20 12000); do
         status=0
         (ulimit -v "$most"; exec "$program" decode --explain --code mh --width 2432 "$work/large.mh" "$work/made") \
             > "$work/output" 2> "$work/error" || status=$?
-        [ "$status" = 1 ] || continue
-        [ "$(head -1 "$work/error")" = "fault 9" ] || fails "decode with $most KB of memory"
+        [ "$status" != 0 ] || break
+        is_status 1 "decode with $most KB of memory"
+        [ "$(head -1 "$work/error")" = "fault 9" ] || fails "decode with $most KB of memory says something else"
         # with the least memory not even the command's words are read
         grep -q "^a word of the command: memory was refused\|^the command's words: memory was refused" "$work/error" && continue
         grep -q "^$work/large.mh: memory was refused" "$work/error" || fails "decode with $most KB of memory names no file"
         named=$((named + 1))
     done
+    [ "$status" = 0 ] || fails "decode was refused memory each time"
     [ "$named" -gt 0 ] || fails "decode was never refused memory for its file"
     yes "busy 1" | head -c 3000000 > "$work/long.script"
     status=0
-    (ulimit -v 5000; exec "$program" call --explain --script "$work/long.script" "$data/page.pbm") > "$work/output" 2> "$work/error" || status=$?
+    (ulimit -v "$most"; exec "$program" call --explain --script "$work/long.script" "$data/page.pbm") > "$work/output" 2> "$work/error" || status=$?
     [ "$status $(head -1 "$work/error")" = "1 fault 9" ] || fails "call with a long script and little memory ended with status $status"
     grep -q "^$work/long.script: memory was refused" "$work/error" || fails "call doesn't name its script where memory is refused"
     count=$((count + 3))
@@ -416,7 +425,7 @@ ends_within() {
 }
 
 # Input that never ends: one that makes no page, however it goes on, is read for a few megabytes. Nothing is read of a file of pages or of a
-# script beyond a bound; that is fault 8, and OUT stays.
+# script beyond a bound; that is fault 32, and OUT stays. What follows the first page is ignored if that one is wanted alone.
 try_endless() {
     few=30000 many=400000
     ends_within $few 1 "fault 17 at bit 0" decode --code mmr --width 1728 - "$work/endless" < /dev/zero
@@ -424,10 +433,14 @@ try_endless() {
     ends_within $few 1 "fault 29" identify - < /dev/zero
     ends_within $few 1 "fault 4 at bit 0" decode --explain --code mh --width 8 /dev/zero "$work/endless"
     yes | ends_within $few 1 "fault 29" identify -
-    ends_within $many 1 "fault 8" decode --repair --code mh --width 8 - "$work/endless" < /dev/zero
-    cat "$data/page.mmr.msb" /dev/zero | ends_within $many 1 "fault 8" decode --code mmr --width 315 - "$work/endless"
-    ends_within $many 1 "fault 8" call --script /dev/zero "$data/page.pbm"
-    yes "to-caller 1" | ends_within $many 1 "fault 8" call --explain --script - "$data/page.pbm"
+    ends_within $many 1 "fault 32" decode --repair --code mh --width 8 - "$work/endless" < /dev/zero
+    cat "$data/page.mmr.msb" /dev/zero | ends_within $many 1 "fault 32" decode --page 2 --code mmr --width 315 - "$work/endless"
+    status=0
+    cat "$data/page.mmr.msb" /dev/zero 2> /dev/null |
+        (ulimit -v "$many"; exec timeout 60 "$program" decode --code mmr --width 315 - "$work/first.pbm") 2> "$work/error" || status=$?
+    [ "$status" = 0 ] && cmp -s "$work/first.pbm" "$data/page.pbm" || fails "a page before what never ends isn't decoded"
+    ends_within $many 1 "fault 32" call --script /dev/zero "$data/page.pbm"
+    yes "to-caller 1" | ends_within $many 1 "fault 32" call --explain --script - "$data/page.pbm"
     [ "$(tail -n 1 "$work/error")" = "standard input: it has more octets than are read of such a file, 16777216" ] ||
         fails "the words of an endless script"
     [ ! -e "$work/endless" ] || fails "a file was made of an endless input"

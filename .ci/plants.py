@@ -1,0 +1,124 @@
+"""The record of the planted bugs that the gate doesn't try, in docs/PLANTS.md: what `make plants` writes there, and what the gate holds
+against the sources."""
+import collections
+import re
+import subprocess
+from pathlib import Path
+
+TOP = Path(__file__).resolve().parent.parent
+PAGE = TOP / "docs" / "PLANTS.md"
+EDITS = TOP / "bench" / "plant" / "edits"
+OF_THE_GATE = TOP / ".ci" / "must-fail"
+PARTS = ("src", "specs", "proofs")
+RECORD = re.compile(r"(<!-- written: record -->\n).*?(\n<!-- end -->)", re.S)
+# A line of the record, which has few words: the documents may have so many together.
+FORM = "{:17}{:12}{:12}{:7}{:7}{}"
+HEADER = FORM.format("crate", "commit", "date", "bugs", "rows", "goals that became false")
+ROW = re.compile(r"^(\w+) +(\w+) +(\d{4}-\d\d-\d\d) +(\d+)/(\d+) +(\d+)/(\d+) +(\S+)$", re.M)
+# All bugs of bench/plant/edits take an hour on four processors; more would be tried less often.
+MOST_EDITS = 200
+# The crate that changes most had 25 commits on its busiest day, others a third of that: a record is then some days old at most, and a
+# bug that slipped through since is found while it is known who made the change.
+MOST_COMMITS = 30
+MOST_LINES = 60
+
+Row = collections.namedtuple("Row", "crate commit date refused edits rows_refused rows goals")
+
+
+def rows_of(text):
+    """The rows of a record, by their crate."""
+    found = (Row(name, commit, date, *map(int, counts), goals) for name, commit, date, *counts, goals in ROW.findall(text))
+    return {row.crate: row for row in found}
+
+
+def line_of(row):
+    """The line of a row."""
+    bugs, rows = f"{row.refused}/{row.edits}", f"{row.rows_refused}/{row.rows}"
+    return FORM.format(row.crate, row.commit, row.date, bugs, rows, row.goals)
+
+
+def goals_told(goals):
+    """The names of goals with how often each refused something, the most first; of more than six the others as one."""
+    counts = sorted(collections.Counter(goals).items(), key=lambda pair: (-pair[1], pair[0]))
+    others = sum(count for _name, count in counts[6:])
+    told = counts[:6] + ([("others", others)] if others else [])
+    return ",".join(f"{name.replace(' ', '_')}:{count}" for name, count in told) or "none"
+
+
+def written(text, rows, alike=None):
+    """A page with these rows in place of those of the same crates, and with what is told of bodies wrong in code and definition alike."""
+    kept = {**rows_of(text), **{row.crate: row for row in rows}}
+    told = re.search(r"^Wrong in code and definition alike: .*$", text, re.M)
+    last = f"Wrong in code and definition alike: {alike}" if alike else told[0] if told else ""
+    lines = ["```text", HEADER, *(line_of(kept[name]) for name in sorted(kept)), "```"] + (["", last] if last else [])
+    return RECORD.sub(lambda found: found[1] + "\n" + "\n".join(lines) + "\n" + found[2], text)
+
+
+def git(*words):
+    """What git says of the repository; None where it isn't one, or where it fails."""
+    ran = subprocess.run(["git", "-c", f"safe.directory={TOP}", "-C", str(TOP), *words], capture_output=True, text=True, check=False)
+    return ran.stdout.strip() if ran.returncode == 0 else None
+
+
+def sources(crate):
+    return [f"crates/{crate}/{part}" for part in PARTS]
+
+
+def commits_since(commit, crate):
+    """How many commits have changed a crate's sources since this one; None if the history hasn't it."""
+    count = git("rev-list", "--count", f"{commit}..HEAD", "--", *sources(crate))
+    return None if count is None else int(count)
+
+
+def changed(crate):
+    """Whether a crate's sources, or its planted bugs, are other than in the last commit."""
+    return bool(git("status", "--porcelain", "--", *sources(crate), f"bench/plant/edits/{crate}"))
+
+
+def faults(text, edits, since):
+    """What is wrong with a record: `edits` says how many bugs of each crate are there, and `since` counts the commits since one."""
+    if sum(edits.values()) > MOST_EDITS:
+        yield f"bench/plant/edits has {sum(edits.values())} bugs, more than {MOST_EDITS}"
+    lines = RECORD.search(text)
+    if not lines or lines[0].count("\n") > MOST_LINES:
+        yield f"docs/PLANTS.md has no record, or one of more than {MOST_LINES} lines"
+    rows = rows_of(text)
+    for crate, count in edits.items():
+        row = rows.get(crate)
+        if not row:
+            continue  # said by `untried`
+        if (row.refused, row.edits, row.rows_refused) != (count, count, row.rows):
+            yield (f"docs/PLANTS.md: of {crate}'s {count} planted bugs {row.refused} of {row.edits} were refused, "
+                   f"and of its wrong rows {row.rows_refused} of {row.rows}")
+        elif (commits := since(row.commit, crate)) is None:
+            yield f"docs/PLANTS.md: the history has no commit {row.commit}, of {crate}"
+        elif commits > MOST_COMMITS:
+            yield f"docs/PLANTS.md: {commits} commits have changed {crate} since its planted bugs were tried, more than {MOST_COMMITS}"
+
+
+def untried(text, edits):
+    """The crates whose planted bugs were never all tried."""
+    return sorted(edits.keys() - rows_of(text).keys())
+
+
+def named_faults(text, is_there):
+    """The bugs of the gate that the table of wrong bodies names and that aren't there."""
+    rows = re.search(r"^\| Wrong body \|.*\n\|[-|]+\n((?:\|.*\n)+)", text, re.M)
+    lines = rows[1].splitlines() if rows else []
+    named = [bug for line in lines for bug in re.findall(r"^\| .* \| `(\w+/\w+)` \| `[\w:]+` \| `\w+` \|$", line)]
+    if len(named) != len(lines) or not named:
+        yield "docs/PLANTS.md: a wrong body without a bug, a function and a clause"
+    yield from (f"docs/PLANTS.md names {bug}, which isn't in .ci/must-fail" for bug in named if not is_there(bug))
+
+
+def edits_here():
+    """How many planted bugs each crate has that the gate doesn't try."""
+    return {folder.name: len(list(folder.glob("*.edit"))) for folder in sorted(EDITS.iterdir())}
+
+
+def faults_here():
+    """What is wrong with the record of this repository; of a tree without history, nothing."""
+    named = list(named_faults(PAGE.read_text(), lambda bug: (OF_THE_GATE / f"{bug}.edit").is_file()))
+    if git("rev-parse", "HEAD") is None:
+        return named
+    return named + [f"{fault}; make plants tries them" for fault in faults(PAGE.read_text(), edits_here(), commits_since)]
