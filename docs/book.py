@@ -278,7 +278,8 @@ class Book:
         clauses = (self.top / ".ci" / "public_clauses.txt").read_bytes()
         body += (
             f"</table>\n<p>{link('kit.html', 'The kit')}: what the definitions name of it.</p>\n<p>The list of all "
-            f"{len(clauses.splitlines())} public clauses, <code>public_clauses.txt</code>, has the SHA-256 "
+            f"{sum(len(crate.clauses()) for crate in self.crates.values())} public clauses and of the definitions that they rest on, "
+            "<code>public_clauses.txt</code>, has the SHA-256 "
             f"<code>{hashlib.sha256(clauses).hexdigest()}</code>.</p>\n"
         )
         return page("What is proved", body)

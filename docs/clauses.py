@@ -23,12 +23,11 @@ TYPE = re.compile(r"^(pub(?:\([^)]*\))? )?(struct|enum|trait|const|type|static) 
 
 @dataclass
 class Clause:
-    """A clause: whose it is, what it is called, its text, and the names of specs that it cites, by the names in its text."""
+    """A clause: whose it is, its kind and its name, its text, and the names of specs that it cites, by the names in its text."""
 
     owner: str
     kind: str
     name: str
-    called: str
     text: str
     names: dict
     cited: list
@@ -124,14 +123,6 @@ def imports_of(text, blocks):
     return imports
 
 
-def name_of(found, text):
-    """What a clause is called: its kind and its name, or its first words."""
-    if found[3]:
-        return f"ghost {found[3]}"
-    first = " ".join(text.split())
-    return f"{found[1]} {found[2]}" if found[2] else f"{found[1]} {{ {first[:60].strip()}{' ..' if len(first) > 60 else ''} }}"
-
-
 class Source:
     """A file of a crate's code."""
 
@@ -189,7 +180,7 @@ class Source:
                 cited = [there for here, there in names.items() if stands_in(here, bare)]
                 kind = "ghost" if match[3] else match[1]
                 name = match[3] or match[2] or ""
-                found[place] = Clause(owner, kind, name, name_of(match, bare), self.text[span], names, cited, self.beside(place))
+                found[place] = Clause(owner, kind, name, self.text[span], names, cited, self.beside(place))
         return found
 
     @cached_property

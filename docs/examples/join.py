@@ -5,8 +5,10 @@
 
 RATE is the share of bursts that are lost, as 0.1. One station sends at a time. The clock is simulated: a burst lasts as long as its
 bits take, 75 ms of silence come after it, and a quiet line says so every 20 ms. So a call of a minute takes a second. With --slow the
-answerer takes up to that many milliseconds to store a page; a page that it hands over, with --hold, is kept after as many. An answer is
-sent only if the other side hasn't begun to speak since the line that it answers.
+answerer takes up to that many milliseconds to store a page; a page that it hands over, with --hold, is kept after as many.
+
+An answer is sent only if the other side hasn't begun to speak since the line that it answers. What is left of it is dropped before a newer
+`busy` or `rx` is written.
 
 The exit status is 0 if both stations end normally. If one can't be started, or ends with a fault, a line on standard error says which
 one and why."""
@@ -67,8 +69,8 @@ class Side:
         self.station, self.folder, self.slow, self.lines, self.bursts = station, folder, slow, [], []
         # when it takes the next line; the time of the line that it answers; when it last began to send
         self.free = self.asked = self.began = 0
-        # the page that was handed over, and when it is kept
-        self.held, self.kept = None, 0
+        # the page that was handed over, and when it is kept; the files that were handed over and aren't kept
+        self.held, self.kept, self.unkept = None, 0, set()
 
     def stored(self):
         return len(os.listdir(self.folder)) if self.slow and os.path.isdir(self.folder) else 0
@@ -78,13 +80,18 @@ class Side:
         while self.lines and clock >= self.free:
             before = self.stored()
             self.asked, line = self.lines.pop(0)
+            # the other side has begun to speak: bursts that answer an older line are void
+            if line.startswith(("busy ", "rx ")):
+                self.bursts.clear()
             self.bursts += self.station.tell(line)
             waits = chance.randrange(self.slow + 1) if self.station.page or self.stored() > before else 0
             if self.station.page:
                 self.held, self.kept, self.station.page, waits = self.station.page, clock + waits, None, 0
+                self.unkept.add(self.held)
             self.free = clock + waits
         if self.held and clock >= self.kept:
             self.lines.append((clock, f"kept {clock} {self.held}"))
+            self.unkept.discard(self.held)
             self.held = None
 
 

@@ -1,5 +1,5 @@
 #!/usr/bin/env python3
-"""Plays many calls over lines that lose, with a disk that is slow and stations that are killed, and counts what is confirmed and not stored.
+"""Plays many calls over lines that lose, with a disk that is slow and stations that are killed, and sees that what is confirmed is stored.
 
     pool.py [--calls N] [--lines N] [--lose RATE] [--slow MS] [--kill SHARE] [--hold] [--seed N] [--command COMMAND] IN.pbm DIR
 
@@ -7,18 +7,23 @@ Each call has a folder of its own in DIR, `call-1` and on, and the lines run sid
 SHARE of the calls, as 0.2, lose their caller or answerer by `kill -9` at a line that chance gives. With --hold the answerers hand their
 pages over. COMMAND is `faxtool station` if it isn't said.
 
-Prints how the calls ended and what they left. The exit status is 0 if each page that a caller counts as confirmed is stored whole, once,
-in its place, and no file of a page is anything else."""
+Prints how the calls ended and what they left. The exit status is 0 if each page is stored whole, in its place, before the MCF that confirms
+it is sent (and kept, if it was handed over), each page that a caller counts as confirmed is stored once, and no file of a page is anything
+else."""
 
 import argparse
 import collections
 import os
 import random
 import shlex
+import signal
 import sys
 from concurrent.futures import ThreadPoolExecutor
 
 from join import Line, Side, Station
+
+# Third octets of signals, and the fourth of a PPS that no page ends with.
+MCF, PPS, NULL = 0x8C, 0xBE, 0x00
 
 
 class Killed(Station):
@@ -36,6 +41,50 @@ class Killed(Station):
                 self.process.wait()
                 self.runs = False
         return super().tell(line)
+
+
+def frames_of(octets):
+    """The contents of a burst's frames, in hex, without their check sequences."""
+    bits = "".join(f"{octet:08b}"[::-1] for octet in bytes.fromhex(octets))
+    for between in bits.split("01111110"):
+        plain = between.replace("111110", "11111")
+        frame = bytes(int(plain[at : at + 8][::-1], 2) for at in range(0, len(plain), 8))
+        if len(frame) > 4:
+            yield frame[:-2]
+
+
+class Watched(Line):
+    """A line that looks into the answerer's folder when an MCF is sent: what it confirms must be there."""
+
+    def __init__(self, sides, pages, lose, seed):
+        super().__init__(sides, lose, seed, 200)
+        # the page of the last PPS, from 1, if it ends there; what was wrong with the first MCF that was sent and shouldn't have been
+        self.pages, self.ends, self.wrong = pages, None, None
+
+    def carry(self, sender, receiver):
+        carrier, _kind, _bits, octets = sender.bursts[0].split(" ")
+        for frame in frames_of(octets) if carrier == "v21" else []:
+            # the first bit of the third octet says which side speaks
+            name = frame[2] & 0xFE
+            if name == PPS:
+                self.ends = frame[4] + 1 if frame[3] != NULL else None
+            elif name == MCF and self.ends:
+                self.wrong = self.wrong or self.wrong_with(sender)
+        super().carry(sender, receiver)
+
+    def wrong_with(self, answerer):
+        """What is wrong with an MCF that answers the last PPS, or the RR after it; None if nothing is."""
+        name = f"page-{self.ends}.pbm"
+        try:
+            with open(os.path.join(answerer.folder, name), "rb") as file:
+                is_there = file.read() == self.pages[self.ends - 1]
+        except FileNotFoundError:
+            is_there = False
+        if not is_there or name in answerer.unkept:
+            return f"page {self.ends} is confirmed before it is {'kept' if is_there else 'stored'}"
+        if len(answerer.bursts) > 1:
+            return f"page {self.ends} is confirmed by the answer to an older line"
+        return None
 
 
 def pages_of(octets):
@@ -61,9 +110,14 @@ class Call:
         command = shlex.split(asked.command)
         words = {"caller": ["--call", asked.document], "answerer": ["--answer", "--out", self.folder] + ["--hold"] * asked.hold}
         stations = [Killed(name, command + words[name], chance.randrange(1, 120) if dies == name else None) for name in words]
-        Line([Side(stations[0]), Side(stations[1], self.folder, asked.slow)], asked.lose, chance.random(), 200).play()
-        (self.said, _), _ = [station.end() for station in stations]
-        self.dies = dies
+        line = Watched([Side(stations[0]), Side(stations[1], self.folder, asked.slow)], pages, asked.lose, chance.random())
+        line.play()
+        ends = [station.end() for station in stations]
+        self.said = ends[0][0]
+        # a station ends with status 0 or 1; one that is to be killed may have ended before
+        crashed = [f"the {name} ended with status {status}" for name, (_said, status) in zip(words, ends)
+                   if status not in (0, 1) and (name, status) != (dies, -signal.SIGKILL)]
+        self.dies, self.mistaken = dies, line.wrong or "; ".join(crashed)
         # `end NAME confirmed N`, of a caller that wasn't killed
         found = [line.split(" ") for line in self.said if line.startswith("end ")]
         self.end, self.confirmed = (found[-1][1], int(found[-1][3])) if found else ("killed" if dies == "caller" else "fault", 0)
@@ -84,6 +138,8 @@ class Call:
             return "; ".join(self.said)
         if stored != self.pages[: len(stored)]:
             return "a stored page is cut short, is another one, or is there twice"
+        if self.mistaken:
+            return self.mistaken
         if self.confirmed > len(stored):
             return f"{self.confirmed} pages are confirmed, and {len(stored)} stored"
         return None

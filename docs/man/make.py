@@ -73,6 +73,8 @@ class Help:
 
     def __init__(self, program, words):
         ran = subprocess.run([program, *words, "--help"], capture_output=True, text=True, stdin=subprocess.DEVNULL, timeout=60)
+        if ran.returncode != 2:
+            sys.exit(f"make.py: {' '.join(words)} --help ended with status {ran.returncode}, and not 2")
         lines = ran.stderr.split("\n")
         self.about = lines[0]
         # the program's name there is that of its file
