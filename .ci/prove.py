@@ -1,31 +1,24 @@
 #!/usr/bin/env python3
-"""Proves each crate, and tries the bugs that are planted in it and its tests, in the order that ends soonest:
+"""Runs `rt ci` over the checkout, and beside it what rests on the crates that it has proved so far:
 
     .ci/prove.py
 
-`rt ci` over the whole repository gives each proof one processor while others are ready, so the longest chain of crates takes as long as
-one processor needs for it. Here runs of `rt ci` go side by side: one has the longest chain, crate by crate, with half of the processors; as
-many runs as that is have the crates beside it; and as many again, at a low priority, have the planted bugs (must_fail.py) and tests of what
-is proved, in which the others help once they are done. All but the chain's give a proof one processor: more end it sooner, and cost up to
-twice as much in all. Each run is over a copy with the crates that are wanted, and keeps what passes: the gate's own `rt ci`, over the whole
-checkout, takes it from there. Prints the minutes and processor minutes of each. Ends with status 1, and with what was said, if something
-fails."""
+`rt ci` proves the longest chain of crates first, and has no work for all processors while the last crates of the chain are proved. So the
+planted bugs of a crate (must_fail.py) are tried as soon as that crate is proved, and the library for C is built as soon as all below it are,
+both at a low priority. Of the proofs that `rt ci` prints one line a crate is printed, with the minutes since it began, and all of what a crate
+that fails says. Ends with status 1 if something fails, and ends what still runs then."""
 import os
 import re
-import shutil
+import signal
 import subprocess
 import sys
-import tempfile
 import threading
 import time
 from pathlib import Path
 
 TOP = Path(__file__).resolve().parent.parent
-# Nothing stands on these, and they are proved beside the planted bugs.
-OF_TESTS = re.compile(r".*_tests|uses|stream_tool")
-# What is proved over one of these takes twice as long as other code.
-LARGE = re.compile(r"\b(serde_json|clap)\b")
 PROCESSORS = sorted(os.sched_getaffinity(0))
+ENDS = re.compile(r"^rt: (\w+)(: its tests are)? (proved|NOT PROVED.*)$")
 
 
 def read_crates():
@@ -43,157 +36,118 @@ def below(crates, name):
     return found
 
 
-def weight_of(name, line):
-    """About how long a crate's proof takes: by the octets of its code, twice as long over the kit's larger libraries."""
-    code = sum(file.stat().st_size for file in (TOP / "crates" / name / "src").rglob("*.rt"))
-    return code * (2 if LARGE.search(line) else 1)
+def started(command, settings=()):
+    """A command in a session of its own, so that all that it begins can be ended with it; what it says comes in one stream."""
+    settings = os.environ | {"PYTHONUNBUFFERED": "1"} | dict(settings)
+    streams = {"stdin": subprocess.DEVNULL, "stdout": subprocess.PIPE, "stderr": subprocess.STDOUT, "text": True, "errors": "replace"}
+    return subprocess.Popen(command, cwd=TOP, env=settings, start_new_session=True, **streams)
 
 
-def weights_above(crates):
-    """The weight of each crate with that of the heaviest chain of crates that stand on it."""
-    found = {}
-    for name in reversed(crates):
-        above = [found[other] for other, (_line, deps) in crates.items() if name in deps]
-        found[name] = weight_of(name, crates[name][0]) + max(above, default=0)
-    return found
+def end(run):
+    """Ends a command, and all that it began."""
+    try:
+        os.killpg(run.pid, signal.SIGTERM)
+    except ProcessLookupError:
+        pass
 
 
-def longest_chain(crates):
-    """The crates of the heaviest chain, lowest first."""
-    weights, chain, left = weights_above(crates), [], list(crates)
-    while left:
-        chain.append(max(left, key=weights.get))
-        left = [name for name, (_line, deps) in crates.items() if chain[-1] in deps]
-    return chain
+class Gate:
+    """What `rt ci` has proved so far, what waits for that, and what failed."""
 
-
-def copy_crates(crates, name, to):
-    """The sources of a crate and of those below it, as a repository."""
-    wanted = below(crates, name)
-    for other in wanted:
-        shutil.copytree(TOP / "crates" / other, to / "crates" / other, ignore=shutil.ignore_patterns("out"))
-    (to / "crates.txt").write_text("".join(line + "\n" for other, (line, _deps) in crates.items() if other in wanted))
-    shutil.copy(TOP / "HANDLES", to / "HANDLES")
-    (to / ".git").mkdir()
-
-
-def as_it_is(command):
-    """The command as it is: with four processors or more `rt ci` gives half of them to a crate's proof if nothing else waits."""
-    return command if len(PROCESSORS) > 3 else with_one(command)
-
-
-def with_one(command):
-    """The command with one processor for a proof, and one check at a time."""
-    return ["env", "RT_JOBS=1", *command]
-
-
-def run_in(room, command, does):
-    """Whether a command passes in a folder. Says how long it took, and what it said if it failed."""
-    begun = time.monotonic()
-    with tempfile.TemporaryFile("w+") as said:
-        run = subprocess.Popen(command, cwd=room, stdin=subprocess.DEVNULL, stdout=said, stderr=subprocess.STDOUT)
-        _pid, status, used = os.wait4(run.pid, 0)
-        run.returncode = os.waitstatus_to_exitcode(status)
-        minutes, cpu = (time.monotonic() - begun) / 60, (used.ru_utime + used.ru_stime) / 60
-        if run.returncode:
-            said.seek(0)
-            print(said.read(), end="")
-    ends = "failed" if run.returncode else "passed"
-    print(f"prove: {does} {ends}, {minutes:.1f} minutes, {cpu:.1f} of a processor", flush=True)
-    return not run.returncode
-
-
-class Run:
-    """The crates, which of them are proved, and which failed."""
-
-    def __init__(self, crates):
-        self.crates, self.proved, self.failed, self.to_try = crates, set(), [], []
-        self.of_tests = [name for name in crates if OF_TESTS.fullmatch(name)]
-        self.of_proof = set(crates) - set(self.of_tests)
-        self.sources = subprocess.run(["packaging/trust.py", "--sources"], cwd=TOP, check=True, capture_output=True, text=True).stdout.strip()
+    def __init__(self):
+        self.begun, self.crates, self.proved, self.failed, self.running = time.monotonic(), read_crates(), set(), [], []
         self.changed = threading.Condition()
+        planted = sorted(folder.name for folder in (TOP / ".ci" / "must-fail").iterdir())
+        self.waiting = [(f"planted bugs of {name}", {name}, [".ci/must_fail.py", "crates", name], ()) for name in planted]
+        self.waiting += [self.library(name) for name, (line, _deps) in self.crates.items() if line.split(":")[0].endswith(" staticlib")]
 
-    def ended(self, name, is_well):
+    def library(self, name):
+        """The library for C, over what is proved of these sources."""
+        sources = subprocess.run(["packaging/trust.py", "--sources"], cwd=TOP, check=True, capture_output=True, text=True).stdout.strip()
+        settings = {"CRATES": f"{TOP}/crates", "PROVED": sources, "RT_JOBS": "1"}
+        # the crate itself has to be one that passes
+        return "the library for C", below(self.crates, name), ["packaging/build_library.sh"], settings.items()
+
+    def say(self, text):
+        print(f"prove: after {(time.monotonic() - self.begun) / 60:.1f} minutes: {text}", flush=True)
+
+    def fail(self, what):
+        """Notes what failed, and ends all that runs."""
         with self.changed:
-            self.failed += [] if is_well else [name]
-            self.proved.add(name)
+            self.failed.append(what)
+            for run in self.running:
+                end(run)
             self.changed.notify_all()
 
-    def prove(self, name, share=with_one):
-        """Proves a crate and those below it that aren't kept, and says how long that took."""
-        with tempfile.TemporaryDirectory(prefix="prove-") as room:
-            copy_crates(self.crates, name, Path(room))
-            is_well = run_in(room, share(["rt", "ci"]), f"{name}: proof")
-            return is_well and (not self.is_static(name) or not self.build_library(room))
-
-    def attempt(self, name):
-        """Tries the planted bugs and the tests of a crate at a low priority, and says how long that took."""
-        with tempfile.TemporaryDirectory(prefix="prove-") as room:
-            copy_crates(self.crates, name, Path(room))
-            is_tests = name in self.of_tests
-            is_well = run_in(room, ["nice", *with_one(["rt", "ci"])], f"{name}: {'tests' if is_tests else 'what is kept'}")
-            bugs = ["nice", str(TOP / ".ci" / "must_fail.py"), "crates", name]
-            return is_well and (is_tests or run_in(room, bugs, f"{name}: planted bugs"))
-
-    def is_static(self, name):
-        """Whether a crate is a library for C."""
-        return self.crates[name][0].split(":")[0].endswith(" staticlib")
-
-    def build_library(self, room):
-        """Builds the library for C over the crates that were proved in a room: after `rt ci` little else would run beside it."""
-        begun = time.monotonic()
-        settings = {"CRATES": f"{room}/crates", "PROVED": self.sources, "RT_JOBS": "1"}
-        run = subprocess.run(["packaging/build_library.sh"], cwd=TOP, env=os.environ | settings, capture_output=True, text=True)
-        if run.returncode:
-            print(run.stdout + run.stderr, end="")
-        print(f"prove: the library for C: {(time.monotonic() - begun) / 60:.1f} minutes", flush=True)
-        return run.returncode
-
-    def prove_all(self, names, share=with_one, others=()):
-        """Proves these crates, in their order, which other lanes may take from too, and of the others those that these wait for; and then
-        tries planted bugs and tests."""
-        while name := self.next_of(names, lambda name: below(self.crates, name) - {name}, others):
-            self.ended(name, self.prove(name, share=share))
-        self.try_all()
-
-    def next_of(self, names, needs, others=()):
-        """The first of these crates for which all that it needs is proved, or else of the others that the first one needs, which is left no
-        more; None if none is left, or one has failed."""
-        is_ready = lambda name: needs(name) & self.of_proof <= self.proved
-        awaited = lambda: [name for name in others if name in needs(names[0])] if names else []
+    def begin(self, command, settings=()):
+        """A command that is ended if another one fails; None if one has."""
         with self.changed:
-            self.changed.wait_for(lambda: self.failed or not names or any(map(is_ready, names + awaited())))
-            found = None if self.failed else next(filter(is_ready, names + awaited()), None)
+            if self.failed:
+                return None
+            self.running.append(started(command, settings))
+            return self.running[-1]
+
+    def hear(self, line, said):
+        """Takes a line of `rt ci`: a crate that is proved, or one that isn't, of which all that was said is printed."""
+        ended = ENDS.match(line)
+        if not ended:
+            return said + [line]
+        if ended[3] != "proved":
+            print("".join(said), end="")
+        self.say(line.removeprefix("rt: ").rstrip())
+        if ended[3] == "proved" and not ended[2]:
+            with self.changed:
+                self.proved.add(ended[1])
+                self.changed.notify_all()
+        return []
+
+    def run_all(self):
+        """Runs `rt ci` to its end, and says what its last lines are."""
+        run, said = self.begin(["rt", "ci"]), []
+        for line in run.stdout:
+            said = self.hear(line, said)
+        print("".join(said), end="", flush=True)
+        if run.wait():
+            self.fail("rt ci")
+
+    def next(self):
+        """The first of what waits that has all that it needs; None if nothing is left, or something has failed."""
+        is_ready = lambda it: it[1] <= self.proved
+        with self.changed:
+            self.changed.wait_for(lambda: self.failed or not self.waiting or any(map(is_ready, self.waiting)))
+            found = None if self.failed else next(filter(is_ready, self.waiting), None)
             if found:
-                (names if found in names else others).remove(found)
+                self.waiting.remove(found)
             return found
 
-    def try_all(self):
-        """Tries the planted bugs and the tests of crates once they are proved, with what the proofs leave of the processors."""
-        while name := self.next_of(self.to_try, lambda name: below(self.crates, name)):
-            if not self.attempt(name):
-                self.ended(name, False)
+    def run_beside(self):
+        """Runs what waits, one after the other, at a low priority."""
+        while found := self.next():
+            what, _needs, command, settings = found
+            run = self.begin(["nice", "-n", "19", *command], settings)
+            if not run:
+                return
+            said = run.communicate()[0]
+            with self.changed:
+                is_cut = bool(self.failed)
+            print(said, end="", flush=True)
+            self.say(f"{what} {'ended' if is_cut else 'failed' if run.returncode else 'passed'}")
+            if run.returncode and not is_cut:
+                self.fail(what)
 
 
 def main():
-    crates = read_crates()
-    run = Run(crates)
-    proved = {name: told for name, told in crates.items() if name in run.of_proof}
-    chain, weights = longest_chain(proved), weights_above(proved)
-    beside = sorted((name for name in proved if name not in chain), key=weights.get, reverse=True)
-    print(f"prove: the longest chain is {' '.join(chain)}", flush=True)
-    planted = [name for name in crates if (TOP / ".ci" / "must-fail" / name).is_dir()]
-    run.to_try = planted + run.of_tests
-    others = max(1, len(PROCESSORS) // 2)
-    lanes = [threading.Thread(target=run.prove_all, args=(chain, as_it_is, beside))]
-    lanes += [threading.Thread(target=run.prove_all, args=(beside,)) for _ in range(others)]
-    lanes += [threading.Thread(target=run.try_all) for _ in range(others)]
-    for lane in lanes:
+    gate = Gate()
+    signal.signal(signal.SIGTERM, lambda number, frame: gate.fail("a signal"))
+    beside = [threading.Thread(target=gate.run_beside) for _ in range(max(1, len(PROCESSORS) // 2))]
+    whole = threading.Thread(target=gate.run_all)
+    for lane in [whole, *beside]:
         lane.start()
-    for lane in lanes:
-        lane.join()
-    print(f"prove: {len(crates)} crates, {len(run.failed)} failed")
-    return 1 if run.failed else 0
+    # a join with no limit would keep the signal waiting
+    while any(lane.is_alive() for lane in [whole, *beside]):
+        time.sleep(0.2)
+    gate.say(f"failed: {', '.join(gate.failed)}" if gate.failed else "all passed")
+    return 1 if gate.failed else 0
 
 
 if __name__ == "__main__":

@@ -8,8 +8,8 @@
 # and passes it as PROVED. If that is the sum of the sources now, the library is built over what `rt ci` has left, and g3fax alone is
 # proved again: some five minutes. In any other case, or if that fails, `rt lib` builds it.
 #
-# The gate's .ci/prove.py calls it as soon as g3fax is proved, beside other proofs: CRATES is then the folder where the crates were proved,
-# and the library waits in build/proved, since `rt ci` empties each out/.
+# The gate's .ci/prove.py calls it as soon as g3fax is proved, beside other proofs, with the folder of the crates as CRATES: then it is built
+# over what is proved, or not at all.
 #
 # out/libg3fax.sources says of which sources and by which kit the library was built. If these are the same, nothing is done. KIT is where
 # the kit lies, if not /opt/rattle. RT_JOBS is how many processors its proof takes, 2 if it isn't set.
@@ -19,18 +19,10 @@ kit=${KIT:-/opt/rattle}
 cd "$top/crates/g3fax"
 sum=$("$top/packaging/trust.py" --sources)
 record="$sum $(head -n 1 "$kit/KIT-ID")"
-waits=$top/build/proved crates=${CRATES:-..}
-
-# is_built FOLDER: the library is there, and was built of these sources.
-is_built() {
-    [ -f "$1/libg3fax.a" ] && [ -f "$1/libg3fax.sources" ] && [ "$(cat "$1/libg3fax.sources")" = "$record" ]
-}
+crates=${CRATES:-..}
 
 mkdir -p out
-if ! is_built out && is_built "$waits"; then
-    cp "$waits/libg3fax.a" "$waits/libg3fax.sources" out/
-fi
-if is_built out; then
+if [ -f out/libg3fax.a ] && [ -f out/libg3fax.sources ] && [ "$(cat out/libg3fax.sources)" = "$record" ]; then
     echo "crates/g3fax/out/libg3fax.a is built of these sources already"
     exit 0
 fi
@@ -58,7 +50,3 @@ fi
 # sources that were changed meanwhile have no record
 [ "$("$top/packaging/trust.py" --sources)" = "$sum" ] || exit 0
 echo "$record" > out/libg3fax.sources
-if [ -n "$CRATES" ]; then
-    mkdir -p "$waits"
-    cp out/libg3fax.a out/libg3fax.sources "$waits/"
-fi

@@ -1,7 +1,7 @@
 #!/usr/bin/env python3
 """Plants wrong definitions, each in a copy of its crate, and shows each refused by a law that is false of it.
 
-    bench/plant/refuted.py [--right] [WORD]        (at the top of the repository, over what its checks kept)
+    bench/plant/refuted.py [--right] [WORD]        (at the top of the repository, over what `rt ci` has built)
 
 A row that stands in a definition alone can be wrong in code and definition alike, and then the code still meets it. The laws say the same
 rows another way. For each wrong definition of `bench/plant/tables/` (or of those whose name has the WORD) the **negation of a law** is
@@ -35,14 +35,14 @@ import tempfile
 
 sys.dont_write_bytecode = True
 sys.path.append(os.path.join(os.path.dirname(os.path.abspath(__file__)), "..", "..", ".ci"))
+from edits import RATTLE
+from must_fail import words_of
 from refusals import are_proved
 
 ROOT = os.path.dirname(os.path.dirname(os.path.dirname(os.path.abspath(__file__))))
 TABLES = f"{ROOT}/bench/plant/tables"
 JOBS = int(os.environ.get("JOBS", "4"))
 PARTS = ["src", "specs", "proofs"]
-# A command that the checks are run by, if there is one.
-QUEUE = os.environ.get("QUEUE", "").split()
 CODE = """//! The negation of a law.
 
 ghost use Rattle.{crate}.specs.{file}.{{{law}}};
@@ -95,43 +95,13 @@ def edits(pairs):
     return found
 
 
-def below(crate):
-    """The repository's crates that a crate stands on, directly or not, and itself last; and the row of each in crates.txt."""
-    lines = [line.split(":") for line in read(f"{ROOT}/crates.txt").split("\n") if ":" in line]
-    # the library for C is of another kind, which is said after its name
-    rows = {name.split()[0]: lower for name, lower in lines}
-    found = [crate]
-    for name in found:
-        found += [low for low in rows[name].split() if low in rows and low not in found]
-    return found[1:] + [crate], rows
-
-
-def linked(source, target):
-    """A second name of a file; or a copy, on another disk."""
-    try:
-        os.link(source, target)
-    except OSError:
-        shutil.copy2(source, target)
-
-
 def place(top, crate):
-    """A repository with a copy of the crate, over the crates below it as they are."""
-    names, rows = below(crate)
+    """A copy of the crate's sources."""
     home = f"{top}/{crate}"
-    if not os.path.isdir(home):
-        os.makedirs(f"{home}/crates/{crate}")
-        shutil.copy(f"{ROOT}/HANDLES", home)
-        write(f"{home}/crates.txt", "".join(f"{name}:{rows[name]}\n" for name in names))
-        subprocess.run(["git", "init", "-q", home], check=True)
-        for name in names[:-1]:
-            for part in PARTS:
-                shutil.copytree(f"{ROOT}/crates/{name}/{part}", f"{home}/crates/{name}/{part}")
-            # what its checks kept, which isn't written again: so links do
-            shutil.copytree(f"{ROOT}/crates/{name}/out", f"{home}/crates/{name}/out", copy_function=linked)
+    shutil.rmtree(home, ignore_errors=True)
     for part in PARTS:
-        shutil.rmtree(f"{home}/crates/{crate}/{part}", ignore_errors=True)
-        shutil.copytree(f"{ROOT}/crates/{crate}/{part}", f"{home}/crates/{crate}/{part}")
-    return f"{home}/crates/{crate}"
+        shutil.copytree(f"{ROOT}/crates/{crate}/{part}", f"{home}/{part}")
+    return home
 
 
 def refused(top, row, right):
@@ -149,8 +119,9 @@ def refused(top, row, right):
     unfolding = f"unfolding {row['unfolding']}\n" if "unfolding" in row else ""
     answer = ANSWER.format(crate=crate, begin=row["begin"], unfolding=unfolding, proof=row["proof"])
     write(f"{folder}/proofs/refuted/refuted/Answers.antt", answer)
-    command = QUEUE + ["rt", "check", "--jobs", "1", "--only", f"{crate}::refuted::refuted"]
-    done = subprocess.run(command, cwd=folder, capture_output=True, text=True)
+    words = words_of(f"{ROOT}/crates", crate) + ["--incremental", f"{top}/kept/{crate}", "--jobs", "1", "--only", f"{crate}::refuted::refuted"]
+    os.makedirs(f"{top}/kept/{crate}", exist_ok=True)
+    done = subprocess.run([RATTLE, "check", *words], cwd=folder, stdin=subprocess.DEVNULL, capture_output=True, text=True)
     lines = (done.stdout + done.stderr).split("\n")
     proved = done.returncode == 0 and are_proved(lines, 1)
     said = [line for line in lines if "error" in line or "no proof" in line] or lines[-6:]
