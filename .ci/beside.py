@@ -15,13 +15,13 @@ import time
 
 
 class Beside:
-    """A command that runs in a session of its own, so that all that it began can be ended with it."""
+    """A command that runs in a group of its own, so that all that it began can be ended with it."""
 
     def __init__(self, command, is_shown):
         self.command, self.begun = command, time.monotonic()
         self.said = None if is_shown else tempfile.TemporaryFile()
         self.run = subprocess.Popen(
-            shlex.split(command), stdin=subprocess.DEVNULL, stdout=self.said, stderr=self.said and subprocess.STDOUT, start_new_session=True
+            shlex.split(command), stdin=subprocess.DEVNULL, stdout=self.said, stderr=self.said and subprocess.STDOUT, process_group=0
         )
 
     def has_ended(self):

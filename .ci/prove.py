@@ -37,10 +37,11 @@ def below(crates, name):
 
 
 def started(command, settings=()):
-    """A command in a session of its own, so that all that it begins can be ended with it; what it says comes in one stream."""
+    """A command in a group of its own, so that all that it begins can be ended with it; what it says comes in one stream. A session of its
+    own would have as much of the processors as all others together, whatever its priority."""
     settings = os.environ | {"PYTHONUNBUFFERED": "1"} | dict(settings)
     streams = {"stdin": subprocess.DEVNULL, "stdout": subprocess.PIPE, "stderr": subprocess.STDOUT, "text": True, "errors": "replace"}
-    return subprocess.Popen(command, cwd=TOP, env=settings, start_new_session=True, **streams)
+    return subprocess.Popen(command, cwd=TOP, env=settings, process_group=0, **streams)
 
 
 def end(run):
