@@ -6,6 +6,7 @@ use captures::frames_engine;
 use faults::ToolFault;
 use hdlc::{Deframer, write_frame};
 use partial_page::{BlockFault, BlockStore, Blocks};
+use referee::{Rule, Said};
 use run_tables::{BitWriter, Order};
 use signals::{Side, Signal};
 use std::alloc::{AllocError, Global};
@@ -59,4 +60,13 @@ pub fn list_capture(alloc: Global, bits: &[u8]) -> Result<Vec<u8>, ToolFault> {
     let mut list = Vec::new(alloc);
     frames_engine(alloc, &mut reader, &mut list, None)?;
     Ok(list)
+}
+
+/// The rule that an answerer breaks which confirms a block before the caller has sent one.
+pub fn confirmed_too_early() -> Option<Rule> {
+    let mcf = Said {
+        by: Side::Answerer,
+        signal: Signal::Mcf,
+    };
+    referee::broken(mcf, &[])
 }

@@ -3,14 +3,15 @@
 ghost use Rattle.std.specs.Prelude.{};
 
 use crate::calling::{answer, call_picture, call_table, call_text, hears, send};
-use crate::frames::{asks_again, confirmation, list_frames, lose_a_frame};
+use crate::frames::{asks_again, confirmation, confirmed_too_early, list_frames, lose_a_frame};
 use crate::pages::{code_image, code_rows, copy_images, decode_rows, read_in_two, recode};
 use calls::CallOptions;
 use hdlc::write_frame;
 use page_code::Coding;
 use raster::{Document, Page, Row, Rows, read_pbm};
+use referee::{Rule, Said, judge};
 use run_tables::{BitWriter, Order};
-use signals::{Modems, Wish, read};
+use signals::{Modems, Side, Signal, Wish, read};
 use stations::{Caller, End};
 use std::alloc::Global;
 use std::test::Fail;
@@ -212,5 +213,23 @@ fn an_answerer_stores_a_page(rt: HostRuntime) -> Result<(), Fail> {
     write_frame(b"\xFF\x13\xBF\x2F\x00\x00\x00", &mut page)?;
     let answered = answer(alloc, &dcs.into_octets(), &[0; 2700], &page.into_octets())?;
     assert_eq!(rt; (answered.pages.len(), answered.ending), (1, None));
+    Ok(())
+}
+
+// MCF answers a PPS or an RR, T.30 A.4.3, and none was said.
+#[test]
+fn a_long_call_is_judged(rt: HostRuntime) -> Result<(), Fail> {
+    let mcf = Said {
+        by: Side::Answerer,
+        signal: Signal::Mcf,
+    };
+    let mut call = Vec::new(rt.alloc());
+    for _frame in 0..2000 {
+        call.push(mcf)?;
+    }
+    let found = judge(rt.alloc(), &call)?;
+    assert_eq!(rt; found.len(), 2000);
+    assert!(rt; found.iter().all(|rule| *rule == Some(Rule::NoCommand)));
+    assert!(rt; confirmed_too_early() == Some(Rule::NoCommand));
     Ok(())
 }

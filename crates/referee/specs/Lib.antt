@@ -1,0 +1,5 @@
+pub mod History
+pub mod Questions
+pub mod Frames
+pub mod Rules
+pub mod Rows
