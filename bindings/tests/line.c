@@ -34,6 +34,7 @@ typedef struct modem {
     burst comes[MOST];
     int sent, heard;    /* how many the other one has sent, and how many have ended */
     int lose;           /* each burst of this number is lost; 0: none */
+    int mute;           /* this burst and all after it are lost; 0: none */
     long woken;
     uint64_t pages;
     g3_status status;
@@ -100,7 +101,7 @@ static void put(modem *line, burst it)
     modem *to = line->other;
     int number = to->sent + 1;
     if (number > MOST) exit(1);
-    if (line->lose != 0 && number % line->lose == 0) {
+    if ((line->lose != 0 && number % line->lose == 0) || (line->mute != 0 && number >= line->mute)) {
         free(it.octets);
         it.octets = NULL;
     }
@@ -166,12 +167,16 @@ static void make_caller(modem *line)
     if (!well || g3_caller_new(&line->terminal, &document, &wish) != G3_OK) exit(1);
 }
 
-/* A call: which bursts of each end are lost, whether there is a caller, when a carrier comes to both ends that doesn't end (NEVER: none does),
- * and how many seconds it lasts at most. */
+/* which ends are there */
+enum { CALLER = 1, ANSWERER = 2, BOTH = 3 };
+
+/* A call: which bursts of each end are lost, which ends are there, when a carrier comes to both ends that doesn't end (NEVER: none does), how
+ * many seconds it lasts at most, and from which burst of each end on nothing is heard (0: all is). */
 typedef struct way {
-    int lose_calls, lose_answers, calls;
+    int lose_calls, lose_answers, there;
     uint64_t music;
     uint32_t most;
+    int mute_calls, mute_answers;
 } way;
 
 /* Whether an end has ended its call, with nothing left to be said, and woke no more often than something came or a wait ended. Without a carrier
@@ -185,7 +190,7 @@ static int has_ended(modem *line, const way *it, uint32_t end)
         && limited == (it->music != NEVER || it->most < 60) && g3_terminal_next_burst(&line->terminal, &left, &told) == G3_NOTHING;
 }
 
-/* Makes a call. Returns why the caller's call ended, or the answerer's where there is no caller; 0 where something is wrong. */
+/* Makes a call. Returns why the caller's call ended, or the answerer's if there is no caller; 0 if something is wrong. */
 static uint32_t call(way it)
 {
     static modem ends[2];
@@ -193,32 +198,34 @@ static uint32_t call(way it)
     g3_state state = G3_INIT(g3_state);
     g3_progress far = G3_INIT(g3_progress);
     unsigned long threads[2];
-    int well = 1, calls = it.calls;
+    int well = 1, first = it.there == ANSWERER, past = it.there == CALLER ? 1 : 2;
     memset(ends, 0, sizeof ends);
     if (g3_answerer_new(&ends[1].terminal, &caps) != G3_OK) exit(1);
     make_caller(&ends[0]);
     ends[0].lose = it.lose_calls, ends[1].lose = it.lose_answers;
+    ends[0].mute = it.mute_calls, ends[1].mute = it.mute_answers;
     for (int end = 0; end < 2; end++) {
         ends[end].other = &ends[1 - end];
         sem_init(&ends[end].turn, 0, 0);
         if (g3_terminal_most_seconds(&ends[end].terminal, it.most) != G3_OK) exit(1);
         if (it.music != NEVER) ends[end].comes[ends[end].sent++] = (burst){.begins = it.music, .ends = NEVER - 1, .carrier = G3_V21};
     }
-    ends[0].is_over = !calls;
-    ends[0].until = calls ? 0 : NEVER;
-    for (int end = !calls; end < 2; end++) pthread_create(&threads[end], NULL, runs, &ends[end]);
-    sem_post(&ends[1].turn);
-    for (int end = !calls; end < 2; end++) pthread_join(threads[end], NULL);
-    for (int end = !calls; end < 2; end++) {
+    for (int end = 0; end < 2; end++) {
+        if (end < first || end >= past) ends[end].is_over = 1, ends[end].until = NEVER;
+    }
+    for (int end = first; end < past; end++) pthread_create(&threads[end], NULL, runs, &ends[end]);
+    sem_post(&ends[past - 1].turn);
+    for (int end = first; end < past; end++) pthread_join(threads[end], NULL);
+    for (int end = first; end < past; end++) {
         well &= g3_terminal_state(&ends[end].terminal, &state) == G3_OK && has_ended(&ends[end], &it, state.end);
     }
     well &= g3_terminal_progress(&ends[0].terminal, &far) == G3_OK && far.confirmed <= ends[1].pages;
-    if (g3_terminal_state(&ends[!calls].terminal, &state) != G3_OK) exit(1);
+    if (g3_terminal_state(&ends[first].terminal, &state) != G3_OK) exit(1);
     if (!well) {
-        printf("lost %d %d, caller %d, carrier at %llu, %u s: statuses %u %u, woken %ld %ld, ended at %llu %llu, confirmed %llu of %llu\n",
-            it.lose_calls, it.lose_answers, calls, (unsigned long long)it.music, it.most, ends[0].status, ends[1].status, ends[0].woken,
-            ends[1].woken, (unsigned long long)ends[0].now, (unsigned long long)ends[1].now, (unsigned long long)far.confirmed,
-            (unsigned long long)ends[1].pages);
+        printf("lost %d %d, from %d %d on, there %d, carrier at %llu, %u s: statuses %u %u, woken %ld %ld, ended at %llu %llu, confirmed %llu of %llu\n",
+            it.lose_calls, it.lose_answers, it.mute_calls, it.mute_answers, it.there, (unsigned long long)it.music, it.most, ends[0].status,
+            ends[1].status, ends[0].woken, ends[1].woken, (unsigned long long)ends[0].now, (unsigned long long)ends[1].now,
+            (unsigned long long)far.confirmed, (unsigned long long)ends[1].pages);
     }
     for (int end = 0; end < 2; end++) {
         g3_terminal_free(&ends[end].terminal);
@@ -227,19 +234,31 @@ static uint32_t call(way it)
     return well ? state.end : 0;
 }
 
+/* Whether a call ends so, or in any way for 0. */
+static int ends_so(way it, uint32_t end)
+{
+    uint32_t found = call(it);
+    return found != 0 && (end == 0 || found == end);
+}
+
 int main(void)
 {
-    int calls = 0, bad = 0;
-    bad |= call((way){0, 0, 1, NEVER, 600}) != G3_END_NORMAL;
-    bad |= call((way){0, 0, 0, NEVER, 600}) != G3_END_NO_ANSWER; /* nobody calls */
-    calls += 2;
-    for (uint32_t most = 1; most < 9; most++, calls++) bad |= call((way){0, 0, 1, NEVER, most}) == 0;
+    int calls = 3, well = 1;
+    well &= ends_so((way){0, 0, BOTH, NEVER, 600, 0, 0}, G3_END_NORMAL);
+    well &= ends_so((way){0, 0, ANSWERER, NEVER, 600, 0, 0}, G3_END_NO_ANSWER); /* nobody calls */
+    well &= ends_so((way){0, 0, CALLER, NEVER, 600, 0, 0}, G3_END_NO_ANSWER);   /* nobody answers */
+    for (uint32_t most = 1; most < 9; most++, calls++) well &= ends_so((way){0, 0, BOTH, NEVER, most, 0, 0}, 0);
     for (int lose = 2; lose < 12; lose++, calls += 3) {
-        bad |= call((way){lose, 0, 1, NEVER, 600}) == 0;
-        bad |= call((way){0, lose, 1, NEVER, 600}) == 0;
-        bad |= call((way){lose, lose + 1, 1, NEVER, 600}) == 0;
+        well &= ends_so((way){lose, 0, BOTH, NEVER, 600, 0, 0}, 0);
+        well &= ends_so((way){0, lose, BOTH, NEVER, 600, 0, 0}, 0);
+        well &= ends_so((way){lose, lose + 1, BOTH, NEVER, 600, 0, 0}, 0);
     }
-    for (uint64_t music = 500; music < 20000; music += 700, calls++) bad |= call((way){0, 0, 1, music, 600}) == 0;
+    for (int mute = 1; mute < 8; mute++, calls += 3) { /* one end falls silent, or both do */
+        well &= ends_so((way){0, 0, BOTH, NEVER, 600, mute, 0}, 0);
+        well &= ends_so((way){0, 0, BOTH, NEVER, 600, 0, mute}, 0);
+        well &= ends_so((way){0, 0, BOTH, NEVER, 600, mute, mute}, 0);
+    }
+    for (uint64_t music = 500; music < 20000; music += 700, calls++) well &= ends_so((way){0, 0, BOTH, music, 600, 0, 0}, 0);
     printf("the loop of a call: %d calls over a line of virtual time\n", calls);
-    return bad;
+    return !well;
 }
