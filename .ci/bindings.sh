@@ -43,14 +43,14 @@ builds_plain() {
         "$lib/crtendS.o" "$lib/crtn.o"
 }
 
-# builds_older FILE: a C file of bindings as a program of version 0.1.0 in the work folder: by the header of then, and linked to a library
-# of then, of which it sees the names alone.
+# builds_older FILE [FOLDER]: a C file of bindings as a program of version 0.1.0 in the work folder: by the header of then, and linked to a
+# library of then, or to that of the folder, of which it sees the names alone.
 builds_older() {
-    file=$top/bindings/$1 name=older-$(basename "$1" .c) lib=$kit/toolchain/lib
+    file=$top/bindings/$1 name=older-$(basename "$1" .c) lib=$kit/toolchain/lib shared=${2:-$work/older}/libg3fax.so.0
     "$kit/toolchain/bin/clang" -std=c11 -Wall -Wextra -Werror -O1 -g -fPIE -nostdinc -isystem "$top/bindings/include" \
         -I "$top/bindings/tests/older" -I "$work/older" -c "$file" -o "$work/$name.o"
     "$kit/toolchain/bin/ld.lld" -pie --eh-frame-hdr -dynamic-linker /lib64/ld-linux-x86-64.so.2 -o "$work/$name" "$lib/Scrt1.o" \
-        "$lib/crti.o" "$lib/crtbeginS.o" "$work/$name.o" "$work/older/libg3fax.so.0" "$lib/libc.so.6" "$lib/libc_nonshared.a" \
+        "$lib/crti.o" "$lib/crtbeginS.o" "$work/$name.o" "$shared" "$lib/libc.so.6" "$lib/libc_nonshared.a" \
         "$lib/crtendS.o" "$lib/crtn.o"
 }
 
@@ -77,14 +77,41 @@ for name in pages rows terminals signals; do builds "tests/statuses_$name.c"; do
 builds tests/abi.c
 builds_plain tests/growth.c
 mkdir "$work/older"
-sed -n 's/^[^(]*\(g3_[a-z0-9_]*\)(.*);$/\1/p' "$top/bindings/tests/older/g3fax.h" > "$work/older/names"
-sed 's/.*/NAME(&)/' "$work/older/names" > "$work/older/names.h"
-sed 's/.*/void &(void);\nvoid &(void) {}/' "$work/older/names" > "$work/older/names.c"
-printf 'G3FAX_0.1 { global: g3_*; local: *; };\n' > "$work/older/exports"
-"$kit/toolchain/bin/clang" -std=c11 -fPIC -nostdinc -c "$work/older/names.c" -o "$work/older/names.o"
-"$kit/toolchain/bin/ld.lld" -shared -soname libg3fax.so.0 --version-script "$work/older/exports" -o "$work/older/libg3fax.so.0" \
-    "$work/older/names.o"
+sed -n 's/^[^(]*\(g3_[a-z0-9_]*\)(.*);$/NAME(\1)/p' "$top/bindings/tests/older/g3fax.h" > "$work/older/names.h"
+# shares FOLDER FILE EXPORTS FOLDERS: a C file as the shared library, with what its types are, by headers in these folders
+shares() {
+    to=$1 file=$2 exports=$3
+    shift 3
+    "$kit/toolchain/bin/clang" -std=c11 -g -gdwarf-4 -fPIC -ffreestanding -DG3_CHECK= -DG3_VERSION='""' \
+        -DG3_BUILT="$(sed -n 's/^#define G3_VERSION_NUMBER //p' "$top/bindings/g3fax.h")" \
+        -nostdinc -isystem "$top/bindings/include" "$@" -c "$file" -o "$to/shared.o"
+    "$kit/toolchain/bin/ld.lld" -shared -soname libg3fax.so.0 --version-script "$exports" -o "$to/libg3fax.so.0" "$to/shared.o"
+}
+{
+    echo '#include "g3fax.h"'
+    sed -n 's/^\(G3_CHECK \)*\(.*g3_[a-z0-9_]*(.*)\);$/\2 { __builtin_trap(); }/p' "$top/bindings/tests/older/g3fax.h"
+} > "$work/older/names.c"
+printf 'G3FAX_0.1.0 { global: g3_*; local: *; };\n' > "$work/older/exports"
+shares "$work/older" "$work/older/names.c" "$work/older/exports" -I "$top/bindings/tests/older"
 for name in tests/older c/call c/misuse; do builds_older "$name.c"; done
+# a program of version 0.1.1, which has a function more, in a node of its own
+mkdir "$work/newer"
+echo 'void g3_later(void); void g3_later(void) {}' | cat "$work/older/names.c" - > "$work/newer/names.c"
+printf 'G3FAX_0.1.0 { global: g3_*; local: *; };\nG3FAX_0.1.1 { global: g3_later; } G3FAX_0.1.0;\n' > "$work/newer/exports"
+shares "$work/newer" "$work/newer/names.c" "$work/newer/exports" -I "$top/bindings/tests/older"
+builds_older tests/newer.c "$work/newer"
+# no function or struct of version 0.1.0 has changed: by what a compiler says of both
+if command -v abidiff > /dev/null; then
+    mkdir "$work/today"
+    shares "$work/today" "$top/bindings/g3fax.c" "$top/bindings/exports" -I "$top/bindings"
+    abidiff --no-added-syms "$work/older/libg3fax.so.0" "$work/today/libg3fax.so.0" > "$work/output" \
+        || { head -40 "$work/output" >&2; fails "the ABI of version 0.1.0 has changed"; }
+    sed 's/^typedef struct g3_wish {/&uint32_t more;/' "$top/bindings/tests/older/g3fax.h" > "$work/today/g3fax.h"
+    shares "$work/today" "$work/older/names.c" "$work/older/exports" -I "$work/today"
+    ! abidiff --no-added-syms "$work/older/libg3fax.so.0" "$work/today/libg3fax.so.0" > "$work/output" || fails "abidiff sees no change"
+else
+    echo "bindings: the ABI wasn't compared: there is no abidiff (Debian: abigail-tools)"
+fi
 
 for code in mh mmr; do
     for order in msb lsb; do
@@ -205,7 +232,14 @@ gives 0 older-older
 gives 0 older-misuse
 gives 0 older-call "$work/a4.pbm" "$work/stored.pbm" 3
 is_same "$work/stored.pbm" "$work/a4.pbm" "a call by version 0.1.0"
-unset LD_LIBRARY_PATH LD_BIND_NOW
+unset LD_BIND_NOW
+# and one of version 0.1.1 ends before it begins
+status=0
+"$work/older-newer" > "$work/output" 2> "$work/error" || status=$?
+if [ "$status" = 0 ] || [ -s "$work/output" ] || ! grep -q "version \`G3FAX_0.1.1' not found" "$work/error"; then
+    fails "a program of version 0.1.1: status $status, $(cat "$work/output" "$work/error")"
+fi
+unset LD_LIBRARY_PATH
 
 # three readers under the thread sanitizer of a compiler that has one, which sees what g3fax.c reads and writes, and not only the handles.
 # It has to find a number that each call counts up.

@@ -58,24 +58,26 @@ fi
 grep -q '^prefix=/opt/g3fax$' "$work/stage/opt/g3fax/lib/pkgconfig/g3fax.pc" || fails "g3fax.pc has another prefix"
 grep -q "^Version: $(cat "$top/VERSION")\$" "$work/prefix/lib/pkgconfig/g3fax.pc" || fails "g3fax.pc has another version"
 
-# the version in the header is that of the library and of the file VERSION; each function of the header is exported with the version of its
-# symbols, and nothing below them
-python3 - "$work/prefix" "$(cat "$top/VERSION")" << 'ABI' || fails "the header and the shared library differ"
+# the version in the header is that of the library and of the file VERSION; each function of the header is exported, with the version that
+# bindings/exports has it in, and nothing below them
+python3 - "$work/prefix" "$(cat "$top/VERSION")" "$top/bindings/exports" << 'ABI' || fails "the header and the shared library differ"
 import ctypes
 import re
 import sys
 
-folder, version = sys.argv[1:]
+folder, version, exports = sys.argv[1:]
 header = open(f"{folder}/include/g3fax.h").read()
 library = ctypes.CDLL(f"{folder}/lib/libg3fax.so.0")
 find = ctypes.CDLL(None).dlvsym
 find.argtypes, find.restype = [ctypes.c_void_p, ctypes.c_char_p, ctypes.c_char_p], ctypes.c_void_p
 names = re.findall(r"^(?:G3_CHECK )?(?:g3_status|void|uint32_t|const char \*)\s*\*?(g3_\w+)\(", header, re.M)
-lost = [name for name in names if not find(library._handle, name.encode(), b"G3FAX_0.1")]
+nodes = {name: node for node, inside in re.findall(r"^(G3FAX_[\d.]+) \{\n(.*?)^\}", open(exports).read(), re.M | re.S)
+         for name in re.findall(r"g3_\w+", inside)}
+lost = sorted(set(names) ^ set(nodes)) + [name for name in names if not find(library._handle, name.encode(), nodes.get(name, "").encode())]
 major, minor, patch = map(int, version.split("."))
 number = major * 10000 + minor * 100 + patch
 if len(names) < 60 or lost:
-    sys.exit(f"{len(names)} functions, of which aren't exported as of G3FAX_0.1: {lost}")
+    sys.exit(f"{len(names)} functions, of which aren't exported as bindings/exports says: {lost}")
 if f"#define G3_VERSION_NUMBER {number}\n" not in header or library.g3_version_number() != number:
     sys.exit(f"version {version} isn't {number} in the header and in the library")
 if hasattr(library, "g3_core_free"):

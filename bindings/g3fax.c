@@ -50,14 +50,14 @@ g3_status g3_core_terminal_lost(handle *);
 g3_status g3_core_terminal_next_burst(handle *, handle *, void *);
 g3_status g3_core_terminal_state(handle *, void *);
 g3_status g3_core_terminal_progress(handle *, void *);
-g3_status g3_core_terminal_params(handle *, g3_dcs *);
+g3_status g3_core_terminal_params(handle *, void *);
 g3_status g3_core_terminal_take_page(handle *, handle *);
 g3_status g3_core_terminal_hold(handle *, handle *);
-/* of a signal these reach what is between its size and its octets, which are passed beside it */
+/* of a signal these reach what `said` has, and its octets, which are passed beside it */
 g3_status g3_core_terminal_peer(handle *, void *);
 g3_status g3_core_signal_read(const uint8_t *, size_t, void *, uint8_t *, size_t);
 g3_status g3_core_signal_write(const void *, const uint8_t *, size_t, uint32_t, uint32_t, uint8_t *, size_t, uint64_t *);
-g3_status g3_core_agree(const g3_dis *, const g3_wish *, uint32_t, uint32_t, g3_dcs *, uint32_t *);
+g3_status g3_core_agree(const g3_dis *, const g3_wish *, uint32_t, uint32_t, void *, uint32_t *);
 g3_status g3_core_row_coder_new(const g3_code *, handle *);
 g3_status g3_core_row_coder_push_row(handle *, const uint8_t *, size_t);
 g3_status g3_core_row_coder_take(handle *, handle *);
@@ -76,19 +76,86 @@ static uint8_t none[1];
 #define READ(it) (&(handle){(it)->at})
 /* A struct that is written begins with its size, by which the header is known that the program was built with. The proved functions
  * have what comes after it. */
-#define SIZED(it) do { PLACE(it); if ((it)->size != sizeof *(it)) return G3_BAD_SIZE; } while (0)
+static g3_status sized(uint64_t given, uint64_t known)
+{
+    if (given == known) return G3_OK;
+    return given > known && given <= 4096 && given % 8 == 0 ? G3_NEWER_STRUCT : G3_BAD_SIZE;
+}
+#define SIZED(it) do { PLACE(it); const g3_status known = sized((it)->size, sizeof *(it)); if (known != G3_OK) return known; } while (0)
 #define REST(it) ((void *)((char *)(it) + sizeof (it)->size))
-#define CREST(it) ((const void *)((const char *)(it) + sizeof (it)->size))
-#define LIES(type, member, core) _Static_assert(__builtin_offsetof(type, member) == 8 && sizeof(type) == 8 + (core), #type " lies otherwise")
-LIES(g3_size, width, 16);
-LIES(g3_counts, good, 48);
-LIES(g3_burst, bits, 24);
-LIES(g3_state, pages, 40);
-LIES(g3_progress, pages, 80);
-LIES(g3_signal, length, 80 + 296);
-LIES(g3_found, place, 40 + 48);
-/* the size of g3_progress in its first form, which ends before `refused` */
-#define PROGRESS_FIRST (__builtin_offsetof(g3_progress, refused))
+/* Spare words that are read are 0. */
+static int any(const uint32_t *words, size_t count)
+{
+    while (count > 0 && words[count - 1] == 0) count--;
+    return count > 0;
+}
+#define IS_NEWER(it) any((it).spare, sizeof (it).spare / sizeof *(it).spare)
+/* The spare word of a struct that was written is 0. */
+static g3_status spared(g3_status status, uint32_t *spare)
+{
+    if (status == G3_OK) *spare = 0;
+    return status;
+}
+#define SPARE(it) do { PLACE(it); if (IS_NEWER(*(it))) return G3_NEWER_STRUCT; } while (0)
+/* A struct lies as the proved functions have it, up to its spare words, if it has any; and no octets at its end are padding, so that each word
+ * that is put there changes its size. */
+#define LIES(type, member, at, last, core) _Static_assert(__builtin_offsetof(type, member) == (at) && __builtin_offsetof(type, last) == (at) + (core), \
+    #type " lies otherwise")
+#define ENDS(type, last) _Static_assert(__builtin_offsetof(type, last) + sizeof ((type *)0)->last == sizeof(type), #type " ends in padding")
+LIES(g3_size, width, 8, spare, 12);
+LIES(g3_counts, good, 8, damaged, 40);
+LIES(g3_burst, bits, 8, spare, 20);
+LIES(g3_state, pages, 8, spare, 36);
+LIES(g3_progress, pages, 8, gap_page, 76);
+LIES(g3_found, place, 8, format, 40);
+LIES(g3_code, coding, 0, spare, 16);
+LIES(g3_raster, stride, 0, spare, 20);
+LIES(g3_caps, modems, 0, spare, 20);
+LIES(g3_wish, modems, 0, spare, 12);
+ENDS(g3_size, spare);
+ENDS(g3_counts, damaged);
+ENDS(g3_burst, spare);
+ENDS(g3_state, spare);
+ENDS(g3_progress, gap_page);
+ENDS(g3_found, format);
+ENDS(g3_code, spare);
+ENDS(g3_raster, spare);
+ENDS(g3_caps, spare);
+ENDS(g3_wish, spare);
+ENDS(g3_dis, spare);
+ENDS(g3_dcs, spare);
+ENDS(g3_block, spare);
+ENDS(g3_params, dcs);
+ENDS(g3_signal, octets);
+
+/* A signal as the proved functions have it: its size, its octets and spare words aren't there. */
+typedef struct said {
+    uint64_t length;
+    uint32_t kind, dis[6], dcs[5], pps[4], number, control;
+} said;
+#define SAYS(type, last, words) _Static_assert(__builtin_offsetof(type, spare) == sizeof ((said *)0)->words && \
+    __builtin_offsetof(type, last) + sizeof(uint32_t) == __builtin_offsetof(type, spare), #type " lies otherwise")
+SAYS(g3_dis, ecm, dis);
+SAYS(g3_dcs, frame, dcs);
+SAYS(g3_block, last, pps);
+/* What was said, as a signal; the octets that it has are there already. */
+static void says(const said *from, g3_signal *to)
+{
+    to->length = from->length, to->kind = from->kind, to->number = from->number, to->control = from->control, to->spare = 0;
+    to->dis = (g3_dis){0}, to->dcs = (g3_dcs){0}, to->pps = (g3_block){0};
+    memcpy(&to->dis, from->dis, sizeof from->dis);
+    memcpy(&to->dcs, from->dcs, sizeof from->dcs);
+    memcpy(&to->pps, from->pps, sizeof from->pps);
+}
+
+/* What was agreed on, if anything was. */
+static g3_status agreed(g3_status status, const said *from, g3_params *to)
+{
+    if (status != G3_OK) return status;
+    to->dcs = (g3_dcs){0};
+    memcpy(&to->dcs, from->dcs, sizeof from->dcs);
+    return status;
+}
 
 void g3_page_free(g3_page *page) { if (page != NULL) g3_core_free((handle *)page); }
 void g3_octets_free(g3_octets *octets) { if (octets != NULL) g3_core_free((handle *)octets); }
@@ -111,7 +178,7 @@ g3_status g3_page_push_row(g3_page *page, const uint8_t *octets, size_t length)
 g3_status g3_page_size(const g3_page *page, g3_size *size)
 {
     HANDLE(page); SIZED(size);
-    return g3_core_page_size(READ(page), REST(size));
+    return spared(g3_core_page_size(READ(page), REST(size)), &size->spare);
 }
 g3_status g3_page_row(const g3_page *page, uint32_t number, uint8_t *buffer, size_t room, uint64_t *count)
 {
@@ -120,7 +187,7 @@ g3_status g3_page_row(const g3_page *page, uint32_t number, uint8_t *buffer, siz
 }
 g3_status g3_page_read_raster(const uint8_t *octets, size_t length, const g3_raster *raster, g3_page *out)
 {
-    OCTETS(octets, length); PLACE(raster); HANDLE(out);
+    OCTETS(octets, length); SPARE(raster); HANDLE(out);
     return g3_core_page_read_raster(octets, length, raster, (handle *)out);
 }
 g3_status g3_page_write_raster(const g3_page *page, uint64_t stride, uint8_t *buffer, size_t room, uint64_t *count)
@@ -135,17 +202,17 @@ g3_status g3_page_encode(const g3_page *page, uint32_t coding, uint32_t order, g
 }
 g3_status g3_page_decode(const uint8_t *octets, size_t length, const g3_code *code, g3_page *out, uint64_t *place)
 {
-    OCTETS(octets, length); PLACE(code); HANDLE(out); PLACE(place);
+    OCTETS(octets, length); SPARE(code); HANDLE(out); PLACE(place);
     return g3_core_page_decode(octets, length, code, (handle *)out, place);
 }
 g3_status g3_page_salvage(const uint8_t *octets, size_t length, const g3_code *code, g3_page *out)
 {
-    OCTETS(octets, length); PLACE(code); HANDLE(out);
+    OCTETS(octets, length); SPARE(code); HANDLE(out);
     return g3_core_page_salvage(octets, length, code, (handle *)out);
 }
 g3_status g3_page_repair(const uint8_t *octets, size_t length, const g3_code *code, g3_page *out, uint64_t *count)
 {
-    OCTETS(octets, length); PLACE(code); HANDLE(out); PLACE(count);
+    OCTETS(octets, length); SPARE(code); HANDLE(out); PLACE(count);
     return g3_core_page_repair(octets, length, code, (handle *)out, count);
 }
 g3_status g3_identify(const uint8_t *octets, size_t length, g3_found *found)
@@ -157,7 +224,7 @@ g3_status g3_identify(const uint8_t *octets, size_t length, g3_found *found)
 }
 g3_status g3_page_next(uint8_t *octets, size_t length, const g3_code *code, uint64_t used, uint64_t *next)
 {
-    OCTETS(octets, length); PLACE(code); PLACE(next);
+    OCTETS(octets, length); SPARE(code); PLACE(next);
     return g3_core_page_next(octets, length, code, used, next);
 }
 g3_status g3_page_read_pbm(const uint8_t *octets, size_t length, uint32_t fine, g3_page *out, uint64_t *count)
@@ -172,7 +239,7 @@ g3_status g3_page_write_pbm(const g3_page *page, g3_octets *out)
 }
 g3_status g3_row_coder_new(g3_row_coder *out, const g3_code *code)
 {
-    HANDLE(out); PLACE(code);
+    HANDLE(out); SPARE(code);
     return g3_core_row_coder_new(code, (handle *)out);
 }
 g3_status g3_row_coder_push_row(g3_row_coder *coder, const uint8_t *octets, size_t length)
@@ -192,7 +259,7 @@ g3_status g3_row_coder_finish(g3_row_coder *coder, g3_octets *out)
 }
 g3_status g3_row_reader_new(g3_row_reader *out, const g3_code *code)
 {
-    HANDLE(out); PLACE(code);
+    HANDLE(out); SPARE(code);
     return g3_core_row_reader_new(code, (handle *)out);
 }
 g3_status g3_row_reader_feed(g3_row_reader *reader, const uint8_t *octets, size_t length, uint64_t *taken)
@@ -263,12 +330,12 @@ g3_status g3_document_pages(const g3_document *document, uint64_t *count)
 }
 g3_status g3_answerer_new(g3_terminal *out, const g3_caps *caps)
 {
-    HANDLE(out); PLACE(caps);
+    HANDLE(out); SPARE(caps);
     return g3_core_answerer_new((handle *)out, caps);
 }
 g3_status g3_caller_new(g3_terminal *out, g3_document *document, const g3_wish *wish)
 {
-    HANDLE(out); HANDLE(document); PLACE(wish);
+    HANDLE(out); HANDLE(document); SPARE(wish);
     return g3_core_caller_new((handle *)out, (handle *)document, wish);
 }
 g3_status g3_terminal_hear(g3_terminal *terminal, const uint8_t *octets, size_t length)
@@ -330,32 +397,31 @@ g3_status g3_terminal_lost(g3_terminal *terminal)
 g3_status g3_terminal_next_burst(g3_terminal *terminal, g3_octets *out, g3_burst *burst)
 {
     HANDLE(terminal); HANDLE(out); SIZED(burst);
-    return g3_core_terminal_next_burst((handle *)terminal, (handle *)out, REST(burst));
+    return spared(g3_core_terminal_next_burst((handle *)terminal, (handle *)out, REST(burst)), &burst->spare);
 }
 g3_status g3_terminal_state(const g3_terminal *terminal, g3_state *state)
 {
     HANDLE(terminal); SIZED(state);
-    return g3_core_terminal_state(READ(terminal), REST(state));
+    return spared(g3_core_terminal_state(READ(terminal), REST(state)), &state->spare);
 }
 g3_status g3_terminal_progress(const g3_terminal *terminal, g3_progress *progress)
 {
-    g3_progress whole;
-    HANDLE(terminal); PLACE(progress);
-    const uint64_t size = progress->size;
-    if (size != PROGRESS_FIRST && size != sizeof *progress) return G3_BAD_SIZE;
-    g3_status status = g3_core_terminal_progress(READ(terminal), REST(&whole));
-    if (status == G3_OK) memcpy(REST(progress), REST(&whole), size - sizeof progress->size);
-    return status;
+    HANDLE(terminal); SIZED(progress);
+    return g3_core_terminal_progress(READ(terminal), REST(progress));
 }
 g3_status g3_terminal_params(const g3_terminal *terminal, g3_params *params)
 {
+    said it = {0};
     HANDLE(terminal); SIZED(params);
-    return g3_core_terminal_params(READ(terminal), &params->dcs);
+    return agreed(g3_core_terminal_params(READ(terminal), it.dcs), &it, params);
 }
 g3_status g3_terminal_peer(const g3_terminal *terminal, g3_signal *signal)
 {
+    said it;
     HANDLE(terminal); SIZED(signal);
-    return g3_core_terminal_peer(READ(terminal), REST(signal));
+    g3_status status = g3_core_terminal_peer(READ(terminal), &it);
+    if (status == G3_OK) says(&it, signal);
+    return status;
 }
 g3_status g3_terminal_take_page(g3_terminal *terminal, g3_page *out)
 {
@@ -369,18 +435,27 @@ g3_status g3_terminal_hold(g3_terminal *terminal, g3_page *out)
 }
 g3_status g3_signal_read(const uint8_t *content, size_t length, g3_signal *signal)
 {
+    said it;
     OCTETS(content, length); SIZED(signal);
-    return g3_core_signal_read(content, length, REST(signal), signal->octets, sizeof signal->octets);
+    g3_status status = g3_core_signal_read(content, length, &it, signal->octets, sizeof signal->octets);
+    if (status == G3_OK) says(&it, signal);
+    return status;
 }
 g3_status g3_signal_write(const g3_signal *signal, uint32_t side, uint32_t last, uint8_t *buffer, size_t room, uint64_t *count)
 {
     SIZED(signal); OCTETS(buffer, room); PLACE(count);
-    return g3_core_signal_write(CREST(signal), signal->octets, sizeof signal->octets, side, last, buffer, room, count);
+    if (IS_NEWER(signal->dis) || IS_NEWER(signal->dcs) || IS_NEWER(signal->pps) || signal->spare != 0) return G3_NEWER_STRUCT;
+    said it = {.length = signal->length, .kind = signal->kind, .number = signal->number, .control = signal->control};
+    memcpy(it.dis, &signal->dis, sizeof it.dis);
+    memcpy(it.dcs, &signal->dcs, sizeof it.dcs);
+    memcpy(it.pps, &signal->pps, sizeof it.pps);
+    return g3_core_signal_write(&it, signal->octets, sizeof signal->octets, side, last, buffer, room, count);
 }
 g3_status g3_agree(const g3_dis *dis, const g3_wish *wish, uint32_t width, uint32_t fine, g3_params *params, uint32_t *reason)
 {
-    PLACE(dis); PLACE(wish); SIZED(params); PLACE(reason);
-    return g3_core_agree(dis, wish, width, fine, &params->dcs, reason);
+    said it = {0};
+    SPARE(dis); SPARE(wish); SIZED(params); PLACE(reason);
+    return agreed(g3_core_agree(dis, wish, width, fine, it.dcs, reason), &it, params);
 }
 
 _Static_assert(G3_VERSION_NUMBER == G3_BUILT, "g3fax.h has the number of another version");
@@ -467,6 +542,7 @@ const char *g3_status_text(g3_status status)
     case G3_BAD_LENGTH: return "a length that isn't allowed, or no address";
     case G3_NOTHING: return "nothing is there";
     case G3_BAD_SIZE: return "the size that a struct begins with isn't its own: begin it by G3_INIT";
+    case G3_NEWER_STRUCT: return "a struct is longer, or has more words, than this version of the library knows";
     case G3_FRAME_LOST: return "no memory: a frame that was heard is lost";
     default: return "no such status";
     }

@@ -40,7 +40,10 @@ typedef struct g3_row_reader { void *at; } g3_row_reader;
 #endif
 
 /* Each struct that the library writes begins with its own size in octets, which the program sets: g3_state state = G3_INIT(g3_state). So it
- * can grow: a later library writes no more than that. A size that the library doesn't know is G3_BAD_SIZE, and nothing is written. */
+ * can grow: a later library writes no more than that. A size that isn't known is G3_BAD_SIZE, and the size of a longer struct, as a later
+ * version may have it, G3_NEWER_STRUCT; nothing is written then. The `spare` words of a struct are 0, until a later version names them: the
+ * library writes 0, and reads only 0, else G3_NEWER_STRUCT. Numbers that are handed out, as listens, end, reason and kind, stay among those
+ * that the program's version names; others come by new functions alone. */
 #ifdef __cplusplus
 #define G3_INIT(type) ([] { type it = type(); it.size = sizeof it; return it; }())
 #else
@@ -64,7 +67,7 @@ enum {
     G3_NOT_COMPATIBLE = 28,
     /* wrong use */
     G3_EMPTY_HANDLE = 100, G3_OTHER_HANDLE = 101, G3_FULL_HANDLE = 102, G3_NO_ROOM = 103, G3_BAD_CHOICE = 104, G3_BAD_LENGTH = 105,
-    G3_NOTHING = 106, G3_BAD_SIZE = 107,
+    G3_NOTHING = 106, G3_BAD_SIZE = 107, G3_NEWER_STRUCT = 109,
     /* octets of the line were taken, and memory was refused: a frame in them is lost, as on a line */
     G3_FRAME_LOST = 108
 };
@@ -77,6 +80,7 @@ typedef struct g3_size {
     uint32_t width; /* pixels */
     uint32_t rows;
     uint32_t fine; /* 1: 7.7 lines a millimeter, 0: 3.85 */
+    uint32_t spare;
 } g3_size;
 
 typedef struct g3_code {
@@ -84,6 +88,7 @@ typedef struct g3_code {
     uint32_t order;  /* G3_MSB_FIRST or G3_LSB_FIRST */
     uint32_t width;  /* pixels, 1 to 2432 */
     uint32_t fine;
+    uint32_t spare[4];
 } g3_code;
 
 /* How rows lie in octets; stride comes first, so that the struct has no gap between its members. */
@@ -92,6 +97,7 @@ typedef struct g3_raster {
     uint32_t width;  /* pixels, 1 to 2432 */
     uint32_t rows;   /* 0 to 20000 */
     uint32_t fine;
+    uint32_t spare[3];
 } g3_raster;
 
 /* gaps between flags: good frames, those with six 1 bits in a row, no whole number of octets, fewer than 5 octets, more than 302, and
@@ -233,12 +239,14 @@ typedef struct g3_caps {
     uint32_t fine;   /* 1: it takes pages of 7.7 lines a millimeter */
     uint32_t widest; /* the width of its widest page in pixels: 1728, 2048 or 2432 */
     uint32_t limit;  /* how many pages it stores before it is busy, 1 or more */
+    uint32_t spare[3];
 } g3_caps;
 
 typedef struct g3_wish {
     uint32_t modems; /* G3_V27TER, G3_V29 or G3_V17 */
     uint32_t coding; /* G3_MH or G3_MMR; where the answerer doesn't read T.6, G3_MH is sent */
     uint32_t frame;  /* the octets of data in a frame: 256 or 64 */
+    uint32_t spare[5];
 } g3_wish;
 
 /* An answerer, whose first burst is DIS. G3_BAD_CHOICE: a number of caps stands for no choice. */
@@ -301,6 +309,7 @@ typedef struct g3_burst {
     uint32_t carrier;
     uint32_t check; /* 1: a training check, 0 bits alone; 0: flags and frames */
     uint32_t last;  /* 1: the last one before the other station has its turn */
+    uint32_t spare;
 } g3_burst;
 
 /* The next burst that is to be sent, 75 ms after the one before it. Its octets hold the bits, the least significant of each first.
@@ -339,6 +348,7 @@ typedef struct g3_state {
     uint32_t wait;    /* the wait that runs; 0 for none */
     uint32_t longer;  /* the longer one beside it; 0 for none */
     uint32_t end;     /* 0: the call goes on; else G3_END_.. */
+    uint32_t spare;
 } g3_state;
 G3_CHECK g3_status g3_terminal_state(const g3_terminal *terminal, g3_state *state);
 
@@ -346,7 +356,7 @@ G3_CHECK g3_status g3_terminal_state(const g3_terminal *terminal, g3_state *stat
  * come under the number of the last one, from which it can't be told, so that the terminal has stopped the call in place of confirming it */
 enum { G3_REFUSED_NO_ECM = 1, G3_REFUSED_NOT_OFFERED = 2, G3_REFUSED_USED_NUMBER = 3 };
 
-/* how far a call is; what belongs to the other station is 0. The size may be 72 octets too, as before `refused` was added */
+/* how far a call is; what belongs to the other station is 0 */
 typedef struct g3_progress {
     uint64_t size;           /* of this struct */
     uint64_t pages;          /* of a caller's document; or those that an answerer has stored and that weren't taken */
@@ -397,6 +407,7 @@ typedef struct g3_dis {
     uint32_t widest;   /* the width of its widest page in pixels: 1728, 2048 or 2432 */
     uint32_t t6;       /* it reads T.6 beside T.4 in one dimension */
     uint32_t ecm;      /* it has the error correction mode */
+    uint32_t spare[2];
 } g3_dis;
 
 /* how pages are sent, as a DCS says it */
@@ -406,6 +417,7 @@ typedef struct g3_dcs {
     uint32_t width;   /* pixels: 1728, 2048 or 2432 */
     uint32_t coding;  /* G3_MH or G3_MMR */
     uint32_t frame;   /* the octets of data in a frame: 256 or 64 */
+    uint32_t spare[3];
 } g3_dcs;
 
 /* what a PPS says of a block */
@@ -414,6 +426,7 @@ typedef struct g3_block {
     uint32_t page;  /* the number of the page modulo 256 */
     uint32_t block; /* the number of the block in its page modulo 256 */
     uint32_t last;  /* the number of the block's last frame */
+    uint32_t spare[4];
 } g3_block;
 
 typedef struct g3_signal {
@@ -425,6 +438,7 @@ typedef struct g3_signal {
     g3_block pps;        /* of a PPS */
     uint32_t number;     /* of an FCD, the number of its frame in the block */
     uint32_t control;    /* of G3_OTHER, the octet of the facsimile control field */
+    uint32_t spare;
     uint8_t octets[296]; /* an FCD's data, or the 256 bits of a PPR: bit n % 8 of octet n / 8 is 1 where frame n is asked for. More stays */
 } g3_signal;
 

@@ -93,7 +93,7 @@ static unsigned turn(g3_terminal *from, g3_terminal *to, int caller, int number)
 static void record(g3_document *document, uint32_t coding, const g3_caps *caps)
 {
     g3_terminal caller = G3_EMPTY, answerer = G3_EMPTY;
-    g3_wish wish = {G3_V17, coding, 256};
+    g3_wish wish = {.modems = G3_V17, .coding = coding, .frame = 256};
     g3_state state = G3_INIT(g3_state);
     check(g3_answerer_new(&answerer, caps), "an answerer");
     check(g3_caller_new(&caller, document, &wish), "a caller");
@@ -169,7 +169,7 @@ static void open_calls(const g3_caps *caps, unsigned open)
 
 int main(int argc, char **argv)
 {
-    g3_caps caps = {G3_V17, 1, 1, 2432, 2};
+    g3_caps caps = {.modems = G3_V17, .t6 = 1, .fine = 1, .widest = 2432, .limit = 2};
     g3_page page = G3_EMPTY;
     g3_document document = G3_EMPTY;
     uint64_t count = 0;

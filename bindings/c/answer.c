@@ -71,7 +71,7 @@ static g3_status say(g3_state *state)
 
 int main(int argc, char **argv)
 {
-    g3_caps caps = {G3_V17, 1, 1, 2432, 2};
+    g3_caps caps = {.modems = G3_V17, .t6 = 1, .fine = 1, .widest = 2432, .limit = 2};
     g3_state state = G3_INIT(g3_state);
     FILE *out = argc == 2 ? fopen(argv[1], "wb") : NULL;
     if (out == NULL) return fprintf(stderr, "usage: answer OUT.pbm\n"), 2;

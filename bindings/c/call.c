@@ -73,8 +73,8 @@ int main(int argc, char **argv)
     g3_page page = G3_EMPTY, stored = G3_EMPTY;
     g3_document document = G3_EMPTY;
     g3_terminal caller = G3_EMPTY, answerer = G3_EMPTY;
-    g3_caps caps = {G3_V17, 1, 1, 2432, 2};
-    g3_wish wish = {G3_V17, G3_MMR, 256};
+    g3_caps caps = {.modems = G3_V17, .t6 = 1, .fine = 1, .widest = 2432, .limit = 2};
+    g3_wish wish = {.modems = G3_V17, .coding = G3_MMR, .frame = 256};
     size_t length = 0;
     uint64_t count = 0;
     if (argc != 3 && argc != 4) return fprintf(stderr, "usage: call IN.pbm OUT.pbm [NUMBER]\n"), 2;

@@ -82,8 +82,8 @@ static g3_status decode(FILE *from, const g3_code *code, FILE *to)
 int main(int argc, char **argv)
 {
     if (argc != 6) return fprintf(stderr, "usage: decode IN OUT.pbm mh|mmr msb|lsb WIDTH\n"), 2;
-    g3_code code = {strcmp(argv[3], "mh") ? G3_MMR : G3_MH, strcmp(argv[4], "msb") ? G3_LSB_FIRST : G3_MSB_FIRST,
-                    (uint32_t)atoi(argv[5]), 0};
+    g3_code code = {.coding = strcmp(argv[3], "mh") ? G3_MMR : G3_MH, .order = strcmp(argv[4], "msb") ? G3_LSB_FIRST : G3_MSB_FIRST,
+                    .width = (uint32_t)atoi(argv[5])};
     FILE *from = fopen(argv[1], "rb"), *to = from == NULL ? NULL : fopen(argv[2], "wb");
     if (to == NULL) return perror(from == NULL ? argv[1] : argv[2]), 1;
     FILE *code_file = twice(from);

@@ -47,7 +47,7 @@ static g3_status encode(FILE *from, g3_code *code, FILE *to)
 int main(int argc, char **argv)
 {
     if (argc != 5) return fprintf(stderr, "usage: encode IN.pbm OUT mh|mmr msb|lsb\n"), 2;
-    g3_code code = {strcmp(argv[3], "mh") ? G3_MMR : G3_MH, strcmp(argv[4], "msb") ? G3_LSB_FIRST : G3_MSB_FIRST, 0, 0};
+    g3_code code = {.coding = strcmp(argv[3], "mh") ? G3_MMR : G3_MH, .order = strcmp(argv[4], "msb") ? G3_LSB_FIRST : G3_MSB_FIRST};
     FILE *from = fopen(argv[1], "rb"), *to = from == NULL ? NULL : fopen(argv[2], "wb");
     if (to == NULL) return perror(from == NULL ? argv[1] : argv[2]), 1;
     g3_status status = encode(from, &code, to);

@@ -56,7 +56,7 @@ static const struct { g3_status want; uint32_t coding, length; uint8_t code[3]; 
 static void pages(void)
 {
     g3_page page = G3_EMPTY;
-    g3_code code = {G3_MMR, G3_MSB_FIRST, 8, 0};
+    g3_code code = {.coding = G3_MMR, .order = G3_MSB_FIRST, .width = 8};
     uint64_t bit;
     for (size_t at = 0; at < sizeof coded / sizeof *coded; at++) {
         code.coding = coded[at].coding;
@@ -75,8 +75,8 @@ static void signals(void)
 {
     static const uint8_t address[] = {0xFE, 0x13, 0x80}, control[] = {0xFF, 0x12, 0x80};
     g3_signal signal = G3_INIT(g3_signal);
-    g3_dis dis = {0, G3_V17, 1, 2432, 1, 1}; /* it doesn't receive */
-    g3_wish wish = {G3_V17, G3_MMR, 256};
+    g3_dis dis = {.modems = G3_V17, .fine = 1, .widest = 2432, .t6 = 1, .ecm = 1}; /* it doesn't receive */
+    g3_wish wish = {.modems = G3_V17, .coding = G3_MMR, .frame = 256};
     g3_params params = G3_INIT(g3_params);
     uint32_t reason;
     IS(G3_BAD_ADDRESS, g3_signal_read(address, 3, &signal));

@@ -16,7 +16,7 @@ static g3_status moved(g3_page *page, int fill, g3_page *back)
     for (at = 0; at < room; at++) rows[at] = (uint8_t)fill;
     status = g3_page_write_raster(page, stride, rows, room, &count);
     for (at = 0; at < room; at++) between += at % stride >= row && rows[at] == (uint8_t)fill;
-    g3_raster raster = {stride, size.width, size.rows, size.fine};
+    g3_raster raster = {.stride = stride, .width = size.width, .rows = size.rows, .fine = size.fine};
     if (status == G3_OK) status = g3_page_read_raster(rows, count, &raster, back);
     free(rows);
     return status == G3_OK && between != (stride - row) * size.rows ? G3_NOTHING : status;

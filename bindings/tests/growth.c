@@ -5,6 +5,8 @@
 #include "g3fax.h"
 #include <stdio.h>
 #include <string.h>
+/* words of a struct that are left out are 0 */
+#pragma GCC diagnostic ignored "-Wmissing-field-initializers"
 
 /* of the C library, on x86-64 Linux */
 int fork(void);

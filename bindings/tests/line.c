@@ -4,6 +4,8 @@
 #include <stdio.h>
 #include <stdlib.h>
 #include <string.h>
+/* words of a struct that are left out are 0 */
+#pragma GCC diagnostic ignored "-Wmissing-field-initializers"
 
 /* of the C library */
 typedef struct { long of[4]; } sem_t;

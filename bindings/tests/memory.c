@@ -6,6 +6,8 @@
 #include <stdint.h>
 #include <stdio.h>
 #include <string.h>
+/* words of a struct that are left out are 0 */
+#pragma GCC diagnostic ignored "-Wmissing-field-initializers"
 
 static uint8_t image[1 << 16], rows[1 << 16], line[1 << 16], code[1 << 16], again[1 << 16], content[300];
 static int bad;

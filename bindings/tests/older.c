@@ -5,9 +5,11 @@
 #include "g3fax.h"
 #include <stdio.h>
 #include <string.h>
+/* words of a struct that are left out are 0 */
+#pragma GCC diagnostic ignored "-Wmissing-field-initializers"
 
-enum { ROOM = 512, FILLER = 0xA5 };
-static union { uint64_t size; uint8_t octets[ROOM]; g3_signal signal; } room;
+enum { ROOM = 520, FILLER = 0xA5 };
+static union { uint64_t size; uint8_t octets[ROOM]; g3_signal signal; g3_state state; g3_burst burst; g3_params params; } room;
 static int bad;
 
 static g3_page page = G3_EMPTY;
@@ -28,6 +30,12 @@ static int is_left_from(size_t at)
     return at == ROOM;
 }
 
+static int is_zero(const void *words, size_t length)
+{
+    while (length > 0 && ((const uint8_t *)words)[length - 1] == 0) length--;
+    return length == 0;
+}
+
 static g3_status call(g3_status (*function)(void), uint64_t size)
 {
     memset(room.octets, FILLER, ROOM);
@@ -38,9 +46,9 @@ static g3_status call(g3_status (*function)(void), uint64_t size)
 /* Tries a function that writes a struct at `room`, which was of a size: it has a status by that, and another one by any other. */
 static void try_struct(const char *what, g3_status (*function)(void), uint64_t size, g3_status wanted)
 {
-    const uint64_t others[] = {0, 8, size - 8, size - 1, size + 1, size + 8, size << 32, UINT64_MAX};
+    const uint64_t others[] = {0, 8, size - 8, size - 1, size + 1, size << 32, UINT64_MAX, size + 8, 4096};
     for (size_t i = 0; i < sizeof others / sizeof others[0]; i++) {
-        is(call(function, others[i]) == G3_BAD_SIZE, what, "another size isn't refused");
+        is(call(function, others[i]) == (i < 7 ? G3_BAD_SIZE : G3_NEWER_STRUCT), what, "another size isn't refused, or not by its own status");
         is(room.size == others[i] && is_left_from(sizeof room.size), what, "it is written though its size isn't known");
     }
     is(call(function, size) == wanted, what, "it has another status");
@@ -66,8 +74,7 @@ static g3_status signal_write(void)
 {
     uint8_t content[300];
     uint64_t count = 0;
-    g3_signal is = room.signal;
-    is.kind = G3_MCF;
+    const g3_signal is = {.size = room.size, .kind = G3_MCF};
     return g3_signal_write(&is, G3_ANSWERER, 1, content, sizeof content, &count);
 }
 
@@ -87,16 +94,19 @@ int main(void)
     is(is_made, "handles", "they can't be made");
     try_struct("g3_size", page_size, sizeof(g3_size), G3_OK);
     g3_size *size = (void *)&room;
-    is(size->width == 1728 && size->rows == 1 && size->fine == 1, "g3_size", "it says something else");
+    is(size->width == 1728 && size->rows == 1 && size->fine == 1 && size->spare == 0, "g3_size", "it says something else");
     try_struct("g3_counts", deframer_counts, sizeof(g3_counts), G3_OK);
     try_struct("g3_state", state, sizeof(g3_state), G3_OK);
+    is(room.state.spare == 0, "g3_state", "its spare word isn't 0");
     try_struct("g3_progress", progress, sizeof(g3_progress), G3_OK);
     try_struct("g3_burst", next_burst, sizeof(g3_burst), G3_OK);
+    is(room.burst.spare == 0, "g3_burst", "its spare word isn't 0");
     try_struct("g3_params", agree, sizeof(g3_params), G3_OK);
+    is(is_zero(room.params.dcs.spare, sizeof room.params.dcs.spare), "g3_params", "its spare words aren't 0");
     try_struct("g3_params of a terminal", params, sizeof(g3_params), G3_NOTHING);
     try_struct("g3_signal of a terminal", peer, sizeof(g3_signal), G3_NOTHING);
     try_struct("g3_signal", signal_read, sizeof(g3_signal), G3_OK);
-    is(room.signal.kind == G3_MCF, "g3_signal", "it says something else");
+    is(room.signal.kind == G3_MCF && is_zero(&room.signal.dis, 24 * sizeof(uint32_t)) && room.signal.spare == 0, "g3_signal", "it says something else");
     try_struct("g3_signal that is written", signal_write, sizeof(g3_signal), G3_OK);
     g3_page_free(&page), g3_octets_free(&octets), g3_deframer_free(&deframer), g3_terminal_free(&answerer);
     return bad;

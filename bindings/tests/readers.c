@@ -4,6 +4,8 @@
 #include "g3fax.h"
 #include <stdio.h>
 #include <string.h>
+/* words of a struct that are left out are 0 */
+#pragma GCC diagnostic ignored "-Wmissing-field-initializers"
 
 /* of the C library */
 void *mmap(void *at, size_t length, int allowed, int flags, int file, long place);

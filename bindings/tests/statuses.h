@@ -3,22 +3,34 @@
 #include <stdio.h>
 #include <string.h>
 
+/* words of a struct that are left out are 0 */
+#pragma GCC diagnostic ignored "-Wmissing-field-initializers"
 #define IS(want, call) is((want), (call), __LINE__)
 
-/* a struct that doesn't begin with its size, nor with the one that it had before it grew, is refused as it was */
-#define SIZES_BUT(it, known, call) \
+/* a struct that doesn't begin with its size is refused as it was: a longer one by a status of its own */
+#define SIZES(it, call) \
     do { \
-        for (uint64_t others = 0; others <= sizeof(it) + 8; others += 8) { \
-            if (others == sizeof(it) || others == (known)) continue; \
+        for (uint64_t others = 0; others <= sizeof(it) + 16; others += 8) { \
+            if (others == sizeof(it)) continue; \
             memset(&(it), 0x5A, sizeof(it)); \
             memcpy(&(it), &others, sizeof others); \
-            IS(G3_BAD_SIZE, (call)); \
+            IS(others < sizeof(it) ? G3_BAD_SIZE : G3_NEWER_STRUCT, (call)); \
             for (size_t at = sizeof others; at < sizeof(it); at++) IS(0x5A, ((const uint8_t *)&(it))[at]); \
         } \
         memset(&(it), 0, sizeof(it)); \
         (it).size = sizeof(it); \
     } while (0)
-#define SIZES(it, call) SIZES_BUT(it, sizeof(it), call)
+
+/* a struct with a spare word that isn't 0 is refused, and is good without it */
+#define SPARES(words, call) \
+    do { \
+        for (size_t at = 0; at < sizeof(words) / sizeof(uint32_t); at++) { \
+            ((uint32_t *)&(words))[at] = 1; \
+            IS(G3_NEWER_STRUCT, (call)); \
+            ((uint32_t *)&(words))[at] = 0; \
+        } \
+        IS(1, (call) != G3_NEWER_STRUCT); \
+    } while (0)
 
 static uint8_t octets[400];
 static int bad;

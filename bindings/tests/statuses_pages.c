@@ -70,6 +70,7 @@ static void rasters(void)
     uint64_t n = 0;
     g3_raster two = {3, 9, 2, 0}, none = {2, 9, 0, 0}, wide = {400, 2433, 1, 0}, high = {2, 9, 20001, 0}, close = {1, 9, 1, 0};
     g3_raster far = {UINT64_MAX, 9, 20000, 0}, one = {UINT64_MAX, 9, 1, 0};
+    SPARES(wide.spare, g3_page_read_raster(octets, 400, &wide, &a));
     IS(G3_BAD_WIDTH, g3_page_read_raster(octets, 400, &wide, &a));
     IS(G3_TOO_MANY_ROWS, g3_page_read_raster(octets, 400, &high, &a));
     IS(G3_BAD_LENGTH, g3_page_read_raster(octets, 400, &close, &a));
@@ -105,6 +106,10 @@ static void coded(void)
     uint64_t place = 0;
     g3_code odd = {3, G3_MSB_FIRST, 8, 0}, other = {G3_MH, 2, 8, 0}, wide = {G3_MH, G3_MSB_FIRST, 2433, 0};
     g3_code mh = {G3_MH, G3_MSB_FIRST, 8, 0}, mmr = {G3_MMR, G3_MSB_FIRST, 8, 0};
+    SPARES(odd.spare, g3_page_decode(octets, 4, &odd, &a, &place));
+    SPARES(odd.spare, g3_page_salvage(octets, 4, &odd, &a));
+    SPARES(odd.spare, g3_page_repair(octets, 4, &odd, &a, &place));
+    SPARES(odd.spare, g3_page_next(octets, 4, &odd, 0, &place));
     IS(G3_BAD_CHOICE, g3_page_decode(octets, 4, &odd, &a, &place));
     IS(G3_BAD_CHOICE, g3_page_decode(octets, 4, &other, &a, &place));
     IS(G3_BAD_WIDTH, g3_page_decode(octets, 4, &wide, &a, &place));

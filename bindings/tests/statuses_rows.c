@@ -14,6 +14,7 @@ static void rows(void)
     IS(G3_EMPTY_HANDLE, g3_row_coder_push_row(&c, octets, 2));
     IS(G3_EMPTY_HANDLE, g3_row_coder_take(&c, &code));
     IS(G3_EMPTY_HANDLE, g3_row_coder_finish(NULL, &code));
+    SPARES(odd.spare, g3_row_coder_new(&c, &odd));
     IS(G3_BAD_CHOICE, g3_row_coder_new(&c, &odd));
     IS(G3_BAD_CHOICE, g3_row_coder_new(&c, &other));
     IS(G3_BAD_WIDTH, g3_row_coder_new(&c, &wide));
@@ -33,6 +34,7 @@ static void rows(void)
     IS(4, (g3_status)n); /* a white row has a bit in T.6, and EOFB 24 */
 
     IS(G3_EMPTY_HANDLE, g3_row_reader_feed(&r, coded, 4, &n));
+    SPARES(odd.spare, g3_row_reader_new(&r, &odd));
     IS(G3_BAD_CHOICE, g3_row_reader_new(&r, &odd));
     IS(G3_BAD_CHOICE, g3_row_reader_new(&r, &other));
     IS(G3_BAD_WIDTH, g3_row_reader_new(&r, &wide));

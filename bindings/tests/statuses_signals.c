@@ -28,6 +28,10 @@ static void signals(void)
     IS(1, s.number == 5 && s.kind == 0); /* it is as it was */
     SIZES(s, g3_signal_read(mcf, 6, &s));
     SIZES(s, g3_signal_write(&s, G3_CALLER, 0, octets, sizeof octets, &n));
+    SPARES(s.spare, g3_signal_write(&s, G3_CALLER, 0, octets, sizeof octets, &n));
+    SPARES(s.dis.spare, g3_signal_write(&s, G3_CALLER, 0, octets, sizeof octets, &n));
+    SPARES(s.dcs.spare, g3_signal_write(&s, G3_CALLER, 0, octets, sizeof octets, &n));
+    SPARES(s.pps.spare, g3_signal_write(&s, G3_CALLER, 0, octets, sizeof octets, &n));
     IS(G3_OK, g3_signal_read(mcf, 6, &s)); /* what comes after its fields is ignored */
     IS(1, s.kind == G3_MCF && s.number == 0 && s.length == 0);
     IS(G3_OK, g3_signal_read(wrong_pps, 7, &s));
@@ -72,6 +76,8 @@ static void agreement(void)
     g3_params p = G3_INIT(g3_params);
     uint32_t why = 9;
     SIZES(p, g3_agree(&all, &wish, 1728, 1, &p, &why));
+    SPARES(d.spare, g3_agree(&d, &wish, 1727, 1, &p, &why));
+    SPARES(wish.spare, g3_agree(&d, &wish, 1727, 1, &p, &why));
     IS(G3_OK, g3_agree(&all, &wish, 1728, 1, &p, &why));
     IS(1, p.dcs.carrier == G3_V17_14400 && p.dcs.fine == 1 && p.dcs.width == 1728 && p.dcs.coding == G3_MMR && p.dcs.frame == 256 && why == 9);
     IS(G3_OK, g3_agree(&all, &old, 2432, 0, &p, &why));

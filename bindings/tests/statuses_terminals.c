@@ -22,6 +22,7 @@ static void documents(void)
     IS(G3_BAD_LENGTH, g3_document_pages(&d, NULL));
     IS(G3_OK, g3_document_pages(&d, &n));
     IS(1, (g3_status)n);
+    SPARES(odd.spare, g3_caller_new(&t, &d, &odd));
     IS(G3_BAD_CHOICE, g3_caller_new(&t, &d, &odd));
     IS(G3_BAD_CHOICE, g3_caller_new(&t, &d, &other));
     IS(G3_BAD_CHOICE, g3_caller_new(&t, &d, &large));
@@ -43,6 +44,7 @@ static void terminals(void)
     g3_burst burst = G3_INIT(g3_burst);
     g3_state state = G3_INIT(g3_state);
     g3_caps caps = {G3_V17, 1, 1, 2432, 1}, odd = {0, 1, 1, 2432, 1}, wide = {G3_V17, 1, 1, 2433, 1}, none = {G3_V17, 1, 1, 2432, 0};
+    SPARES(odd.spare, g3_answerer_new(&t, &odd));
     IS(G3_BAD_CHOICE, g3_answerer_new(&t, &odd));
     IS(G3_BAD_CHOICE, g3_answerer_new(&t, &wide));
     IS(G3_BAD_CHOICE, g3_answerer_new(&t, &none));
@@ -149,13 +151,7 @@ static void agreed(void)
     IS(G3_BAD_LENGTH, g3_terminal_hear_frame(&t, NULL, 3));
     IS(G3_EMPTY_HANDLE, g3_terminal_progress(&empty, &far));
     IS(G3_BAD_LENGTH, g3_terminal_progress(&t, NULL));
-    SIZES_BUT(far, 72, g3_terminal_progress(&t, &far));
-    memset(&far, 0x5A, sizeof far);
-    far.size = 72; /* of a program before `refused` */
-    IS(G3_OK, g3_terminal_progress(&t, &far));
-    IS(72, (g3_status)far.size);
-    for (size_t at = 72; at < sizeof far; at++) IS(0x5A, ((const uint8_t *)&far)[at]);
-    far.size = sizeof far;
+    SIZES(far, g3_terminal_progress(&t, &far));
     IS(G3_OK, g3_terminal_progress(&t, &far));
     IS(0, far.pages + far.accepted + far.octets + far.frames + far.refused + far.refused_why + far.gap + far.gap_page);
     IS(G3_EMPTY_HANDLE, g3_terminal_params(&empty, &params));

@@ -36,7 +36,7 @@ __attribute__((noinline)) static uint64_t library_code(uint8_t *out)
 {
     g3_page page = G3_EMPTY;
     g3_octets octets = G3_EMPTY;
-    g3_raster raster = {row, width, height, 1};
+    g3_raster raster = {.stride = row, .width = width, .rows = height, .fine = 1};
     uint64_t count = 0;
     check(g3_page_read_raster(rows, size, &raster, &page));
     check(g3_page_encode(&page, form.coding, form.order, &octets));
@@ -102,7 +102,8 @@ int main(int argc, char **argv)
     if (file == NULL || fscanf(file, "P4 %u %u", &width, &height) != 2 || fgetc(file) < 0) return 2;
     row = (width + 7) / 8, size = row * height;
     if (size > sizeof rows || fread(rows, 1, size, file) != size) return 2;
-    g3_code named = {strcmp(argv[2], "mh") ? G3_MMR : G3_MH, strcmp(argv[3], "msb") ? G3_LSB_FIRST : G3_MSB_FIRST, width, 1};
+    g3_code named = {.coding = strcmp(argv[2], "mh") ? G3_MMR : G3_MH, .order = strcmp(argv[3], "msb") ? G3_LSB_FIRST : G3_MSB_FIRST,
+                     .width = width, .fine = 1};
     form = named;
     uint64_t length = crates_code(code);
     if (length == 0 || library_code(again) != length || memcmp(again, code, length) != 0) return 1;

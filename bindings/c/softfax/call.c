@@ -26,8 +26,8 @@ static g3_status make_station(call *it, uint32_t modems)
 {
     const options *given = it->given;
     uint32_t has = given->modems < modems ? given->modems : modems;
-    g3_caps caps = {has, given->coding == G3_MMR, 1, 2432, 2};
-    g3_wish wish = {has, given->coding, 256};
+    g3_caps caps = {.modems = has, .t6 = given->coding == G3_MMR, .fine = 1, .widest = 2432, .limit = 2};
+    g3_wish wish = {.modems = has, .coding = given->coding, .frame = 256};
     return given->calls ? g3_caller_new(&it->station, &it->document, &wish) : g3_answerer_new(&it->station, &caps);
 }
 

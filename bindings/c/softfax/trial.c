@@ -44,7 +44,7 @@ static g3_status new_document(const trial *kind, g3_document *out)
     g3_status status = g3_document_new(out);
     for (uint32_t i = 0; status == G3_OK && i < kind->pages; i++) {
         const paper *paper = &kind->papers[i];
-        g3_raster raster = {paper->stride, paper->width, paper->rows, 1};
+        g3_raster raster = {.stride = paper->stride, .width = paper->width, .rows = paper->rows, .fine = 1};
         g3_page page = G3_EMPTY;
         status = g3_page_read_raster(paper->pixels, (size_t)paper->stride * paper->rows, &raster, &page);
         if (status == G3_OK) status = g3_document_push(out, &page);
@@ -55,8 +55,8 @@ static g3_status new_document(const trial *kind, g3_document *out)
 
 static g3_status new_station(const trial *kind, int calls, g3_terminal *out)
 {
-    g3_caps caps = {kind->modems, kind->coding == G3_MMR, 1, 2432, kind->limit};
-    g3_wish wish = {kind->modems, kind->coding, 256};
+    g3_caps caps = {.modems = kind->modems, .t6 = kind->coding == G3_MMR, .fine = 1, .widest = 2432, .limit = kind->limit};
+    g3_wish wish = {.modems = kind->modems, .coding = kind->coding, .frame = 256};
     g3_document document = G3_EMPTY;
     if (!calls) return g3_answerer_new(out, &caps);
     g3_status status = new_document(kind, &document);

@@ -23,11 +23,11 @@ class _Sized(ctypes.Structure):
 
 
 class _Size(_Sized):
-    _fields_ = [("size", _u64)] + [(name, _u32) for name in ("width", "rows", "fine")]
+    _fields_ = [("size", _u64)] + [(name, _u32) for name in ("width", "rows", "fine", "spare")]
 
 
 class _Code(ctypes.Structure):
-    _fields_ = [("coding", _u32), ("order", _u32), ("width", _u32), ("fine", _u32)]
+    _fields_ = [("coding", _u32), ("order", _u32), ("width", _u32), ("fine", _u32), ("spare", _u32 * 4)]
 
 
 class _Found(_Sized):
@@ -37,7 +37,7 @@ class _Found(_Sized):
 
 
 class _Raster(ctypes.Structure):
-    _fields_ = [("stride", _u64), ("width", _u32), ("rows", _u32), ("fine", _u32)]
+    _fields_ = [("stride", _u64), ("width", _u32), ("rows", _u32), ("fine", _u32), ("spare", _u32 * 3)]
 
 
 class _Counts(_Sized):
@@ -45,23 +45,23 @@ class _Counts(_Sized):
 
 
 class _Caps(ctypes.Structure):
-    _fields_ = [(name, _u32) for name in ("modems", "t6", "fine", "widest", "limit")]
+    _fields_ = [(name, _u32) for name in ("modems", "t6", "fine", "widest", "limit")] + [("spare", _u32 * 3)]
 
 
 class _Wish(ctypes.Structure):
-    _fields_ = [(name, _u32) for name in ("modems", "coding", "frame")]
+    _fields_ = [(name, _u32) for name in ("modems", "coding", "frame")] + [("spare", _u32 * 5)]
 
 
 class _Burst(_Sized):
-    _fields_ = [("size", _u64), ("bits", _u64), ("carrier", _u32), ("check", _u32), ("last", _u32)]
+    _fields_ = [("size", _u64), ("bits", _u64), ("carrier", _u32), ("check", _u32), ("last", _u32), ("spare", _u32)]
 
 
 class _State(_Sized):
-    _fields_ = [(name, _u64) for name in ("size", "pages", "frames")] + [(name, _u32) for name in ("listens", "carrier", "wait", "longer", "end")]
+    _fields_ = [(name, _u64) for name in ("size", "pages", "frames")] + [(name, _u32) for name in ("listens", "carrier", "wait", "longer", "end", "spare")]
 
 
 class _Dis(ctypes.Structure):
-    _fields_ = [(name, _u32) for name in ("receiver", "modems", "fine", "widest", "t6", "ecm")]
+    _fields_ = [(name, _u32) for name in ("receiver", "modems", "fine", "widest", "t6", "ecm")] + [("spare", _u32 * 2)]
 
 
 class _Progress(_Sized):
@@ -71,7 +71,7 @@ class _Progress(_Sized):
 
 
 class _Dcs(ctypes.Structure):
-    _fields_ = [(name, _u32) for name in ("carrier", "fine", "width", "coding", "frame")]
+    _fields_ = [(name, _u32) for name in ("carrier", "fine", "width", "coding", "frame")] + [("spare", _u32 * 3)]
 
 
 class _Params(_Sized):
@@ -79,12 +79,12 @@ class _Params(_Sized):
 
 
 class _Pps(ctypes.Structure):
-    _fields_ = [(name, _u32) for name in ("ends", "page", "block", "last")]
+    _fields_ = [(name, _u32) for name in ("ends", "page", "block", "last")] + [("spare", _u32 * 4)]
 
 
 class _Signal(_Sized):
     _fields_ = [("size", _u64), ("length", _u64), ("kind", _u32), ("dis", _Dis), ("dcs", _Dcs), ("pps", _Pps), ("number", _u32), ("control", _u32),
-                ("octets", ctypes.c_uint8 * 296)]
+                ("spare", _u32), ("octets", ctypes.c_uint8 * 296)]
 
 
 _FUNCTIONS = {

@@ -3,7 +3,7 @@
  *
  *     gcc -fpreprocessed -dD -E -P bindings/g3fax.h */
 #ifndef G3FAX_H
-#define G3FAX_H
+#define G3FAX_H 
 #include <stddef.h>
 #include <stdint.h>
 #ifdef __cplusplus
@@ -14,7 +14,7 @@ extern "C" {
 #ifdef __GNUC__
 #define G3_CHECK __attribute__((warn_unused_result))
 #else
-#define G3_CHECK
+#define G3_CHECK 
 #endif
 #endif
 typedef struct g3_page { void *at; } g3_page;
@@ -45,7 +45,7 @@ enum {
     G3_NOT_CALLABLE = 26,
     G3_NOT_COMPATIBLE = 28,
     G3_EMPTY_HANDLE = 100, G3_OTHER_HANDLE = 101, G3_FULL_HANDLE = 102, G3_NO_ROOM = 103, G3_BAD_CHOICE = 104, G3_BAD_LENGTH = 105,
-    G3_NOTHING = 106, G3_BAD_SIZE = 107,
+    G3_NOTHING = 106, G3_BAD_SIZE = 107, G3_NEWER_STRUCT = 109,
     G3_FRAME_LOST = 108
 };
 enum { G3_MH = 1, G3_MMR = 2 };
@@ -55,18 +55,21 @@ typedef struct g3_size {
     uint32_t width;
     uint32_t rows;
     uint32_t fine;
+    uint32_t spare;
 } g3_size;
 typedef struct g3_code {
     uint32_t coding;
     uint32_t order;
     uint32_t width;
     uint32_t fine;
+    uint32_t spare[4];
 } g3_code;
 typedef struct g3_raster {
     uint64_t stride;
     uint32_t width;
     uint32_t rows;
     uint32_t fine;
+    uint32_t spare[3];
 } g3_raster;
 typedef struct g3_counts {
     uint64_t size;
@@ -92,6 +95,22 @@ G3_CHECK g3_status g3_page_encode(const g3_page *page, uint32_t coding, uint32_t
 G3_CHECK g3_status g3_page_decode(const uint8_t *octets, size_t length, const g3_code *code, g3_page *out, uint64_t *place);
 G3_CHECK g3_status g3_page_salvage(const uint8_t *octets, size_t length, const g3_code *code, g3_page *out);
 G3_CHECK g3_status g3_page_repair(const uint8_t *octets, size_t length, const g3_code *code, g3_page *out, uint64_t *count);
+enum { G3_FOUND_PAGE = 1, G3_FOUND_FORMAT = 2, G3_FOUND_SEVERAL = 3, G3_FOUND_NOTHING = 4, G3_FOUND_BEGUN = 5 };
+typedef struct g3_found {
+    uint64_t size;
+    uint64_t place;
+    uint32_t kind;
+    uint32_t coding;
+    uint32_t order;
+    uint32_t width;
+    uint32_t rows;
+    uint32_t fault;
+    uint32_t repaired;
+    uint32_t length;
+    char format[48];
+} g3_found;
+G3_CHECK g3_status g3_identify(const uint8_t *octets, size_t length, g3_found *found);
+G3_CHECK g3_status g3_page_next(uint8_t *octets, size_t length, const g3_code *code, uint64_t used, uint64_t *next);
 G3_CHECK g3_status g3_page_read_pbm(const uint8_t *octets, size_t length, uint32_t fine, g3_page *out, uint64_t *count);
 G3_CHECK g3_status g3_page_write_pbm(const g3_page *page, g3_octets *out);
 G3_CHECK g3_status g3_row_coder_new(g3_row_coder *out, const g3_code *code);
@@ -119,11 +138,13 @@ typedef struct g3_caps {
     uint32_t fine;
     uint32_t widest;
     uint32_t limit;
+    uint32_t spare[3];
 } g3_caps;
 typedef struct g3_wish {
     uint32_t modems;
     uint32_t coding;
     uint32_t frame;
+    uint32_t spare[5];
 } g3_wish;
 G3_CHECK g3_status g3_answerer_new(g3_terminal *out, const g3_caps *caps);
 G3_CHECK g3_status g3_caller_new(g3_terminal *out, g3_document *document, const g3_wish *wish);
@@ -136,6 +157,7 @@ uint32_t g3_wait_millis(uint32_t wait);
 enum { G3_QUIET = 1, G3_CARRIER = 2 };
 G3_CHECK g3_status g3_terminal_tick(g3_terminal *terminal, uint64_t now, uint32_t line);
 G3_CHECK g3_status g3_terminal_due(const g3_terminal *terminal, uint64_t *at);
+G3_CHECK g3_status g3_terminal_most_seconds(g3_terminal *terminal, uint32_t seconds);
 G3_CHECK g3_status g3_terminal_set_busy(g3_terminal *terminal, uint32_t is);
 g3_status g3_terminal_stop(g3_terminal *terminal);
 g3_status g3_terminal_hang_up(g3_terminal *terminal);
@@ -152,6 +174,7 @@ typedef struct g3_burst {
     uint32_t carrier;
     uint32_t check;
     uint32_t last;
+    uint32_t spare;
 } g3_burst;
 G3_CHECK g3_status g3_terminal_next_burst(g3_terminal *terminal, g3_octets *out, g3_burst *burst);
 enum { G3_HEARS_V21 = 1, G3_HEARS_CHECK = 2, G3_HEARS_PAGES = 3, G3_HEARS_V21_THEN_PAGES = 4 };
@@ -179,8 +202,10 @@ typedef struct g3_state {
     uint32_t wait;
     uint32_t longer;
     uint32_t end;
+    uint32_t spare;
 } g3_state;
 G3_CHECK g3_status g3_terminal_state(const g3_terminal *terminal, g3_state *state);
+enum { G3_REFUSED_NO_ECM = 1, G3_REFUSED_NOT_OFFERED = 2, G3_REFUSED_USED_NUMBER = 3 };
 typedef struct g3_progress {
     uint64_t size;
     uint64_t pages;
@@ -194,9 +219,14 @@ typedef struct g3_progress {
     uint32_t accepted;
     uint32_t accepted_page;
     uint32_t accepted_block;
+    uint32_t refused;
+    uint32_t refused_why;
+    uint32_t gap;
+    uint32_t gap_page;
 } g3_progress;
 G3_CHECK g3_status g3_terminal_progress(const g3_terminal *terminal, g3_progress *progress);
 G3_CHECK g3_status g3_terminal_take_page(g3_terminal *terminal, g3_page *out);
+G3_CHECK g3_status g3_terminal_hold(g3_terminal *terminal, g3_page *out);
 enum {
     G3_DIS = 1, G3_DCS = 2, G3_CFR = 3, G3_FTT = 4, G3_FCD = 5, G3_RCP = 6, G3_PPS = 7, G3_PPR = 8, G3_MCF = 9, G3_RNR = 10, G3_RR = 11,
     G3_DCN = 12, G3_OTHER = 13
@@ -211,6 +241,7 @@ typedef struct g3_dis {
     uint32_t widest;
     uint32_t t6;
     uint32_t ecm;
+    uint32_t spare[2];
 } g3_dis;
 typedef struct g3_dcs {
     uint32_t carrier;
@@ -218,12 +249,14 @@ typedef struct g3_dcs {
     uint32_t width;
     uint32_t coding;
     uint32_t frame;
+    uint32_t spare[3];
 } g3_dcs;
 typedef struct g3_block {
     uint32_t ends;
     uint32_t page;
     uint32_t block;
     uint32_t last;
+    uint32_t spare[4];
 } g3_block;
 typedef struct g3_signal {
     uint64_t size;
@@ -234,6 +267,7 @@ typedef struct g3_signal {
     g3_block pps;
     uint32_t number;
     uint32_t control;
+    uint32_t spare;
     uint8_t octets[296];
 } g3_signal;
 G3_CHECK g3_status g3_signal_read(const uint8_t *content, size_t length, g3_signal *signal);
