@@ -241,6 +241,15 @@ if [ "$status" = 0 ] || [ -s "$work/output" ] || ! grep -q "version \`G3FAX_0.1.
 fi
 unset LD_LIBRARY_PATH
 
+# the archive beside another library with the same proved functions, whose names are for all: of the archive only those of the header are
+mkdir "$work/other"
+"$kit/toolchain/bin/clang" -std=c11 -fPIC -ffreestanding -nostdinc -isystem "$top/bindings/include" -DOTHER -c "$top/bindings/tests/beside.c" \
+    -o "$work/other/beside.o"
+(cd "$work/other" && "$kit/toolchain/bin/llvm-ar" x "$top/crates/g3fax/out/libg3fax.a" && "$kit/toolchain/bin/llvm-ar" x "$kit/c/liblibc_c.a")
+"$kit/toolchain/bin/ld.lld" -r -o "$work/other.o" "$work"/other/*.o
+builds tests/beside.c "$work/other.o" --whole-archive "$work/libg3fax.a" --no-whole-archive
+gives 0 beside
+
 # three readers under the thread sanitizer of a compiler that has one, which sees what g3fax.c reads and writes, and not only the handles.
 # It has to find a number that each call counts up.
 CC=${CC:-cc}
@@ -248,7 +257,7 @@ CC=${CC:-cc}
 watches() {
     "$CC" -std=c11 -O1 -g -fsanitize=thread -DG3_VERSION='"tried"' \
         -DG3_BUILT="$(sed -n 's/^#define G3_VERSION_NUMBER //p' "$work/g3fax.h")" -I "$work" \
-        "$top/bindings/tests/readers.c" "$2" "$work/libg3fax.a" -Wl,--wrap=malloc,--wrap=realloc,--wrap=free -o "$work/$1"
+        "$top/bindings/tests/readers.c" "$2" "$top/crates/g3fax/out/libg3fax.a" "$kit/c/liblibc_c.a" -Wl,--wrap=malloc,--wrap=realloc,--wrap=free -o "$work/$1"
 }
 echo 'int main(void) { return 0; }' > "$work/empty.c"
 if "$CC" -fsanitize=thread "$work/empty.c" -o "$work/empty" 2> "$work/error" && "$work/empty" 2> "$work/error"; then
