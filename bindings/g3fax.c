@@ -1,5 +1,5 @@
 /* The functions of g3fax.h: each tests its addresses for NULL and the sizes of structs, and calls the proved function of the same name,
- * g3_core_.. A NULL handle is an empty one; if another address is NULL, the status is G3_BAD_LENGTH. Beside them there are only names of
+ * g3_core_.. A NULL handle is an empty one; if another address is NULL, the status is G3_NO_ADDRESS. Beside them there are only names of
  * numbers, and the version. */
 #include "g3fax.h"
 #include <string.h>
@@ -67,7 +67,9 @@ g3_status g3_core_row_reader_feed(handle *, const uint8_t *, size_t, uint64_t *)
 g3_status g3_core_row_reader_next(handle *, uint8_t *, size_t, uint64_t *, uint64_t *);
 
 #define HANDLE(it) do { if ((it) == NULL) return G3_EMPTY_HANDLE; } while (0)
-#define PLACE(it) do { if ((it) == NULL) return G3_BAD_LENGTH; } while (0)
+#define PLACE(it) do { if ((it) == NULL) return G3_NO_ADDRESS; } while (0)
+/* two handles at one address, of which one is to be filled, or moves into the other: none is both */
+#define APART(one, other, full) do { if ((void *)(one) == (void *)(other)) return (one)->at == NULL ? G3_EMPTY_HANDLE : (full); } while (0)
 /* octets at NULL are none: an address stands for them */
 #define OCTETS(it, length) do { if ((it) == NULL) { PLACE((length) == 0 ? none : NULL); (it) = none; } } while (0)
 static uint8_t none[1];
@@ -249,12 +251,12 @@ g3_status g3_row_coder_push_row(g3_row_coder *coder, const uint8_t *octets, size
 }
 g3_status g3_row_coder_take(g3_row_coder *coder, g3_octets *out)
 {
-    HANDLE(coder); HANDLE(out);
+    HANDLE(coder); HANDLE(out); APART(coder, out, G3_FULL_HANDLE);
     return g3_core_row_coder_take((handle *)coder, (handle *)out);
 }
 g3_status g3_row_coder_finish(g3_row_coder *coder, g3_octets *out)
 {
-    HANDLE(coder); HANDLE(out);
+    HANDLE(coder); HANDLE(out); APART(coder, out, G3_FULL_HANDLE);
     return g3_core_row_coder_finish((handle *)coder, (handle *)out);
 }
 g3_status g3_row_reader_new(g3_row_reader *out, const g3_code *code)
@@ -280,7 +282,9 @@ g3_status g3_octets_len(const g3_octets *octets, uint64_t *count)
 g3_status g3_octets_data(const g3_octets *octets, const uint8_t **data, uint64_t *count)
 {
     HANDLE(octets); PLACE(data); PLACE(count);
-    return g3_core_octets_data(READ(octets), data, count);
+    g3_status status = g3_core_octets_data(READ(octets), data, count);
+    if (status == G3_OK && *count == 0) *data = NULL;
+    return status;
 }
 g3_status g3_octets_copy(const g3_octets *octets, uint8_t *buffer, size_t room, uint64_t *count)
 {
@@ -320,7 +324,7 @@ g3_status g3_document_new(g3_document *out)
 }
 g3_status g3_document_push(g3_document *document, g3_page *page)
 {
-    HANDLE(document); HANDLE(page);
+    HANDLE(document); HANDLE(page); APART(document, page, G3_OTHER_HANDLE);
     return g3_core_document_push((handle *)document, (handle *)page);
 }
 g3_status g3_document_pages(const g3_document *document, uint64_t *count)
@@ -335,7 +339,7 @@ g3_status g3_answerer_new(g3_terminal *out, const g3_caps *caps)
 }
 g3_status g3_caller_new(g3_terminal *out, g3_document *document, const g3_wish *wish)
 {
-    HANDLE(out); HANDLE(document); SPARE(wish);
+    HANDLE(out); HANDLE(document); SPARE(wish); APART(out, document, G3_FULL_HANDLE);
     return g3_core_caller_new((handle *)out, (handle *)document, wish);
 }
 g3_status g3_terminal_hear(g3_terminal *terminal, const uint8_t *octets, size_t length)
@@ -396,7 +400,7 @@ g3_status g3_terminal_lost(g3_terminal *terminal)
 }
 g3_status g3_terminal_next_burst(g3_terminal *terminal, g3_octets *out, g3_burst *burst)
 {
-    HANDLE(terminal); HANDLE(out); SIZED(burst);
+    HANDLE(terminal); HANDLE(out); SIZED(burst); APART(terminal, out, G3_FULL_HANDLE);
     return spared(g3_core_terminal_next_burst((handle *)terminal, (handle *)out, REST(burst)), &burst->spare);
 }
 g3_status g3_terminal_state(const g3_terminal *terminal, g3_state *state)
@@ -425,12 +429,12 @@ g3_status g3_terminal_peer(const g3_terminal *terminal, g3_signal *signal)
 }
 g3_status g3_terminal_take_page(g3_terminal *terminal, g3_page *out)
 {
-    HANDLE(terminal); HANDLE(out);
+    HANDLE(terminal); HANDLE(out); APART(terminal, out, G3_FULL_HANDLE);
     return g3_core_terminal_take_page((handle *)terminal, (handle *)out);
 }
 g3_status g3_terminal_hold(g3_terminal *terminal, g3_page *out)
 {
-    HANDLE(terminal); HANDLE(out);
+    HANDLE(terminal); HANDLE(out); APART(terminal, out, G3_FULL_HANDLE);
     return g3_core_terminal_hold((handle *)terminal, (handle *)out);
 }
 g3_status g3_signal_read(const uint8_t *content, size_t length, g3_signal *signal)
@@ -462,6 +466,25 @@ _Static_assert(G3_VERSION_NUMBER == G3_BUILT, "g3fax.h has the number of another
 const char *g3_version(void) { return G3_VERSION; }
 uint32_t g3_version_number(void) { return G3_VERSION_NUMBER; }
 
+const char *g3_code_wrong(const g3_code *code)
+{
+    if (code->coding != G3_MH && code->coding != G3_MMR) return "coding";
+    if (code->order != G3_MSB_FIRST && code->order != G3_LSB_FIRST) return "order";
+    return NULL;
+}
+static int is_modems(uint32_t number) { return number >= G3_V27TER && number <= G3_V17; }
+const char *g3_caps_wrong(const g3_caps *caps)
+{
+    if (!is_modems(caps->modems)) return "modems";
+    if (caps->widest != 1728 && caps->widest != 2048 && caps->widest != 2432) return "widest";
+    return caps->limit == 0 ? "limit" : NULL;
+}
+const char *g3_wish_wrong(const g3_wish *wish)
+{
+    if (!is_modems(wish->modems)) return "modems";
+    if (wish->coding != G3_MH && wish->coding != G3_MMR) return "coding";
+    return wish->frame != 256 && wish->frame != 64 ? "frame" : NULL;
+}
 const char *g3_carrier_name(uint32_t carrier)
 {
     switch (carrier) {
@@ -539,10 +562,11 @@ const char *g3_status_text(g3_status status)
     case G3_FULL_HANDLE: return "the handle that is to be filled has something";
     case G3_NO_ROOM: return "the buffer has too little room";
     case G3_BAD_CHOICE: return "a number that stands for no choice";
-    case G3_BAD_LENGTH: return "a length that isn't allowed, or no address";
+    case G3_BAD_LENGTH: return "a length that isn't allowed";
     case G3_NOTHING: return "nothing is there";
     case G3_BAD_SIZE: return "the size that a struct begins with isn't its own: begin it by G3_INIT";
     case G3_NEWER_STRUCT: return "a struct is longer, or has more words, than this version of the library knows";
+    case G3_NO_ADDRESS: return "an address is NULL";
     case G3_FRAME_LOST: return "no memory: a frame that was heard is lost";
     default: return "no such status";
     }

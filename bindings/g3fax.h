@@ -33,10 +33,10 @@ typedef struct g3_row_coder { void *at; } g3_row_coder;
 typedef struct g3_row_reader { void *at; } g3_row_reader;
 #define G3_EMPTY {NULL}
 /* the same as a value, to be assigned: page = G3_EMPTY_OF(g3_page) */
-#ifdef __cplusplus
-#define G3_EMPTY_OF(type) (type G3_EMPTY)
-#else
+#ifndef __cplusplus
 #define G3_EMPTY_OF(type) ((type)G3_EMPTY)
+#else
+#define G3_EMPTY_OF(type) (type())
 #endif
 
 /* Each struct that the library writes begins with its own size in octets, which the program sets: g3_state state = G3_INIT(g3_state). So it
@@ -44,15 +44,24 @@ typedef struct g3_row_reader { void *at; } g3_row_reader;
  * version may have it, G3_NEWER_STRUCT; nothing is written then. The `spare` words of a struct are 0, until a later version names them: the
  * library writes 0, and reads only 0, else G3_NEWER_STRUCT. Numbers that are handed out, as listens, end, reason and kind, stay among those
  * that the program's version names; others come by new functions alone. */
-#ifdef __cplusplus
-#define G3_INIT(type) ([] { type it = type(); it.size = sizeof it; return it; }())
-#else
+#ifndef __cplusplus
 #define G3_INIT(type) {.size = sizeof(type)}
+#else
+extern "C++" {
+template <class type> inline type g3_init() { type it = type(); it.size = sizeof it; return it; }
+}
+#define G3_INIT(type) (g3_init<type>())
+#endif
+/* the same as a value, to be assigned: state = G3_INIT_OF(g3_state) */
+#ifndef __cplusplus
+#define G3_INIT_OF(type) ((type)G3_INIT(type))
+#else
+#define G3_INIT_OF(type) G3_INIT(type)
 #endif
 
 /* What each function answers. By any status above 0, G3_FRAME_LOST aside, each handle is as it was. */
 typedef uint32_t g3_status;
-enum {
+enum g3_status_number {
     G3_OK = 0,
     /* faults of pages and images */
     G3_BAD_WIDTH = 1, G3_TOO_MANY_ROWS = 3, G3_NO_ROWS = 4, G3_BAD_HEADER = 5, G3_SHORT_DATA = 6, G3_NO_IMAGE = 7, G3_NO_MEMORY = 9,
@@ -67,13 +76,13 @@ enum {
     G3_NOT_COMPATIBLE = 28,
     /* wrong use */
     G3_EMPTY_HANDLE = 100, G3_OTHER_HANDLE = 101, G3_FULL_HANDLE = 102, G3_NO_ROOM = 103, G3_BAD_CHOICE = 104, G3_BAD_LENGTH = 105,
-    G3_NOTHING = 106, G3_BAD_SIZE = 107, G3_NEWER_STRUCT = 109,
+    G3_NOTHING = 106, G3_BAD_SIZE = 107, G3_NEWER_STRUCT = 109, G3_NO_ADDRESS = 110,
     /* octets of the line were taken, and memory was refused: a frame in them is lost, as on a line */
     G3_FRAME_LOST = 108
 };
 
-enum { G3_MH = 1, G3_MMR = 2 };              /* T.4 in one dimension, T.6 */
-enum { G3_MSB_FIRST = 0, G3_LSB_FIRST = 1 }; /* which bit of an octet is first */
+enum g3_coding { G3_MH = 1, G3_MMR = 2 };              /* T.4 in one dimension, T.6 */
+enum g3_order { G3_MSB_FIRST = 0, G3_LSB_FIRST = 1 }; /* which bit of an octet is first */
 
 typedef struct g3_size {
     uint64_t size;  /* of this struct */
@@ -151,7 +160,7 @@ G3_CHECK g3_status g3_page_repair(const uint8_t *octets, size_t length, const g3
 
 /* what octets are: a page, or pages, that read in one way; a file of another format; a page whose width isn't known, since several fit;
  * nothing that is known; a page that can't be read to its end */
-enum { G3_FOUND_PAGE = 1, G3_FOUND_FORMAT = 2, G3_FOUND_SEVERAL = 3, G3_FOUND_NOTHING = 4, G3_FOUND_BEGUN = 5 };
+enum g3_found_kind { G3_FOUND_PAGE = 1, G3_FOUND_FORMAT = 2, G3_FOUND_SEVERAL = 3, G3_FOUND_NOTHING = 4, G3_FOUND_BEGUN = 5 };
 
 /* what octets are; what doesn't belong to the kind is 0 */
 typedef struct g3_found {
@@ -203,7 +212,7 @@ G3_CHECK g3_status g3_row_reader_next(g3_row_reader *reader, uint8_t *buffer, si
 
 /* Octets that a call has made. *count: how many there are, also where G3_NO_ROOM is answered. */
 G3_CHECK g3_status g3_octets_len(const g3_octets *octets, uint64_t *count);
-/* Where they are: *data is the address of *count octets, to be read until the handle changes or is freed. Of no octets it is no address. */
+/* Where they are: *data is the address of *count octets, to be read until the handle changes or is freed. Of no octets it is NULL. */
 G3_CHECK g3_status g3_octets_data(const g3_octets *octets, const uint8_t **data, uint64_t *count);
 G3_CHECK g3_status g3_octets_copy(const g3_octets *octets, uint8_t *buffer, size_t room, uint64_t *count);
 
@@ -231,7 +240,7 @@ G3_CHECK g3_status g3_document_pages(const g3_document *document, uint64_t *coun
  * that g3_terminal_state names. */
 
 /* the modems of a station: V.27 ter alone, V.27 ter and V.29, or these and V.17 */
-enum { G3_V27TER = 1, G3_V29 = 2, G3_V17 = 3 };
+enum g3_modems { G3_V27TER = 1, G3_V29 = 2, G3_V17 = 3 };
 
 typedef struct g3_caps {
     uint32_t modems; /* G3_V27TER, G3_V29 or G3_V17 */
@@ -248,6 +257,11 @@ typedef struct g3_wish {
     uint32_t frame;  /* the octets of data in a frame: 256 or 64 */
     uint32_t spare[5];
 } g3_wish;
+
+/* The name of the first field whose number stands for no choice, by which G3_BAD_CHOICE was answered, as "widest"; NULL: there is none. */
+const char *g3_code_wrong(const g3_code *code);
+const char *g3_caps_wrong(const g3_caps *caps);
+const char *g3_wish_wrong(const g3_wish *wish);
 
 /* An answerer, whose first burst is DIS. G3_BAD_CHOICE: a number of caps stands for no choice. */
 G3_CHECK g3_status g3_answerer_new(g3_terminal *out, const g3_caps *caps);
@@ -266,14 +280,14 @@ G3_CHECK g3_status g3_terminal_hear_frame(g3_terminal *terminal, const uint8_t *
 G3_CHECK g3_status g3_terminal_hear_training(g3_terminal *terminal, const uint8_t *octets, size_t length);
 
 /* the waits of T.30, 5.4.3.1 */
-enum { G3_T1 = 1, G3_T2 = 2, G3_T4 = 4, G3_T5 = 5 };
+enum g3_wait { G3_T1 = 1, G3_T2 = 2, G3_T4 = 4, G3_T5 = 5 };
 /* A wait is over; one that doesn't run changes nothing. G3_BAD_CHOICE: no such wait. */
 G3_CHECK g3_status g3_terminal_wait_over(g3_terminal *terminal, uint32_t wait);
 /* How long a wait runs, in milliseconds; 0 for a number that is no wait. */
 uint32_t g3_wait_millis(uint32_t wait);
 
 /* what the line of a call is at a tick: nothing is on it; or a carrier of either station is, or has just ended */
-enum { G3_QUIET = 1, G3_CARRIER = 2 };
+enum g3_line { G3_QUIET = 1, G3_CARRIER = 2 };
 /* Tells a terminal the time, in milliseconds since its call was set up, and what the line is: a wait that is over on a quiet line ends. Call
  * it when the line changes, after each burst that was sent, and when g3_terminal_due says; g3_terminal_wait_over isn't called then. Frames and
  * checks that were heard since the last tick are heard now. G3_BAD_CHOICE: no such line, or a time before that of the last tick. */
@@ -294,7 +308,7 @@ g3_status g3_terminal_hang_up(g3_terminal *terminal);
 g3_status g3_terminal_lost(g3_terminal *terminal);
 
 /* what a burst goes out on, by the bits a second of it: a training check and the frames of a page go by the same */
-enum {
+enum g3_carrier {
     G3_V21 = 1, G3_V27TER_2400 = 2, G3_V27TER_4800 = 3, G3_V29_7200 = 4, G3_V29_9600 = 5, G3_V17_7200 = 6, G3_V17_9600 = 7,
     G3_V17_12000 = 8, G3_V17_14400 = 9
 };
@@ -319,9 +333,9 @@ G3_CHECK g3_status g3_terminal_next_burst(g3_terminal *terminal, g3_octets *out,
 
 /* what a station listens for: V.21 alone; a training check by `carrier`; V.21, and the frames of a page by `carrier`, one of which comes next;
  * or the same where V.21 comes first, and pages only after it: for a modem that hears one carrier at a time */
-enum { G3_HEARS_V21 = 1, G3_HEARS_CHECK = 2, G3_HEARS_PAGES = 3, G3_HEARS_V21_THEN_PAGES = 4 };
+enum g3_hears { G3_HEARS_V21 = 1, G3_HEARS_CHECK = 2, G3_HEARS_PAGES = 3, G3_HEARS_V21_THEN_PAGES = 4 };
 /* why a call ended */
-enum {
+enum g3_end {
     G3_END_NORMAL = 1,         /* all pages went over */
     G3_END_NO_ANSWER = 2,      /* no DIS or no DCS came */
     G3_END_NOT_COMPATIBLE = 3,
@@ -354,7 +368,7 @@ G3_CHECK g3_status g3_terminal_state(const g3_terminal *terminal, g3_state *stat
 
 /* why a call is refused: a second DCS is without error correction, or has a speed, a width, lines or a code that aren't offered; or a page has
  * come under the number of the last one, from which it can't be told, so that the terminal has stopped the call in place of confirming it */
-enum { G3_REFUSED_NO_ECM = 1, G3_REFUSED_NOT_OFFERED = 2, G3_REFUSED_USED_NUMBER = 3 };
+enum g3_refused { G3_REFUSED_NO_ECM = 1, G3_REFUSED_NOT_OFFERED = 2, G3_REFUSED_USED_NUMBER = 3 };
 
 /* how far a call is; what belongs to the other station is 0 */
 typedef struct g3_progress {
@@ -388,16 +402,16 @@ G3_CHECK g3_status g3_terminal_hold(g3_terminal *terminal, g3_page *out);
  * terminal needs none of it. */
 
 /* the kinds of signals; G3_OTHER is one of another facsimile control field, or a DCS or PPS that says what isn't known here */
-enum {
+enum g3_kind {
     G3_DIS = 1, G3_DCS = 2, G3_CFR = 3, G3_FTT = 4, G3_FCD = 5, G3_RCP = 6, G3_PPS = 7, G3_PPR = 8, G3_MCF = 9, G3_RNR = 10, G3_RR = 11,
     G3_DCN = 12, G3_OTHER = 13
 };
 /* the modems of a DIS beside G3_V27TER, G3_V29 (with V.27 ter) and G3_V17 (with both) */
-enum { G3_V29_ALONE = 4, G3_V27TER_2400_ALONE = 5 };
+enum g3_modems_alone { G3_V29_ALONE = 4, G3_V27TER_2400_ALONE = 5 };
 /* what ends with the block of a PPS: nothing more, a page (MPS), the last page of a group (EOM), the last page (EOP) */
-enum { G3_BLOCK_ALONE = 1, G3_MPS = 2, G3_EOM = 3, G3_EOP = 4 };
+enum g3_block_end { G3_BLOCK_ALONE = 1, G3_MPS = 2, G3_EOM = 3, G3_EOP = 4 };
 /* who sends: the first bit of most facsimile control fields says it */
-enum { G3_CALLER = 1, G3_ANSWERER = 2 };
+enum g3_side { G3_CALLER = 1, G3_ANSWERER = 2 };
 
 /* what a station can do, as its DIS says it; 1 is yes, 0 no */
 typedef struct g3_dis {
@@ -452,7 +466,7 @@ G3_CHECK g3_status g3_signal_write(const g3_signal *signal, uint32_t side, uint3
 
 /* why two stations don't agree; of several reasons the first one: it doesn't receive, it has no error correction, the page is too wide for
  * it, it takes no fine lines, no speed is common */
-enum { G3_NO_RECEIVER = 1, G3_NO_ECM = 2, G3_TOO_WIDE = 3, G3_NO_FINE = 4, G3_NO_COMMON_SPEED = 5 };
+enum g3_reason { G3_NO_RECEIVER = 1, G3_NO_ECM = 2, G3_TOO_WIDE = 3, G3_NO_FINE = 4, G3_NO_COMMON_SPEED = 5 };
 
 typedef struct g3_params {
     uint64_t size; /* of this struct */

@@ -28,7 +28,7 @@ IS(g3_params, 40, dcs, 8);
 IS(g3_block, 32, spare, 16);
 IS(g3_signal, 424, octets, 128);
 IS(g3_found, 96, format, 48);
-_Static_assert(G3_TOO_MANY_CODED_ROWS == 18 && G3_SHORT_FIELD == 22 && G3_NOTHING == 106 && G3_BAD_SIZE == 107 && G3_FRAME_LOST == 108 && G3_NEWER_STRUCT == 109, "a status has changed");
+_Static_assert(G3_TOO_MANY_CODED_ROWS == 18 && G3_SHORT_FIELD == 22 && G3_NOTHING == 106 && G3_BAD_SIZE == 107 && G3_FRAME_LOST == 108 && G3_NEWER_STRUCT == 109 && G3_NO_ADDRESS == 110, "a status has changed");
 _Static_assert(G3_MMR == 2 && G3_LSB_FIRST == 1 && G3_V17 == 3 && G3_T5 == 5 && G3_HEARS_PAGES == 3 && G3_HEARS_V21_THEN_PAGES == 4, "a choice has changed");
 _Static_assert(G3_V17_14400 == 9 && G3_END_LINE_LOST == 12 && G3_OTHER == 13 && G3_EOP == 4, "a choice has changed");
 _Static_assert(G3_NO_COMMON_SPEED == 5 && G3_V27TER_2400_ALONE == 5 && G3_ANSWERER == 2 && G3_REFUSED_NOT_OFFERED == 2, "a choice has changed");

@@ -152,7 +152,7 @@ int main(int argc, char **argv)
         g3_status status = call(below(66), below(50) ? &handles[first] : NULL, below(50) ? &handles[second] : NULL);
         int is_known = status <= G3_TOO_MANY_CODED_ROWS || (status >= G3_BAD_ADDRESS && status <= G3_SHORT_FIELD)
             || status == G3_NOT_CALLABLE || status == G3_NOT_COMPATIBLE
-            || (status >= G3_EMPTY_HANDLE && status <= G3_NEWER_STRUCT);
+            || (status >= G3_EMPTY_HANDLE && status <= G3_NO_ADDRESS);
         if (!is_known) printf("status %u\n", status), bad = 1;
     }
     for (int at = 0; at < 8; at++) g3_page_free(&handles[at]);

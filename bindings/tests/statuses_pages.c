@@ -30,7 +30,7 @@ static void pages(void)
     IS(G3_FULL_HANDLE, g3_page_new(&a, 1728, 1));
     IS(G3_OTHER_HANDLE, g3_deframer_feed((g3_deframer *)&a, octets, 1)); /* a compiler refuses this without the cast */
     IS(G3_BAD_LENGTH, g3_page_push_row(&a, octets, 215));
-    IS(G3_BAD_LENGTH, g3_page_push_row(&a, NULL, 216));
+    IS(G3_NO_ADDRESS, g3_page_push_row(&a, NULL, 216));
     IS(G3_NO_ROWS, g3_page_encode(&a, G3_MMR, G3_MSB_FIRST, &code));
     IS(G3_NO_ROWS, g3_page_write_pbm(&a, &code));
     IS(G3_OK, g3_page_push_row(&a, octets, 216));
@@ -39,8 +39,8 @@ static void pages(void)
     IS(G3_NO_ROOM, g3_page_row(&a, 0, octets, 215, &n));
     IS(216, (g3_status)n);
     IS(G3_NOTHING, g3_page_row(&a, 1, octets, 400, &n));
-    IS(G3_BAD_LENGTH, g3_page_row(&a, 0, octets, 400, NULL));
-    IS(G3_BAD_LENGTH, g3_page_size(&a, NULL));
+    IS(G3_NO_ADDRESS, g3_page_row(&a, 0, octets, 400, NULL));
+    IS(G3_NO_ADDRESS, g3_page_size(&a, NULL));
     SIZES(size, g3_page_size(&a, &size));
     IS(G3_OK, g3_page_size(&a, &size));
     IS(1, size.width == 1728 && size.rows == 1 && size.fine == 1);
@@ -51,11 +51,11 @@ static void pages(void)
     IS(G3_FULL_HANDLE, g3_page_encode(&a, G3_MMR, G3_MSB_FIRST, &code));
     IS(G3_OTHER_HANDLE, g3_page_size((g3_page *)&code, &size));
     IS(G3_NO_ROOM, g3_octets_copy(&code, NULL, 0, &n));
-    IS(G3_BAD_LENGTH, g3_octets_data(&code, NULL, &n));
-    IS(G3_BAD_LENGTH, g3_octets_data(&code, &data, NULL));
+    IS(G3_NO_ADDRESS, g3_octets_data(&code, NULL, &n));
+    IS(G3_NO_ADDRESS, g3_octets_data(&code, &data, NULL));
     IS(G3_OTHER_HANDLE, g3_octets_data((g3_octets *)&a, &data, &n));
     IS(G3_OTHER_HANDLE, g3_octets_len((g3_octets *)&a, &n));
-    IS(G3_BAD_LENGTH, g3_octets_len(&code, NULL));
+    IS(G3_NO_ADDRESS, g3_octets_len(&code, NULL));
     IS(1, data == octets); /* it is as it was */
     IS(G3_OK, g3_octets_data(&code, &data, &length));
     IS(1, length == n && g3_octets_copy(&code, octets, sizeof octets, &n) == G3_NO_ROOM);
@@ -76,14 +76,14 @@ static void rasters(void)
     IS(G3_BAD_LENGTH, g3_page_read_raster(octets, 400, &close, &a));
     IS(G3_BAD_LENGTH, g3_page_read_raster(octets, 400, &far, &a));
     IS(G3_BAD_LENGTH, g3_page_read_raster(octets, 4, &two, &a));
-    IS(G3_BAD_LENGTH, g3_page_read_raster(NULL, 5, &two, &a));
-    IS(G3_BAD_LENGTH, g3_page_read_raster(octets, 5, NULL, &a));
+    IS(G3_NO_ADDRESS, g3_page_read_raster(NULL, 5, &two, &a));
+    IS(G3_NO_ADDRESS, g3_page_read_raster(octets, 5, NULL, &a));
     IS(G3_EMPTY_HANDLE, g3_page_read_raster(octets, 5, &two, NULL));
     IS(G3_EMPTY_HANDLE, g3_page_write_raster(&a, 2, octets, 400, &n));
     IS(G3_OK, g3_page_read_raster(octets, 5, &two, &a));
     IS(G3_FULL_HANDLE, g3_page_read_raster(octets, 5, &two, &a));
     IS(G3_BAD_LENGTH, g3_page_write_raster(&a, 1, octets, 400, &n));
-    IS(G3_BAD_LENGTH, g3_page_write_raster(&a, 2, octets, 400, NULL));
+    IS(G3_NO_ADDRESS, g3_page_write_raster(&a, 2, octets, 400, NULL));
     IS(G3_NO_ROOM, g3_page_write_raster(&a, 4, octets, 5, &n));
     IS(6, (g3_status)n);
     IS(G3_OK, g3_page_write_raster(&a, 4, octets, 6, &n));
@@ -114,8 +114,8 @@ static void coded(void)
     IS(G3_BAD_CHOICE, g3_page_decode(octets, 4, &other, &a, &place));
     IS(G3_BAD_WIDTH, g3_page_decode(octets, 4, &wide, &a, &place));
     IS(G3_NO_ROWS, g3_page_decode(NULL, 0, &mh, &a, &place));
-    IS(G3_BAD_LENGTH, g3_page_decode(octets, 4, NULL, &a, &place));
-    IS(G3_BAD_LENGTH, g3_page_decode(NULL, 4, &mh, &a, &place));
+    IS(G3_NO_ADDRESS, g3_page_decode(octets, 4, NULL, &a, &place));
+    IS(G3_NO_ADDRESS, g3_page_decode(NULL, 4, &mh, &a, &place));
     IS(G3_BAD_CHOICE, g3_page_repair(octets, 4, &mmr, &a, &place));
     IS(G3_NO_ROWS, g3_page_repair(octets, 4, &mh, &a, &place));
     IS(G3_NO_IMAGE, g3_page_read_pbm(octets, 0, 0, &a, &place));
@@ -147,8 +147,8 @@ static void identified(void)
 {
     g3_found found = G3_INIT(g3_found);
     uint8_t two[24] = {0}, white[8] = {0x80, 0x08, 0x00, 0x80, 0x80};
-    IS(G3_BAD_LENGTH, g3_identify(two, 24, NULL));
-    IS(G3_BAD_LENGTH, g3_identify(NULL, 24, &found));
+    IS(G3_NO_ADDRESS, g3_identify(two, 24, NULL));
+    IS(G3_NO_ADDRESS, g3_identify(NULL, 24, &found));
     SIZES(found, g3_identify(two, 24, &found));
     memset(found.format, 0x5A, sizeof found.format);
     IS(G3_OK, g3_identify(NULL, 0, &found));
@@ -173,9 +173,9 @@ static void files(void)
     uint8_t two[24] = {0}, same[24], white[8] = {0x80, 0x08, 0x00, 0x80, 0, 0, 0x80, 0x08};
     join(two);
     memcpy(same, two, sizeof same);
-    IS(G3_BAD_LENGTH, g3_page_next(two, 24, NULL, 89, &next));
-    IS(G3_BAD_LENGTH, g3_page_next(NULL, 24, &mh, 89, &next));
-    IS(G3_BAD_LENGTH, g3_page_next(two, 24, &mh, 89, NULL));
+    IS(G3_NO_ADDRESS, g3_page_next(two, 24, NULL, 89, &next));
+    IS(G3_NO_ADDRESS, g3_page_next(NULL, 24, &mh, 89, &next));
+    IS(G3_NO_ADDRESS, g3_page_next(two, 24, &mh, 89, NULL));
     IS(G3_BAD_CHOICE, g3_page_next(two, 24, &odd, 89, &next));
     IS(G3_BAD_CHOICE, g3_page_next(two, 24, &other, 89, &next));
     IS(G3_NOTHING, g3_page_next(two, 24, &mh, 178, &next));
@@ -204,7 +204,7 @@ static void frames(void)
     IS(G3_OK, g3_deframer_new(&d));
     IS(G3_NO_ROOM, g3_deframer_next(&d, octets, 299, &n));
     IS(G3_NOTHING, g3_deframer_next(&d, octets, 300, &n));
-    IS(G3_BAD_LENGTH, g3_deframer_counts(&d, NULL));
+    IS(G3_NO_ADDRESS, g3_deframer_counts(&d, NULL));
     SIZES(counts, g3_deframer_counts(&d, &counts));
     IS(G3_OK, g3_deframer_counts(&d, &counts));
     IS(0, (g3_status)counts.good);

@@ -23,8 +23,8 @@ static void signals(void)
     IS(G3_SHORT_FIELD, g3_signal_read(few, 5, &s));
     IS(G3_SHORT_FIELD, g3_signal_read(cut, 2, &s));
     IS(G3_SHORT_FIELD, g3_signal_read(NULL, 0, &s));
-    IS(G3_BAD_LENGTH, g3_signal_read(NULL, 3, &s));
-    IS(G3_BAD_LENGTH, g3_signal_read(mcf, 3, NULL));
+    IS(G3_NO_ADDRESS, g3_signal_read(NULL, 3, &s));
+    IS(G3_NO_ADDRESS, g3_signal_read(mcf, 3, NULL));
     IS(1, s.number == 5 && s.kind == 0); /* it is as it was */
     SIZES(s, g3_signal_read(mcf, 6, &s));
     SIZES(s, g3_signal_write(&s, G3_CALLER, 0, octets, sizeof octets, &n));
@@ -53,9 +53,9 @@ static void signals(void)
     IS(7, (g3_status)n);
     IS(G3_OK, g3_signal_write(&s, G3_CALLER, 0, octets, 7, &n));
     IS(0, (g3_status)memcmp(octets, fcd, 7));
-    IS(G3_BAD_LENGTH, g3_signal_write(NULL, G3_CALLER, 0, octets, 7, &n));
-    IS(G3_BAD_LENGTH, g3_signal_write(&s, G3_CALLER, 0, NULL, 7, &n));
-    IS(G3_BAD_LENGTH, g3_signal_write(&s, G3_CALLER, 0, octets, 7, NULL));
+    IS(G3_NO_ADDRESS, g3_signal_write(NULL, G3_CALLER, 0, octets, 7, &n));
+    IS(G3_NO_ADDRESS, g3_signal_write(&s, G3_CALLER, 0, NULL, 7, &n));
+    IS(G3_NO_ADDRESS, g3_signal_write(&s, G3_CALLER, 0, octets, 7, NULL));
     s.number = 256;
     refuses(G3_BAD_CHOICE, &s, G3_CALLER);
     s = fresh;
@@ -105,10 +105,10 @@ static void agreement(void)
     IS(G3_BAD_CHOICE, g3_agree(&all, &odd, 1728, 1, &p, &why));
     d.modems = 6;
     IS(G3_BAD_CHOICE, g3_agree(&d, &wish, 1728, 1, &p, &why));
-    IS(G3_BAD_LENGTH, g3_agree(NULL, &wish, 1728, 1, &p, &why));
-    IS(G3_BAD_LENGTH, g3_agree(&all, NULL, 1728, 1, &p, &why));
-    IS(G3_BAD_LENGTH, g3_agree(&all, &wish, 1728, 1, NULL, &why));
-    IS(G3_BAD_LENGTH, g3_agree(&all, &wish, 1728, 1, &p, NULL));
+    IS(G3_NO_ADDRESS, g3_agree(NULL, &wish, 1728, 1, &p, &why));
+    IS(G3_NO_ADDRESS, g3_agree(&all, NULL, 1728, 1, &p, &why));
+    IS(G3_NO_ADDRESS, g3_agree(&all, &wish, 1728, 1, NULL, &why));
+    IS(G3_NO_ADDRESS, g3_agree(&all, &wish, 1728, 1, &p, NULL));
 }
 
 int main(void)

@@ -19,14 +19,14 @@ static void documents(void)
     IS(G3_OTHER_HANDLE, g3_document_push((g3_document *)&a, (g3_page *)&d));
     IS(G3_OK, g3_document_push(&d, &a));
     IS(G3_EMPTY_HANDLE, g3_document_push(&d, &a)); /* the page has moved */
-    IS(G3_BAD_LENGTH, g3_document_pages(&d, NULL));
+    IS(G3_NO_ADDRESS, g3_document_pages(&d, NULL));
     IS(G3_OK, g3_document_pages(&d, &n));
     IS(1, (g3_status)n);
     SPARES(odd.spare, g3_caller_new(&t, &d, &odd));
     IS(G3_BAD_CHOICE, g3_caller_new(&t, &d, &odd));
     IS(G3_BAD_CHOICE, g3_caller_new(&t, &d, &other));
     IS(G3_BAD_CHOICE, g3_caller_new(&t, &d, &large));
-    IS(G3_BAD_LENGTH, g3_caller_new(&t, &d, NULL));
+    IS(G3_NO_ADDRESS, g3_caller_new(&t, &d, NULL));
     IS(G3_OK, g3_page_new(&narrow, 1727, 1));
     IS(G3_OK, g3_page_push_row(&narrow, octets, 216));
     IS(G3_OTHER_HANDLE, g3_caller_new(&t, (g3_document *)&narrow, &wish));
@@ -48,25 +48,25 @@ static void terminals(void)
     IS(G3_BAD_CHOICE, g3_answerer_new(&t, &odd));
     IS(G3_BAD_CHOICE, g3_answerer_new(&t, &wide));
     IS(G3_BAD_CHOICE, g3_answerer_new(&t, &none));
-    IS(G3_BAD_LENGTH, g3_answerer_new(&t, NULL));
+    IS(G3_NO_ADDRESS, g3_answerer_new(&t, NULL));
     IS(G3_EMPTY_HANDLE, g3_terminal_hear(&t, octets, 1));
     IS(G3_OK, g3_answerer_new(&t, &caps));
     IS(G3_FULL_HANDLE, g3_answerer_new(&t, &caps));
-    IS(G3_BAD_LENGTH, g3_terminal_hear(&t, NULL, 1));
+    IS(G3_NO_ADDRESS, g3_terminal_hear(&t, NULL, 1));
     IS(G3_OK, g3_terminal_hear(&t, NULL, 0));
     IS(G3_BAD_CHOICE, g3_terminal_wait_over(&t, 3));
     IS(G3_OK, g3_terminal_wait_over(&t, G3_T4)); /* it doesn't run: nothing changes */
     IS(0, g3_wait_millis(3));
     IS(35000, g3_wait_millis(G3_T1));
     IS(G3_NOTHING, g3_terminal_take_page(&t, &p));
-    IS(G3_BAD_LENGTH, g3_terminal_next_burst(&t, &o, NULL));
+    IS(G3_NO_ADDRESS, g3_terminal_next_burst(&t, &o, NULL));
     SIZES(burst, g3_terminal_next_burst(&t, &o, &burst)); /* nothing is sent */
     IS(G3_OK, g3_terminal_next_burst(&t, &o, &burst));
     IS(1, burst.carrier == G3_V21 && burst.check == 0 && burst.last == 1);
     IS(G3_FULL_HANDLE, g3_terminal_next_burst(&t, &o, &burst));
     g3_octets_free(&o);
     IS(G3_NOTHING, g3_terminal_next_burst(&t, &o, &burst));
-    IS(G3_BAD_LENGTH, g3_terminal_state(&t, NULL));
+    IS(G3_NO_ADDRESS, g3_terminal_state(&t, NULL));
     SIZES(state, g3_terminal_state(&t, &state));
     IS(G3_OK, g3_terminal_lost(&t));
     IS(G3_OK, g3_terminal_stop(&t)); /* it has ended, and stays as it ended */
@@ -99,7 +99,7 @@ static void clocks(void)
     IS(G3_EMPTY_HANDLE, g3_terminal_tick(NULL, 0, G3_QUIET));
     IS(G3_EMPTY_HANDLE, g3_terminal_due(&t, &at));
     IS(G3_OK, g3_answerer_new(&t, &caps));
-    IS(G3_BAD_LENGTH, g3_terminal_due(&t, NULL));
+    IS(G3_NO_ADDRESS, g3_terminal_due(&t, NULL));
     IS(G3_BAD_CHOICE, g3_terminal_tick(&t, 0, 0));
     IS(G3_BAD_CHOICE, g3_terminal_tick(&t, 0, 3));
     IS(G3_OK, g3_terminal_next_burst(&t, &o, &burst));
@@ -148,18 +148,18 @@ static void agreed(void)
     IS(G3_EMPTY_HANDLE, g3_terminal_hear_frame(&empty, octets, 3));
     IS(G3_BAD_LENGTH, g3_terminal_hear_frame(&t, octets, 2));
     IS(G3_BAD_LENGTH, g3_terminal_hear_frame(&t, octets, 301));
-    IS(G3_BAD_LENGTH, g3_terminal_hear_frame(&t, NULL, 3));
+    IS(G3_NO_ADDRESS, g3_terminal_hear_frame(&t, NULL, 3));
     IS(G3_EMPTY_HANDLE, g3_terminal_progress(&empty, &far));
-    IS(G3_BAD_LENGTH, g3_terminal_progress(&t, NULL));
+    IS(G3_NO_ADDRESS, g3_terminal_progress(&t, NULL));
     SIZES(far, g3_terminal_progress(&t, &far));
     IS(G3_OK, g3_terminal_progress(&t, &far));
     IS(0, far.pages + far.accepted + far.octets + far.frames + far.refused + far.refused_why + far.gap + far.gap_page);
     IS(G3_EMPTY_HANDLE, g3_terminal_params(&empty, &params));
-    IS(G3_BAD_LENGTH, g3_terminal_params(&t, NULL));
+    IS(G3_NO_ADDRESS, g3_terminal_params(&t, NULL));
     SIZES(none, g3_terminal_params(&t, &none));
     IS(G3_NOTHING, g3_terminal_params(&t, &params)); /* no DCS has come */
     IS(G3_EMPTY_HANDLE, g3_terminal_peer(NULL, &peer));
-    IS(G3_BAD_LENGTH, g3_terminal_peer(&t, NULL));
+    IS(G3_NO_ADDRESS, g3_terminal_peer(&t, NULL));
     SIZES(unknown, g3_terminal_peer(&t, &unknown));
     IS(G3_NOTHING, g3_terminal_peer(&t, &peer));
     IS(1, params.dcs.carrier == 7 && peer.kind == 77); /* they are as they were */

@@ -57,6 +57,8 @@ def words(comment):
 def items(header):
     """The declarations of the header, in order."""
     body = header[header.index("/* The version of this header"):header.rindex("#ifdef __cplusplus")]
+    # the side of C: what C++ has in its place is after #else
+    body = re.sub(r"^#ifndef __cplusplus\n(.*?)^#else\n.*?^#endif\n", r"\1", body, flags=re.M | re.S)
     comment, at, found = None, 0, []
     while at < len(body):
         rest = body[at:]

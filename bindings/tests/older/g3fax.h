@@ -25,18 +25,26 @@ typedef struct g3_terminal { void *at; } g3_terminal;
 typedef struct g3_row_coder { void *at; } g3_row_coder;
 typedef struct g3_row_reader { void *at; } g3_row_reader;
 #define G3_EMPTY {NULL}
-#ifdef __cplusplus
-#define G3_EMPTY_OF(type) (type G3_EMPTY)
-#else
+#ifndef __cplusplus
 #define G3_EMPTY_OF(type) ((type)G3_EMPTY)
-#endif
-#ifdef __cplusplus
-#define G3_INIT(type) ([] { type it = type(); it.size = sizeof it; return it; }())
 #else
+#define G3_EMPTY_OF(type) (type())
+#endif
+#ifndef __cplusplus
 #define G3_INIT(type) {.size = sizeof(type)}
+#else
+extern "C++" {
+template <class type> inline type g3_init() { type it = type(); it.size = sizeof it; return it; }
+}
+#define G3_INIT(type) (g3_init<type>())
+#endif
+#ifndef __cplusplus
+#define G3_INIT_OF(type) ((type)G3_INIT(type))
+#else
+#define G3_INIT_OF(type) G3_INIT(type)
 #endif
 typedef uint32_t g3_status;
-enum {
+enum g3_status_number {
     G3_OK = 0,
     G3_BAD_WIDTH = 1, G3_TOO_MANY_ROWS = 3, G3_NO_ROWS = 4, G3_BAD_HEADER = 5, G3_SHORT_DATA = 6, G3_NO_IMAGE = 7, G3_NO_MEMORY = 9,
     G3_BAD_CODE = 10, G3_TRUNCATED = 11, G3_RUN_TOO_LONG = 12, G3_BACKWARDS = 13, G3_PAST_END = 14, G3_EMPTY_HORIZONTAL = 15,
@@ -45,11 +53,11 @@ enum {
     G3_NOT_CALLABLE = 26,
     G3_NOT_COMPATIBLE = 28,
     G3_EMPTY_HANDLE = 100, G3_OTHER_HANDLE = 101, G3_FULL_HANDLE = 102, G3_NO_ROOM = 103, G3_BAD_CHOICE = 104, G3_BAD_LENGTH = 105,
-    G3_NOTHING = 106, G3_BAD_SIZE = 107, G3_NEWER_STRUCT = 109,
+    G3_NOTHING = 106, G3_BAD_SIZE = 107, G3_NEWER_STRUCT = 109, G3_NO_ADDRESS = 110,
     G3_FRAME_LOST = 108
 };
-enum { G3_MH = 1, G3_MMR = 2 };
-enum { G3_MSB_FIRST = 0, G3_LSB_FIRST = 1 };
+enum g3_coding { G3_MH = 1, G3_MMR = 2 };
+enum g3_order { G3_MSB_FIRST = 0, G3_LSB_FIRST = 1 };
 typedef struct g3_size {
     uint64_t size;
     uint32_t width;
@@ -95,7 +103,7 @@ G3_CHECK g3_status g3_page_encode(const g3_page *page, uint32_t coding, uint32_t
 G3_CHECK g3_status g3_page_decode(const uint8_t *octets, size_t length, const g3_code *code, g3_page *out, uint64_t *place);
 G3_CHECK g3_status g3_page_salvage(const uint8_t *octets, size_t length, const g3_code *code, g3_page *out);
 G3_CHECK g3_status g3_page_repair(const uint8_t *octets, size_t length, const g3_code *code, g3_page *out, uint64_t *count);
-enum { G3_FOUND_PAGE = 1, G3_FOUND_FORMAT = 2, G3_FOUND_SEVERAL = 3, G3_FOUND_NOTHING = 4, G3_FOUND_BEGUN = 5 };
+enum g3_found_kind { G3_FOUND_PAGE = 1, G3_FOUND_FORMAT = 2, G3_FOUND_SEVERAL = 3, G3_FOUND_NOTHING = 4, G3_FOUND_BEGUN = 5 };
 typedef struct g3_found {
     uint64_t size;
     uint64_t place;
@@ -131,7 +139,7 @@ G3_CHECK g3_status g3_frame_write(const uint8_t *content, size_t length, g3_octe
 G3_CHECK g3_status g3_document_new(g3_document *out);
 G3_CHECK g3_status g3_document_push(g3_document *document, g3_page *page);
 G3_CHECK g3_status g3_document_pages(const g3_document *document, uint64_t *count);
-enum { G3_V27TER = 1, G3_V29 = 2, G3_V17 = 3 };
+enum g3_modems { G3_V27TER = 1, G3_V29 = 2, G3_V17 = 3 };
 typedef struct g3_caps {
     uint32_t modems;
     uint32_t t6;
@@ -146,15 +154,18 @@ typedef struct g3_wish {
     uint32_t frame;
     uint32_t spare[5];
 } g3_wish;
+const char *g3_code_wrong(const g3_code *code);
+const char *g3_caps_wrong(const g3_caps *caps);
+const char *g3_wish_wrong(const g3_wish *wish);
 G3_CHECK g3_status g3_answerer_new(g3_terminal *out, const g3_caps *caps);
 G3_CHECK g3_status g3_caller_new(g3_terminal *out, g3_document *document, const g3_wish *wish);
 G3_CHECK g3_status g3_terminal_hear(g3_terminal *terminal, const uint8_t *octets, size_t length);
 G3_CHECK g3_status g3_terminal_hear_frame(g3_terminal *terminal, const uint8_t *content, size_t length);
 G3_CHECK g3_status g3_terminal_hear_training(g3_terminal *terminal, const uint8_t *octets, size_t length);
-enum { G3_T1 = 1, G3_T2 = 2, G3_T4 = 4, G3_T5 = 5 };
+enum g3_wait { G3_T1 = 1, G3_T2 = 2, G3_T4 = 4, G3_T5 = 5 };
 G3_CHECK g3_status g3_terminal_wait_over(g3_terminal *terminal, uint32_t wait);
 uint32_t g3_wait_millis(uint32_t wait);
-enum { G3_QUIET = 1, G3_CARRIER = 2 };
+enum g3_line { G3_QUIET = 1, G3_CARRIER = 2 };
 G3_CHECK g3_status g3_terminal_tick(g3_terminal *terminal, uint64_t now, uint32_t line);
 G3_CHECK g3_status g3_terminal_due(const g3_terminal *terminal, uint64_t *at);
 G3_CHECK g3_status g3_terminal_most_seconds(g3_terminal *terminal, uint32_t seconds);
@@ -162,7 +173,7 @@ G3_CHECK g3_status g3_terminal_set_busy(g3_terminal *terminal, uint32_t is);
 g3_status g3_terminal_stop(g3_terminal *terminal);
 g3_status g3_terminal_hang_up(g3_terminal *terminal);
 g3_status g3_terminal_lost(g3_terminal *terminal);
-enum {
+enum g3_carrier {
     G3_V21 = 1, G3_V27TER_2400 = 2, G3_V27TER_4800 = 3, G3_V29_7200 = 4, G3_V29_9600 = 5, G3_V17_7200 = 6, G3_V17_9600 = 7,
     G3_V17_12000 = 8, G3_V17_14400 = 9
 };
@@ -177,8 +188,8 @@ typedef struct g3_burst {
     uint32_t spare;
 } g3_burst;
 G3_CHECK g3_status g3_terminal_next_burst(g3_terminal *terminal, g3_octets *out, g3_burst *burst);
-enum { G3_HEARS_V21 = 1, G3_HEARS_CHECK = 2, G3_HEARS_PAGES = 3, G3_HEARS_V21_THEN_PAGES = 4 };
-enum {
+enum g3_hears { G3_HEARS_V21 = 1, G3_HEARS_CHECK = 2, G3_HEARS_PAGES = 3, G3_HEARS_V21_THEN_PAGES = 4 };
+enum g3_end {
     G3_END_NORMAL = 1,
     G3_END_NO_ANSWER = 2,
     G3_END_NOT_COMPATIBLE = 3,
@@ -205,7 +216,7 @@ typedef struct g3_state {
     uint32_t spare;
 } g3_state;
 G3_CHECK g3_status g3_terminal_state(const g3_terminal *terminal, g3_state *state);
-enum { G3_REFUSED_NO_ECM = 1, G3_REFUSED_NOT_OFFERED = 2, G3_REFUSED_USED_NUMBER = 3 };
+enum g3_refused { G3_REFUSED_NO_ECM = 1, G3_REFUSED_NOT_OFFERED = 2, G3_REFUSED_USED_NUMBER = 3 };
 typedef struct g3_progress {
     uint64_t size;
     uint64_t pages;
@@ -227,13 +238,13 @@ typedef struct g3_progress {
 G3_CHECK g3_status g3_terminal_progress(const g3_terminal *terminal, g3_progress *progress);
 G3_CHECK g3_status g3_terminal_take_page(g3_terminal *terminal, g3_page *out);
 G3_CHECK g3_status g3_terminal_hold(g3_terminal *terminal, g3_page *out);
-enum {
+enum g3_kind {
     G3_DIS = 1, G3_DCS = 2, G3_CFR = 3, G3_FTT = 4, G3_FCD = 5, G3_RCP = 6, G3_PPS = 7, G3_PPR = 8, G3_MCF = 9, G3_RNR = 10, G3_RR = 11,
     G3_DCN = 12, G3_OTHER = 13
 };
-enum { G3_V29_ALONE = 4, G3_V27TER_2400_ALONE = 5 };
-enum { G3_BLOCK_ALONE = 1, G3_MPS = 2, G3_EOM = 3, G3_EOP = 4 };
-enum { G3_CALLER = 1, G3_ANSWERER = 2 };
+enum g3_modems_alone { G3_V29_ALONE = 4, G3_V27TER_2400_ALONE = 5 };
+enum g3_block_end { G3_BLOCK_ALONE = 1, G3_MPS = 2, G3_EOM = 3, G3_EOP = 4 };
+enum g3_side { G3_CALLER = 1, G3_ANSWERER = 2 };
 typedef struct g3_dis {
     uint32_t receiver;
     uint32_t modems;
@@ -272,7 +283,7 @@ typedef struct g3_signal {
 } g3_signal;
 G3_CHECK g3_status g3_signal_read(const uint8_t *content, size_t length, g3_signal *signal);
 G3_CHECK g3_status g3_signal_write(const g3_signal *signal, uint32_t side, uint32_t last, uint8_t *buffer, size_t room, uint64_t *count);
-enum { G3_NO_RECEIVER = 1, G3_NO_ECM = 2, G3_TOO_WIDE = 3, G3_NO_FINE = 4, G3_NO_COMMON_SPEED = 5 };
+enum g3_reason { G3_NO_RECEIVER = 1, G3_NO_ECM = 2, G3_TOO_WIDE = 3, G3_NO_FINE = 4, G3_NO_COMMON_SPEED = 5 };
 typedef struct g3_params {
     uint64_t size;
     g3_dcs dcs;
