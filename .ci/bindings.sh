@@ -74,7 +74,7 @@ is_same() {
 for name in encode decode raster frames signals call answer own misuse; do builds "c/$name.c"; done
 for name in memory random readers; do builds "tests/$name.c" --wrap=malloc --wrap=realloc --wrap=free; done
 for name in pages rows terminals signals; do builds "tests/statuses_$name.c"; done
-for name in abi refusals init; do builds "tests/$name.c"; done
+for name in abi refusals pixels init; do builds "tests/$name.c"; done
 ! grep -n '^enum {' "$top/bindings/g3fax.h" || fails "a list of numbers without a tag"
 for kind in c99 c11 c17 c++98 c++11 c++14 c++17 c++20; do
     as=$(echo $kind | sed 's/[0-9]//g')
@@ -225,7 +225,7 @@ done
 
 gives 0 own
 [ "$(cat "$work/output")" = "5 octets, the first is 36, 1 page" ] || fails "own printed: $(cat "$work/output")"
-for name in abi init refusals misuse readers statuses_pages statuses_rows statuses_terminals statuses_signals; do
+for name in abi init refusals pixels misuse readers statuses_pages statuses_rows statuses_terminals statuses_signals; do
     gives 0 "$name"
     [ ! -s "$work/output" ] || fails "$name printed: $(cat "$work/output")"
 done

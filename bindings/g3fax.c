@@ -197,6 +197,59 @@ g3_status g3_page_write_raster(const g3_page *page, uint64_t stride, uint8_t *bu
     HANDLE(page); OCTETS(buffer, room); PLACE(count);
     return g3_core_page_write_raster(READ(page), stride, buffer, room, count);
 }
+/* How many octets whole rows become, of so many octets each. */
+static g3_status becomes(size_t length, uint32_t width, uint32_t from, uint32_t to, size_t room, uint64_t *count)
+{
+    if (width == 0 || width > 2432) return G3_BAD_WIDTH;
+    if (length % from != 0) return G3_BAD_LENGTH;
+    if (length / from > 20000) return G3_TOO_MANY_ROWS;
+    *count = length / from * to;
+    return *count > room ? G3_NO_ROOM : G3_OK;
+}
+/* Eight pixels at once: the first octet, the lowest one, gives the highest bit. */
+static void pack_row(const uint8_t *pixels, uint32_t width, uint8_t *row)
+{
+    uint32_t at = 0;
+    for (; at + 8 <= width; at += 8) {
+        uint64_t eight;
+        memcpy(&eight, pixels + at, 8);
+        row[at / 8] = (uint8_t)(eight * 0x8040201008040201u >> 56);
+    }
+    if (at < width) row[at / 8] = 0;
+    for (; at < width; at++) row[at / 8] |= (uint8_t)(pixels[at] << (7 - at % 8));
+}
+g3_status g3_pixels_pack(const uint8_t *pixels, size_t length, uint32_t width, uint8_t *buffer, size_t room, uint64_t *count)
+{
+    OCTETS(pixels, length); OCTETS(buffer, room); PLACE(count);
+    const uint32_t row = (width + 7) / 8;
+    const g3_status status = becomes(length, width, width, row, room, count);
+    uint8_t others = 0;
+    if (status != G3_OK) return status;
+    for (size_t at = 0; at < length; at++) others |= pixels[at];
+    if (others > 1) return G3_BAD_CHOICE;
+    for (size_t at = 0; at < length / width; at++) pack_row(pixels + at * width, width, buffer + at * row);
+    return G3_OK;
+}
+/* Each octet of eight has one bit of an octet: 1 if that is. */
+static void unpack_row(const uint8_t *row, uint32_t width, uint8_t *pixels)
+{
+    uint32_t at = 0;
+    for (; at + 8 <= width; at += 8) {
+        const uint64_t bits = row[at / 8] * 0x0101010101010101u & 0x0102040810204080u, sevens = 0x7F7F7F7F7F7F7F7Fu;
+        const uint64_t eight = (bits | ((bits & sevens) + sevens)) >> 7 & 0x0101010101010101u;
+        memcpy(pixels + at, &eight, 8);
+    }
+    for (; at < width; at++) pixels[at] = row[at / 8] >> (7 - at % 8) & 1;
+}
+g3_status g3_pixels_unpack(const uint8_t *rows, size_t length, uint32_t width, uint8_t *buffer, size_t room, uint64_t *count)
+{
+    OCTETS(rows, length); OCTETS(buffer, room); PLACE(count);
+    const uint32_t row = (width + 7) / 8;
+    const g3_status status = becomes(length, width, row, width, room, count);
+    if (status != G3_OK) return status;
+    for (size_t at = 0; at < length / row; at++) unpack_row(rows + at * row, width, buffer + at * width);
+    return G3_OK;
+}
 g3_status g3_page_encode(const g3_page *page, uint32_t coding, uint32_t order, g3_octets *out)
 {
     HANDLE(page); HANDLE(out);

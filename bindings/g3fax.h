@@ -147,6 +147,11 @@ G3_CHECK g3_status g3_page_read_raster(const uint8_t *octets, size_t length, con
  * one's end, also where G3_NO_ROOM is answered. G3_BAD_LENGTH: the stride is less than a row's octets. */
 G3_CHECK g3_status g3_page_write_raster(const g3_page *page, uint64_t stride, uint8_t *buffer, size_t room, uint64_t *count);
 
+/* Packs pixels, octets 0 and 1, as whole rows of a width, and makes octets of packed rows; the bits that fill a row are ignored. *count: the
+ * octets that are written, also where G3_NO_ROOM is answered. G3_BAD_LENGTH: no whole number of rows. G3_BAD_CHOICE: a pixel is neither. */
+G3_CHECK g3_status g3_pixels_pack(const uint8_t *pixels, size_t length, uint32_t width, uint8_t *buffer, size_t room, uint64_t *count);
+G3_CHECK g3_status g3_pixels_unpack(const uint8_t *rows, size_t length, uint32_t width, uint8_t *buffer, size_t room, uint64_t *count);
+
 /* Codes a page; the last octet is filled with 0 bits. */
 G3_CHECK g3_status g3_page_encode(const g3_page *page, uint32_t coding, uint32_t order, g3_octets *out);
 /* Reads the page that octets begin with; what follows is ignored. *place: the bits used, or, of G3_NO_ROWS and 10 to 18, the bit from 0

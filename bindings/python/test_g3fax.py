@@ -4,15 +4,18 @@
 
 import array
 import contextlib
+import copy
 import gc
 import importlib.util
 import io
 import itertools
+import multiprocessing
 import os
 import pickle
 import subprocess
 import sys
 import threading
+import timeit
 import unittest
 from pathlib import Path
 
@@ -286,6 +289,62 @@ class Pages(unittest.TestCase):
         self.assertTrue(all(carrier.word.replace("-", "_").upper() == str(carrier) for carrier in Carrier))
         self.assertEqual((g3fax.End.NORMAL.text, len({end.text for end in g3fax.End})), ("all pages went over", len(g3fax.End)))
 
+    def test_copies(self):
+        """A page is copied by its rows, with what is said of it, also to another process; what has a handle alone isn't."""
+        page = g3fax.Page.decode(coded("mmr.msb"), WIDTH, fine=True)
+        copies = copy.copy(page), copy.deepcopy([page])[0], pickle.loads(pickle.dumps(page)), page[:]
+        bits = page.bits
+        page.close()
+        for other in copies:
+            self.assertEqual((other.rows().tobytes(), other.width, other.fine, type(other)), (PACKED, WIDTH, True, g3fax.Page))
+        self.assertEqual([other.bits for other in copies], [bits, bits, bits, None])
+        self.assertEqual(len(copy.copy(g3fax.Page(9, fine=True))), 0)
+        self.fault(100, copy.copy, page)
+        with multiprocessing.get_context("fork").Pool(1) as pool:
+            self.assertEqual(pool.map(len, copies[:2]), [ROWS, ROWS])
+        for thing in g3fax.Deframer(), g3fax.RowCoder(), g3fax.RowReader(), g3fax.Document(), g3fax.Answerer():
+            for how in copy.copy, copy.deepcopy, pickle.dumps:
+                with self.assertRaisesRegex(TypeError, f"a g3fax.{type(thing).__name__} can't be copied"):
+                    how(thing)
+
+    def test_wrong_kinds(self):
+        page = g3fax.Page.of_rows(PACKED, WIDTH)
+        for call in [lambda: g3fax.Document(page), lambda: g3fax.Document([PACKED]), lambda: g3fax.Document().append(None),
+                     lambda: g3fax.Caller([page]), lambda: g3fax.Caller(page), lambda: g3fax.write_signal(Kind.MCF, Side.ANSWERER),
+                     lambda: g3fax.agree(Kind.DIS)]:
+            self.assertRaises(TypeError, call)
+        self.assertEqual(len(page), ROWS)
+        for width in 0, -1, 2433, 1 << 32, -1 << 70:
+            for call in [lambda: g3fax.Page(width), lambda: g3fax.decode(b"", width), lambda: g3fax.RowReader(width)]:
+                with self.assertRaises(g3fax.Invalid) as caught:
+                    call()
+                self.assertEqual((caught.exception.number, isinstance(caught.exception, ValueError)), (1, True))
+        for name, call in [("limit", lambda: g3fax.Answerer(limit=0)), ("widest", lambda: g3fax.Answerer(widest=9)),
+                           ("frame", lambda: g3fax.Caller(g3fax.Document([page[1:]]), frame=9)), ("modems", lambda: g3fax.agree(Dis(), modems=4)),
+                           ("order", lambda: g3fax.decode(b"", order=2))]:
+            with self.assertRaisesRegex(g3fax.Invalid, f"no choice: {name}$") as caught:
+                call()
+            again = pickle.loads(pickle.dumps(caught.exception))
+            self.assertEqual((again.number, again.name, str(again)), (104, name, str(caught.exception)))
+
+    @unittest.skipUnless(importlib.util.find_spec("numpy"), "numpy isn't there")
+    def test_numpy(self):
+        import numpy
+        with g3fax.Page.of_rows(PACKED, WIDTH) as page:
+            rows = numpy.asarray(page)
+            self.assertEqual((rows.shape, rows.dtype, rows.tobytes()), ((ROWS, ROW), numpy.uint8, PACKED))
+            self.assertEqual(g3fax.encode(rows, WIDTH), coded("mmr.msb"))
+            self.assertEqual(numpy.asarray(g3fax.Page(WIDTH)).shape, (0, ROW))
+            pixels = numpy.unpackbits(rows, axis=1)[:, :WIDTH]
+            self.assertTrue((numpy.asarray(page.pixels()) == pixels).all())
+            for given in pixels, pixels == 1, numpy.asfortranarray(pixels):
+                self.assertEqual(g3fax.encode_pixels(given), coded("mmr.msb"))
+        high = g3fax.Page.of_rows(bytes(216 * 2200))
+
+        def time(call):
+            return min(timeit.repeat(call, number=1, repeat=9))
+        self.assertLess(time(lambda: numpy.asarray(high)), 5 * time(lambda: numpy.asarray(high.rows())) + 2e-4)
+
     @unittest.skipUnless(importlib.util.find_spec("PIL"), "PIL isn't there")
     def test_pil(self):
         from PIL import Image
@@ -294,6 +353,8 @@ class Pages(unittest.TestCase):
         gray, image = g3fax.Page.from_pil(wanted.convert("L"), fine=True), page.to_pil()
         self.assertEqual((image.mode, image.size, image.tobytes()), ("1", (WIDTH, ROWS), wanted.tobytes()))
         self.assertTrue(back == page and gray.fine and gray.rows() == page.rows())
+        with self.assertRaisesRegex(ValueError, "no image"):
+            g3fax.Page().to_pil()
 
     def test_threads(self):
         page, found = g3fax.Page.of_rows(PACKED, WIDTH), []

@@ -3,19 +3,16 @@
 from __future__ import annotations
 
 import ctypes
-import sys
-from typing import Any, Iterable, Iterator, List, NamedTuple, Optional, Union
+from typing import TYPE_CHECKING, Any, Iterable, Iterator, List, NamedTuple, Optional, Union
 
 from ._frames import _dis, _params, _wish, frames
 from ._native import _NOTHING, _Burst, _Caps, _Handle, _library, _Params, _Progress, _Signal, _State, _u64
 from ._names import Carrier, Coding, Dis, End, Kind, Listens, Modems, Params, Progress, Refusal, State, Wait
-from ._owning import _done, _flag, _number, _octets, _Owner, _taken
+from ._owning import _done, _flag, _is, _number, _octets, _Owner, _taken
 from ._pages import Page
 
-if sys.version_info >= (3, 12):
-    from collections.abc import Buffer
-else:
-    Buffer = Any
+if TYPE_CHECKING:
+    from _typeshed import ReadableBuffer as Buffer
 
 
 class Burst(NamedTuple):
@@ -38,12 +35,15 @@ class Document(_Owner):
 
     def __init__(self, pages: Iterable[Page] = ()) -> None:
         super().__init__("g3_document_free")
+        if isinstance(pages, Page):
+            raise TypeError("pages is a list of g3fax.Page, and not one")
         _done(_library.g3_document_new(self._at))
         for page in pages:
             self.append(page)
 
     def append(self, page: Page) -> None:
         """Moves a page to the end: later calls of the page raise Closed."""
+        _is(page, Page, "page")
         with self._lock, page._lock:
             _done(_library.g3_document_push(self._at, page._at))
 
@@ -129,7 +129,7 @@ class Terminal(_Owner):
             _done(_library.g3_terminal_stop(self._at))
 
     def hang_up(self) -> None:
-        """The same also where the call has ended, so that a page that couldn't be kept isn't confirmed."""
+        """Ends the call as `stop` does, and also if it has ended, so that a page that couldn't be kept isn't confirmed."""
         with self._lock:
             _done(_library.g3_terminal_hang_up(self._at))
 
@@ -207,8 +207,8 @@ class Terminal(_Owner):
         return page
 
     def hold(self) -> Optional[Page]:
-        """The same, and the answerer is busy, so that the caller isn't told that its page has arrived until set_busy(False) says that it is
-        stored. Fault 104 if the answerer's limit isn't 1."""
+        """Takes the oldest page as `take_page` does, and the answerer is busy, so that the caller isn't told that its page has arrived until
+        set_busy(False) says that it is stored. Fault 104 if the answerer's limit isn't 1."""
         page = Page._empty()
         with self._lock:
             status = _library.g3_terminal_hold(self._at, page._at)
@@ -227,10 +227,11 @@ class Caller(Terminal):
 
     def __init__(self, document: Document, modems: Modems = Modems.V17, coding: Coding = Coding.MMR, frame: int = 256) -> None:
         """Waits for a DIS. The document moves in. `frame` is the octets of data in a frame, 256 or 64."""
+        _is(document, Document, "document")
         super().__init__()
         wish = _wish(modems, coding, frame)
         with document._lock:
-            _done(_library.g3_caller_new(self._at, document._at, ctypes.byref(wish)))
+            _done(_library.g3_caller_new(self._at, document._at, ctypes.byref(wish)), None, lambda: _library.g3_wish_wrong(ctypes.byref(wish)))
 
 
 class Answerer(Terminal):
@@ -240,4 +241,4 @@ class Answerer(Terminal):
         """Its first burst is DIS. `limit`: how many pages it stores before it is busy."""
         super().__init__()
         caps = _Caps(_number(modems, "modems"), _flag(t6, "t6"), _flag(fine, "fine"), _number(widest, "widest"), _number(limit, "limit"))
-        _done(_library.g3_answerer_new(self._at, ctypes.byref(caps)))
+        _done(_library.g3_answerer_new(self._at, ctypes.byref(caps)), None, lambda: _library.g3_caps_wrong(ctypes.byref(caps)))

@@ -3,17 +3,14 @@
 from __future__ import annotations
 
 import ctypes
-import sys
-from typing import Any, Iterable, Iterator, List, Optional, Tuple
+from typing import TYPE_CHECKING, Any, Iterable, Iterator, List, Optional, Tuple
 
 from ._native import _NOT_COMPATIBLE, _NOTHING, _Counts, _Dcs, _Dis, _Handle, _library, _Params, _Pps, _Signal, _u32, _u64, _Wish
 from ._names import Carrier, Coding, Counts, Dis, Frame, Kind, Modems, PageEnd, Params, Pps, Side, Signal
-from ._owning import NotCompatible, _done, _flag, _number, _octets, _Owner, _room, _taken
+from ._owning import NotCompatible, _done, _flag, _is, _number, _octets, _Owner, _room, _taken, _width
 
-if sys.version_info >= (3, 12):
-    from collections.abc import Buffer
-else:
-    Buffer = Any
+if TYPE_CHECKING:
+    from _typeshed import ReadableBuffer as Buffer
 
 
 class Deframer(_Owner):
@@ -94,6 +91,7 @@ def read_signal(content: Buffer) -> Signal:
 
 def write_signal(signal: Signal, side: Side, last: bool = True) -> bytes:
     """The content of the frame that says a signal, as this station sends it; `last` in the last frame of a transmission."""
+    _is(signal, Signal, "signal")
     octets, given, count = bytes(signal.octets), _Signal(), _u64()
     given.length, given.kind = len(octets), _number(signal.kind, "kind")
     given.number, given.control = _number(signal.number, "number"), _number(signal.control, "control")
@@ -119,10 +117,11 @@ def agree(dis: Dis, width: int = 1728, fine: bool = False, modems: Modems = Mode
           frame: int = 256) -> Params:
     """What a caller with these modems, this code and these frames agrees on with a station of a DIS, for pages of a width, fine or not.
     Raises NotCompatible with the reason."""
+    _is(dis, Dis, "dis")
     theirs, wish, told, reason = _Dis(*_numbers(dis)), _wish(modems, coding, frame), _Params(), _u32()
-    status = _library.g3_agree(ctypes.byref(theirs), ctypes.byref(wish), _number(width, "width"), _flag(fine, "fine"), ctypes.byref(told),
+    status = _library.g3_agree(ctypes.byref(theirs), ctypes.byref(wish), _width(width), _flag(fine, "fine"), ctypes.byref(told),
                                ctypes.byref(reason))
     if status == _NOT_COMPATIBLE:
         raise NotCompatible(status, reason.value)
-    _done(status)
+    _done(status, None, lambda: _library.g3_wish_wrong(ctypes.byref(wish)))
     return _params(told.dcs)

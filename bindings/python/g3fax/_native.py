@@ -6,7 +6,8 @@ import os
 #: the version of the library that this package is for
 __version__ = "0.1.0"
 
-_OK, _NO_ROWS, _NO_MEMORY, _MISSING_EOFB, _NOT_COMPATIBLE, _EMPTY_HANDLE, _NOTHING, _FRAME_LOST = 0, 4, 9, 17, 28, 100, 106, 108
+_OK, _BAD_WIDTH, _TOO_MANY_ROWS, _NO_ROWS, _NO_MEMORY, _MISSING_EOFB, _NOT_CALLABLE, _NOT_COMPATIBLE = 0, 1, 3, 4, 9, 17, 26, 28
+_EMPTY_HANDLE, _BAD_CHOICE, _BAD_LENGTH, _NOTHING, _FRAME_LOST = 100, 104, 105, 106, 108
 _u32, _u64, _size, _address = ctypes.c_uint32, ctypes.c_uint64, ctypes.c_size_t, ctypes.c_void_p
 
 
@@ -94,6 +95,8 @@ _FUNCTIONS = {
     "g3_page_row": [_address, _u32, _address, _size, _address],
     "g3_page_read_raster": [_address, _size, _address, _address],
     "g3_page_write_raster": [_address, _u64, _address, _size, _address],
+    "g3_pixels_pack": [_address, _size, _u32, _address, _size, _address],
+    "g3_pixels_unpack": [_address, _size, _u32, _address, _size, _address],
     "g3_page_encode": [_address, _u32, _u32, _address],
     "g3_page_decode": [_address, _size, _address, _address, _address],
     "g3_page_salvage": [_address, _size, _address, _address],
@@ -171,7 +174,8 @@ def _load() -> ctypes.CDLL:
     for name in (f"g3_{kind}_free" for kind in kinds):
         function = getattr(library, name)
         function.argtypes, function.restype = [_address], None
-    for name, words in [("g3_status_text", [_u32]), ("g3_carrier_name", [_u32]), ("g3_end_text", [_u32]), ("g3_version", [])]:
+    for name, words in [("g3_code_wrong", [_address]), ("g3_caps_wrong", [_address]), ("g3_wish_wrong", [_address]), ("g3_status_text", [_u32]),
+                        ("g3_carrier_name", [_u32]), ("g3_end_text", [_u32]), ("g3_version", [])]:
         function = getattr(library, name)
         function.argtypes, function.restype = words, ctypes.c_char_p
     return library

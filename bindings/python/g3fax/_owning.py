@@ -4,18 +4,16 @@ from __future__ import annotations
 
 import ctypes
 import operator
-import sys
 import threading
 import weakref
-from typing import Any, Optional, Tuple, TypeVar
+from typing import TYPE_CHECKING, Any, Callable, Optional, Tuple, TypeVar, Union
 
-from ._native import _EMPTY_HANDLE, _FRAME_LOST, _NO_MEMORY, _NO_ROWS, _OK, _Handle, _library, _u64
+from ._native import (_BAD_CHOICE, _BAD_LENGTH, _BAD_WIDTH, _EMPTY_HANDLE, _FRAME_LOST, _NO_MEMORY, _NO_ROWS, _NOT_CALLABLE, _OK, _TOO_MANY_ROWS,
+                      _Handle, _library, _u64)
 from ._names import Reason
 
-if sys.version_info >= (3, 12):
-    from collections.abc import Buffer
-else:
-    Buffer = Any
+if TYPE_CHECKING:
+    from _typeshed import ReadableBuffer as Buffer
 
 
 class Fault(Exception):
@@ -46,6 +44,19 @@ class CodeFault(Fault):
     """A coded page can't be read, or has no row."""
 
 
+class Invalid(Fault, ValueError):
+    """What is given isn't allowed: a width, a number that is no choice, a length, too many rows."""
+
+    def __init__(self, number: int, name: str = "") -> None:
+        super().__init__(number)
+        self.name = name
+        if name:
+            self.args = (f"{self.args[0]}: {name}",)
+
+    def __reduce__(self) -> Tuple[Any, ...]:
+        return type(self), (self.number, self.name)
+
+
 class NoMemory(Fault, MemoryError):
     """Memory was refused; what is here is as it was, save where it is FrameLost."""
 
@@ -65,8 +76,8 @@ class NotCompatible(Fault):
         return type(self), (self.number, int(self.reason))
 
 
-def _done(status: int, bit: Optional[int] = None) -> None:
-    """Raises what a status above 0 says."""
+def _done(status: int, bit: Optional[int] = None, wrong: Optional[Callable[[], Any]] = None) -> None:
+    """Raises what a status above 0 says; of a number that is no choice `wrong` has the name."""
     if status == _OK:
         return
     if status == _NO_MEMORY:
@@ -77,7 +88,25 @@ def _done(status: int, bit: Optional[int] = None) -> None:
         raise FrameLost(status)
     if status == _NO_ROWS or 10 <= status <= 18:
         raise CodeFault(status, bit)
+    if status == _BAD_CHOICE and wrong is not None:
+        raise Invalid(status, (wrong() or b"").decode())
+    if status in (_BAD_WIDTH, _TOO_MANY_ROWS, _NOT_CALLABLE, _BAD_CHOICE, _BAD_LENGTH):
+        raise Invalid(status)
     raise Fault(status)
+
+
+def _width(width: int) -> int:
+    """A width as C takes it. One that no page has is Invalid, whatever the number is."""
+    whole = operator.index(width)
+    if not 0 <= whole < 1 << 32:
+        raise Invalid(_BAD_WIDTH)
+    return whole
+
+
+def _is(it: Any, kind: type, name: str) -> None:
+    """Raises TypeError if it isn't of a kind."""
+    if not isinstance(it, kind):
+        raise TypeError(f"{name} is a g3fax.{kind.__name__}, and not {type(it).__name__}")
 
 
 def _number(number: int, name: str, bits: int = 32) -> int:
@@ -130,11 +159,7 @@ def _row(buffer: Buffer) -> Tuple[Any, int]:
     return _octets(buffer)
 
 
-#: a pixel as a digit and back, and the pixels of each octet
-_DIGITS, _PIXELS = bytes.maketrans(b"\0\1", b"01"), [bytes(octet >> bit & 1 for bit in range(7, -1, -1)) for octet in range(256)]
-
-
-def _pack(pixels: Buffer, width: Optional[int]) -> Tuple[bytes, int]:
+def _pack(pixels: Buffer, width: Optional[int]) -> Tuple[bytearray, int]:
     """Packed rows of pixels, and their width."""
     view = memoryview(pixels)
     if view.format not in ("?", "B", "b"):
@@ -147,22 +172,22 @@ def _pack(pixels: Buffer, width: Optional[int]) -> Tuple[bytes, int]:
         raise ValueError(f"pixels have one dimension or two, and not {view.ndim}")
     elif width is None:
         raise ValueError("pixels of one dimension need their width")
-    octets = view.tobytes()
-    width = _number(width, "width")
-    if octets.translate(None, b"\0\1"):
+    width, (given, length), count = _width(width), _octets(view), _u64()
+    if length % (width or 1) != 0:
+        raise ValueError(f"{length} pixels are no whole number of rows of {width}")
+    buffer, address = _room(length // (width or 1) * ((width + 7) // 8))
+    status = _library.g3_pixels_pack(given, length, width, address, len(buffer), ctypes.byref(count))
+    if status == _BAD_CHOICE:
         raise ValueError("a pixel is neither 0 nor 1")
-    if len(octets) % (width or 1) != 0:
-        raise ValueError(f"{len(octets)} pixels are no whole number of rows of {width}")
-    digits, row, spare = octets.translate(_DIGITS), (width + 7) // 8, -width % 8
-    rows = (int(digits[at:at + width], 2) << spare for at in range(0, len(digits), width or 1))
-    return b"".join(octets.to_bytes(row, "big") for octets in rows), width
+    _done(status)
+    return buffer, width
 
 
-def _unpack(rows: memoryview, width: int) -> memoryview:
-    """The pixels of packed rows of octets, one dimension: two dimensions, rows and pixels."""
-    row = (width + 7) // 8
-    pixels = (b"".join(map(_PIXELS.__getitem__, rows[at:at + row])) for at in range(0, len(rows), row or 1))
-    out = bytearray(b"".join(row[:width] for row in pixels))
+def _unpack(rows: Buffer, width: int) -> memoryview:
+    """The pixels of packed rows: two dimensions, rows and pixels."""
+    (given, length), count = _octets(rows), _u64()
+    out, address = _room(length // ((width + 7) // 8 or 1) * width)
+    _done(_library.g3_pixels_unpack(given, length, width, address, len(out), ctypes.byref(count)))
     return memoryview(out).cast("B", (len(out) // width, width)) if out else memoryview(out)
 
 
@@ -214,6 +239,9 @@ class _Owner:
         with self._lock:
             says = "closed" if self.closed else self._says()
         return f"<g3fax.{type(self).__name__}{': ' if says else ''}{says}>"
+
+    def __reduce__(self) -> Union[str, Tuple[Any, ...]]:
+        raise TypeError(f"a g3fax.{type(self).__name__} can't be copied or pickled")
 
     def __enter__(self: _Self) -> _Self:
         return self

@@ -6,17 +6,14 @@ import contextlib
 import ctypes
 import importlib
 import operator
-import sys
-from typing import Any, Iterator, Optional, Tuple, Union, overload
+from typing import TYPE_CHECKING, Any, Dict, Iterator, Optional, Tuple, Type, Union, overload
 
 from ._native import _MISSING_EOFB, _NOTHING, _Code, _Found, _Handle, _Raster, _Size, _library, _u64
 from ._names import Coding, FileKind, Found, Order
-from ._owning import CodeFault, _done, _flag, _number, _octets, _Owner, _pack, _packed, _room, _row, _taken, _unpack
+from ._owning import CodeFault, _done, _flag, _number, _octets, _Owner, _pack, _packed, _room, _row, _taken, _unpack, _width
 
-if sys.version_info >= (3, 12):
-    from collections.abc import Buffer
-else:
-    Buffer = Any
+if TYPE_CHECKING:
+    from _typeshed import ReadableBuffer as Buffer
 
 
 class Page(_Owner):
@@ -40,7 +37,7 @@ class Page(_Owner):
         self.start: Optional[int] = None
         #: why its code has no end, where `pages` has all of its rows nevertheless
         self.fault: Optional[CodeFault] = None
-        _done(_library.g3_page_new(self._at, _number(width, "width"), _flag(fine, "fine")))
+        _done(_library.g3_page_new(self._at, _width(width), _flag(fine, "fine")))
 
     @classmethod
     def _empty(cls) -> Page:
@@ -55,7 +52,7 @@ class Page(_Owner):
         """The page of packed rows that begin `stride` octets apart; without a stride, one directly after the other. `rows` is how many;
         without it, as many as there are. A buffer of two dimensions has a row's (width + 7) // 8 octets, or `stride`, as its second one, of
         format B: else ValueError."""
-        width = _number(width, "width")
+        width = _width(width)
         address, length = _octets(_packed(octets, width, stride))
         row = (width + 7) // 8
         if stride is None:
@@ -88,7 +85,7 @@ class Page(_Owner):
         """The page that octets begin with; what follows is ignored. `bits` of it are the bits used. Raises CodeFault with the bit."""
         page, place, (address, length) = cls._empty(), _u64(), _octets(octets)
         code = _code(coding, order, width, fine)
-        _done(_library.g3_page_decode(address, length, ctypes.byref(code), page._at, ctypes.byref(place)), place.value)
+        _done(_library.g3_page_decode(address, length, ctypes.byref(code), page._at, ctypes.byref(place)), place.value, lambda: _library.g3_code_wrong(ctypes.byref(code)))
         page.bits = place.value
         return page
 
@@ -118,6 +115,18 @@ class Page(_Owner):
         _done(_library.g3_page_read_pbm(address, length, _flag(fine, "fine"), page._at, ctypes.byref(count)))
         page.images = count.value
         return page
+
+    def __reduce__(self) -> Tuple[Any, ...]:
+        """A copy has the same rows, and all that is said of the page."""
+        with self._lock:
+            said = {name: getattr(self, name) for name in _SAID}
+            return _page_of, (type(self), self.rows().tobytes(), self.width, self.fine, said)
+
+    @property
+    def __array_interface__(self) -> Dict[str, Any]:
+        """The rows, as `rows` gives them, for numpy."""
+        rows = self.rows()
+        return {"version": 3, "typestr": "|u1", "shape": rows.shape if rows.nbytes else (0, (self.width + 7) // 8), "data": rows}
 
     def _size(self) -> _Size:
         size = _Size()
@@ -197,12 +206,14 @@ class Page(_Owner):
     def pixels(self) -> memoryview:
         """All pixels, one octet each, 0 white and 1 black: two dimensions, rows and the pixels of each. Of no rows, no octets."""
         with self._lock:
-            return _unpack(memoryview(self.rows().tobytes()), self.width)
+            return _unpack(self.rows(), self.width)
 
     def to_pil(self) -> Any:
         """The page as an image of PIL, of mode "1". Its resolution isn't in it."""
         image = importlib.import_module("PIL.Image")
         with self._lock:
+            if len(self) == 0:
+                raise ValueError("a page without rows is no image")
             return image.frombytes("1", (self.width, len(self)), self.rows().tobytes(), "raw", "1;I")
 
     def write_rows(self, buffer: Buffer, stride: int) -> int:
@@ -234,6 +245,18 @@ class Page(_Owner):
     def __bytes__(self) -> bytes:
         """The page as a raw PBM image."""
         return bytes(self.pbm())
+
+
+#: what is said of a page beside its rows
+_SAID = "bits", "repaired", "images", "coding", "order", "start", "fault"
+
+
+def _page_of(kind: Type[Page], rows: bytes, width: int, fine: bool, said: Dict[str, Any]) -> Page:
+    """The page that a copy is made of."""
+    page = kind.of_rows(rows, width, fine=fine)
+    for name, value in said.items():
+        setattr(page, name, value)
+    return page
 
 
 # ---- pages row by row
@@ -318,7 +341,7 @@ class RowReader(_Owner):
 
 
 def _code(coding: int, order: int, width: int, fine: bool) -> _Code:
-    return _Code(_number(coding, "coding"), _number(order, "order"), _number(width, "width"), _flag(fine, "fine"))
+    return _Code(_number(coding, "coding"), _number(order, "order"), _width(width), _flag(fine, "fine"))
 
 
 def decode(octets: Buffer, width: int = 1728, coding: Coding = Coding.MMR, order: Order = Order.MSB_FIRST) -> memoryview:
@@ -342,11 +365,10 @@ def encode_pixels(pixels: Buffer, width: Optional[int] = None, coding: Coding = 
 
 def to_pixels(rows: Buffer, width: int = 1728) -> memoryview:
     """The pixels of packed rows, one octet each, 0 white and 1 black: two dimensions, rows and the pixels of each."""
-    width = _number(width, "width")
-    octets = memoryview(memoryview(_packed(rows, width)).tobytes())
-    if width == 0 or len(octets) % ((width + 7) // 8) != 0:
-        raise ValueError(f"{len(octets)} octets are no whole number of rows of {width} pixels")
-    return _unpack(octets, width)
+    width, length = _width(width), memoryview(rows).nbytes
+    if width == 0 or length % ((width + 7) // 8) != 0:
+        raise ValueError(f"{length} octets are no whole number of rows of {width} pixels")
+    return _unpack(_packed(rows, width), width)
 
 
 def salvage(octets: Buffer, width: int = 1728, coding: Coding = Coding.MMR, order: Order = Order.MSB_FIRST) -> memoryview:

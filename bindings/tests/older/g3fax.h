@@ -99,6 +99,8 @@ G3_CHECK g3_status g3_page_size(const g3_page *page, g3_size *size);
 G3_CHECK g3_status g3_page_row(const g3_page *page, uint32_t number, uint8_t *buffer, size_t room, uint64_t *count);
 G3_CHECK g3_status g3_page_read_raster(const uint8_t *octets, size_t length, const g3_raster *raster, g3_page *out);
 G3_CHECK g3_status g3_page_write_raster(const g3_page *page, uint64_t stride, uint8_t *buffer, size_t room, uint64_t *count);
+G3_CHECK g3_status g3_pixels_pack(const uint8_t *pixels, size_t length, uint32_t width, uint8_t *buffer, size_t room, uint64_t *count);
+G3_CHECK g3_status g3_pixels_unpack(const uint8_t *rows, size_t length, uint32_t width, uint8_t *buffer, size_t room, uint64_t *count);
 G3_CHECK g3_status g3_page_encode(const g3_page *page, uint32_t coding, uint32_t order, g3_octets *out);
 G3_CHECK g3_status g3_page_decode(const uint8_t *octets, size_t length, const g3_code *code, g3_page *out, uint64_t *place);
 G3_CHECK g3_status g3_page_salvage(const uint8_t *octets, size_t length, const g3_code *code, g3_page *out);
