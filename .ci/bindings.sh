@@ -82,6 +82,7 @@ for kind in c99 c11 c17 c++98 c++11 c++14 c++17 c++20; do
         -I "$work" "$top/bindings/tests/init.c" || fails "the initializers in $kind"
 done
 builds_plain tests/growth.c
+"$top/bindings/from_header.py" > "$work/wrappers.h"
 mkdir "$work/older"
 sed -n 's/^[^(]*\(g3_[a-z0-9_]*\)(.*);$/NAME(\1)/p' "$top/bindings/tests/older/g3fax.h" > "$work/older/names.h"
 # shares FOLDER FILE EXPORTS FOLDERS: a C file as the shared library, with what its types are, by headers in these folders
@@ -109,7 +110,7 @@ builds_older tests/newer.c "$work/newer"
 # no function or struct of version 0.1.0 has changed: by what a compiler says of both
 if command -v abidiff > /dev/null; then
     mkdir "$work/today"
-    shares "$work/today" "$top/bindings/g3fax.c" "$top/bindings/exports" -I "$top/bindings"
+    shares "$work/today" "$top/bindings/g3fax.c" "$top/bindings/exports" -I "$work"
     abidiff --no-added-syms "$work/older/libg3fax.so.0" "$work/today/libg3fax.so.0" > "$work/output" \
         || { head -40 "$work/output" >&2; fails "the ABI of version 0.1.0 has changed"; }
     sed 's/^typedef struct g3_wish {/&uint32_t more;/' "$top/bindings/tests/older/g3fax.h" > "$work/today/g3fax.h"
@@ -270,8 +271,8 @@ if "$CC" -fsanitize=thread "$work/empty.c" -o "$work/empty" 2> "$work/error" && 
     watches readers-watched "$top/bindings/g3fax.c"
     gives 0 readers-watched
     [ ! -s "$work/output" ] || fails "readers under the thread sanitizer printed: $(cat "$work/output")"
-    sed 's/^    HANDLE(page); SIZED(size);/    static int calls; calls++;\n&/' "$top/bindings/g3fax.c" > "$work/counting.c"
-    watches readers-counting "$work/counting.c"
+    sed -i 's/^    HANDLE(page); SIZED(size);/    static int calls; calls++;\n&/' "$work/wrappers.h"
+    watches readers-counting "$top/bindings/g3fax.c"
     gives 66 readers-counting
     grep -q "data race" "$work/error" || fails "the thread sanitizer said: $(head -5 "$work/error")"
 else

@@ -26,7 +26,7 @@ builds() {
 
 mkdir -p "$copy/packaging" "$copy/bindings" "$copy/crates/g3fax/src" "$KIT/bin"
 cp "$top/packaging/build_library.sh" "$top/packaging/trust.py" "$copy/packaging/"
-cp "$top/bindings/build.sh" "$top/bindings/own_names.py" "$top/bindings/exports" "$copy/bindings/"
+cp "$top/bindings/build.sh" "$top/bindings/own_names.py" "$top/bindings/from_header.py" "$top/bindings/exports" "$copy/bindings/"
 cp "$top/crates.txt" "$top/HANDLES" "$top/VERSION" "$copy/"
 echo "//! One." > "$copy/crates/g3fax/src/lib.rt"
 echo "a kit" > "$KIT/KIT-ID"

@@ -4,8 +4,8 @@
 #     bindings/build.sh FOLDER [--unproved]
 #
 # It leaves libg3fax.a, libg3fax.so.0, g3fax.h and g3fax.pc there. The proved crate is crates/g3fax: packaging/build_library.sh proves what
-# of it isn't yet proved, and compiles it. With it go g3fax.c, compiled by the kit's clang, and the kit's heap over malloc, realloc and
-# free. With --unproved nothing is proved, and g3_version says so. KIT is where the kit lies, if not /opt/rattle.
+# of it isn't yet proved, and compiles it. With it go g3fax.c, compiled by the kit's clang, the functions that from_header.py writes, and the
+# kit's heap over malloc, realloc and free. With --unproved nothing is proved, and g3_version says so. KIT is where the kit lies, if not /opt/rattle.
 set -e
 kit=${KIT:-/opt/rattle}
 [ $# = 1 ] || [ "$# $2" = "2 --unproved" ] || { echo "usage: build.sh FOLDER [--unproved]" >&2; exit 2; }
@@ -28,7 +28,8 @@ else
     "$kit/toolchain/bin/llvm-ar" x "$archive"
 fi
 "$kit/toolchain/bin/llvm-ar" x "$kit/c/liblibc_c.a"
-"$kit/toolchain/bin/clang" -std=c11 -O2 -fPIC -Wall -Wextra -Werror -ffreestanding -nostdinc -isystem "$top/bindings/include" \
+"$top/bindings/from_header.py" > wrappers.h
+"$kit/toolchain/bin/clang" -std=c11 -O2 -fPIC -Wall -Wextra -Werror -ffreestanding -nostdinc -isystem "$top/bindings/include" -I. \
     -DG3_VERSION="\"$said\"" -DG3_BUILT="$number" -c "$top/bindings/g3fax.c" -o g3fax_c.o
 # one object, whose only names for other programs are those of the functions of the header
 mkdir one

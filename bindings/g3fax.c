@@ -1,70 +1,23 @@
 /* The functions of g3fax.h: each tests its addresses for NULL and the sizes of structs, and calls the proved function of the same name,
- * g3_core_.. A NULL handle is an empty one; if another address is NULL, the status is G3_NO_ADDRESS. Beside them there are only names of
- * numbers, and the version. */
+ * g3_core_.. A NULL handle is an empty one; if another address is NULL, the status is G3_NO_ADDRESS. Most have one shape: from_header.py
+ * writes these, as wrappers.h. Here are those of another shape, packed pixels, names of numbers, and the version. */
 #include "g3fax.h"
 #include <string.h>
 
 /* a handle of any kind: the proved functions tell the kinds apart */
 typedef struct handle { void *at; } handle;
 void g3_core_free(handle *);
-g3_status g3_core_page_new(handle *, uint32_t, uint32_t);
-g3_status g3_core_page_push_row(handle *, const uint8_t *, size_t);
-g3_status g3_core_page_size(handle *, void *);
-g3_status g3_core_page_row(handle *, uint32_t, uint8_t *, size_t, uint64_t *);
-g3_status g3_core_page_read_raster(const uint8_t *, size_t, const g3_raster *, handle *);
-g3_status g3_core_page_write_raster(handle *, uint64_t, uint8_t *, size_t, uint64_t *);
-g3_status g3_core_page_encode(handle *, uint32_t, uint32_t, handle *);
-g3_status g3_core_page_decode(const uint8_t *, size_t, const g3_code *, handle *, uint64_t *);
-g3_status g3_core_page_salvage(const uint8_t *, size_t, const g3_code *, handle *);
-g3_status g3_core_page_repair(const uint8_t *, size_t, const g3_code *, handle *, uint64_t *);
-g3_status g3_core_page_next(uint8_t *, size_t, const g3_code *, uint64_t, uint64_t *);
 /* of what octets are it reaches what is between its size and the name of a format, which is passed beside it */
 g3_status g3_core_identify(const uint8_t *, size_t, void *, uint8_t *, size_t);
-g3_status g3_core_page_read_pbm(const uint8_t *, size_t, uint32_t, handle *, uint64_t *);
-g3_status g3_core_page_write_pbm(handle *, handle *);
-g3_status g3_core_octets_len(handle *, uint64_t *);
 g3_status g3_core_octets_data(handle *, const uint8_t **, uint64_t *);
-g3_status g3_core_octets_copy(handle *, uint8_t *, size_t, uint64_t *);
-g3_status g3_core_deframer_new(handle *);
-g3_status g3_core_deframer_feed(handle *, const uint8_t *, size_t);
-g3_status g3_core_deframer_next(handle *, uint8_t *, size_t, uint64_t *);
-g3_status g3_core_deframer_counts(handle *, void *);
-g3_status g3_core_frame_write(const uint8_t *, size_t, handle *, uint64_t *);
-g3_status g3_core_document_new(handle *);
-g3_status g3_core_document_push(handle *, handle *);
-g3_status g3_core_document_pages(handle *, uint64_t *);
-g3_status g3_core_answerer_new(handle *, const g3_caps *);
-g3_status g3_core_caller_new(handle *, handle *, const g3_wish *);
-g3_status g3_core_terminal_hear(handle *, const uint8_t *, size_t);
-g3_status g3_core_terminal_hear_frame(handle *, const uint8_t *, size_t);
-g3_status g3_core_terminal_hear_training(handle *, const uint8_t *, size_t);
-g3_status g3_core_terminal_wait_over(handle *, uint32_t);
-uint32_t g3_core_wait_millis(uint32_t);
-g3_status g3_core_terminal_tick(handle *, uint64_t, uint32_t);
-g3_status g3_core_terminal_due(handle *, uint64_t *);
-g3_status g3_core_terminal_most_seconds(handle *, uint32_t);
-g3_status g3_core_terminal_set_busy(handle *, uint32_t);
-g3_status g3_core_terminal_stop(handle *);
-g3_status g3_core_terminal_hang_up(handle *);
-g3_status g3_core_terminal_lost(handle *);
-g3_status g3_core_terminal_next_burst(handle *, handle *, void *);
-g3_status g3_core_terminal_state(handle *, void *);
-g3_status g3_core_terminal_progress(handle *, void *);
 g3_status g3_core_terminal_params(handle *, void *);
-g3_status g3_core_terminal_take_page(handle *, handle *);
-g3_status g3_core_terminal_hold(handle *, handle *);
 /* of a signal these reach what `said` has, and its octets, which are passed beside it */
 g3_status g3_core_terminal_peer(handle *, void *);
 g3_status g3_core_signal_read(const uint8_t *, size_t, void *, uint8_t *, size_t);
 g3_status g3_core_signal_write(const void *, const uint8_t *, size_t, uint32_t, uint32_t, uint8_t *, size_t, uint64_t *);
 g3_status g3_core_agree(const g3_dis *, const g3_wish *, uint32_t, uint32_t, void *, uint32_t *);
 g3_status g3_core_row_coder_new(const g3_code *, handle *);
-g3_status g3_core_row_coder_push_row(handle *, const uint8_t *, size_t);
-g3_status g3_core_row_coder_take(handle *, handle *);
-g3_status g3_core_row_coder_finish(handle *, handle *);
 g3_status g3_core_row_reader_new(const g3_code *, handle *);
-g3_status g3_core_row_reader_feed(handle *, const uint8_t *, size_t, uint64_t *);
-g3_status g3_core_row_reader_next(handle *, uint8_t *, size_t, uint64_t *, uint64_t *);
 
 #define HANDLE(it) do { if ((it) == NULL) return G3_EMPTY_HANDLE; } while (0)
 #define PLACE(it) do { if ((it) == NULL) return G3_NO_ADDRESS; } while (0)
@@ -150,6 +103,8 @@ static void says(const said *from, g3_signal *to)
     memcpy(&to->pps, from->pps, sizeof from->pps);
 }
 
+#include "wrappers.h"
+
 /* What was agreed on, if anything was. */
 static g3_status agreed(g3_status status, const said *from, g3_params *to)
 {
@@ -159,44 +114,6 @@ static g3_status agreed(g3_status status, const said *from, g3_params *to)
     return status;
 }
 
-void g3_page_free(g3_page *page) { if (page != NULL) g3_core_free((handle *)page); }
-void g3_octets_free(g3_octets *octets) { if (octets != NULL) g3_core_free((handle *)octets); }
-void g3_deframer_free(g3_deframer *deframer) { if (deframer != NULL) g3_core_free((handle *)deframer); }
-void g3_document_free(g3_document *document) { if (document != NULL) g3_core_free((handle *)document); }
-void g3_terminal_free(g3_terminal *terminal) { if (terminal != NULL) g3_core_free((handle *)terminal); }
-void g3_row_coder_free(g3_row_coder *coder) { if (coder != NULL) g3_core_free((handle *)coder); }
-void g3_row_reader_free(g3_row_reader *reader) { if (reader != NULL) g3_core_free((handle *)reader); }
-
-g3_status g3_page_new(g3_page *out, uint32_t width, uint32_t fine)
-{
-    HANDLE(out);
-    return g3_core_page_new((handle *)out, width, fine);
-}
-g3_status g3_page_push_row(g3_page *page, const uint8_t *octets, size_t length)
-{
-    HANDLE(page); OCTETS(octets, length);
-    return g3_core_page_push_row((handle *)page, octets, length);
-}
-g3_status g3_page_size(const g3_page *page, g3_size *size)
-{
-    HANDLE(page); SIZED(size);
-    return spared(g3_core_page_size(READ(page), REST(size)), &size->spare);
-}
-g3_status g3_page_row(const g3_page *page, uint32_t number, uint8_t *buffer, size_t room, uint64_t *count)
-{
-    HANDLE(page); OCTETS(buffer, room); PLACE(count);
-    return g3_core_page_row(READ(page), number, buffer, room, count);
-}
-g3_status g3_page_read_raster(const uint8_t *octets, size_t length, const g3_raster *raster, g3_page *out)
-{
-    OCTETS(octets, length); SPARE(raster); HANDLE(out);
-    return g3_core_page_read_raster(octets, length, raster, (handle *)out);
-}
-g3_status g3_page_write_raster(const g3_page *page, uint64_t stride, uint8_t *buffer, size_t room, uint64_t *count)
-{
-    HANDLE(page); OCTETS(buffer, room); PLACE(count);
-    return g3_core_page_write_raster(READ(page), stride, buffer, room, count);
-}
 /* How many octets whole rows become, of so many octets each. */
 static g3_status becomes(size_t length, uint32_t width, uint32_t from, uint32_t to, size_t room, uint64_t *count)
 {
@@ -250,26 +167,6 @@ g3_status g3_pixels_unpack(const uint8_t *rows, size_t length, uint32_t width, u
     for (size_t at = 0; at < length / row; at++) unpack_row(rows + at * row, width, buffer + at * width);
     return G3_OK;
 }
-g3_status g3_page_encode(const g3_page *page, uint32_t coding, uint32_t order, g3_octets *out)
-{
-    HANDLE(page); HANDLE(out);
-    return g3_core_page_encode(READ(page), coding, order, (handle *)out);
-}
-g3_status g3_page_decode(const uint8_t *octets, size_t length, const g3_code *code, g3_page *out, uint64_t *place)
-{
-    OCTETS(octets, length); SPARE(code); HANDLE(out); PLACE(place);
-    return g3_core_page_decode(octets, length, code, (handle *)out, place);
-}
-g3_status g3_page_salvage(const uint8_t *octets, size_t length, const g3_code *code, g3_page *out)
-{
-    OCTETS(octets, length); SPARE(code); HANDLE(out);
-    return g3_core_page_salvage(octets, length, code, (handle *)out);
-}
-g3_status g3_page_repair(const uint8_t *octets, size_t length, const g3_code *code, g3_page *out, uint64_t *count)
-{
-    OCTETS(octets, length); SPARE(code); HANDLE(out); PLACE(count);
-    return g3_core_page_repair(octets, length, code, (handle *)out, count);
-}
 g3_status g3_identify(const uint8_t *octets, size_t length, g3_found *found)
 {
     OCTETS(octets, length); SIZED(found);
@@ -277,60 +174,15 @@ g3_status g3_identify(const uint8_t *octets, size_t length, g3_found *found)
     if (status == G3_OK) found->format[found->length] = 0;
     return status;
 }
-g3_status g3_page_next(uint8_t *octets, size_t length, const g3_code *code, uint64_t used, uint64_t *next)
-{
-    OCTETS(octets, length); SPARE(code); PLACE(next);
-    return g3_core_page_next(octets, length, code, used, next);
-}
-g3_status g3_page_read_pbm(const uint8_t *octets, size_t length, uint32_t fine, g3_page *out, uint64_t *count)
-{
-    OCTETS(octets, length); HANDLE(out); PLACE(count);
-    return g3_core_page_read_pbm(octets, length, fine, (handle *)out, count);
-}
-g3_status g3_page_write_pbm(const g3_page *page, g3_octets *out)
-{
-    HANDLE(page); HANDLE(out);
-    return g3_core_page_write_pbm(READ(page), (handle *)out);
-}
 g3_status g3_row_coder_new(g3_row_coder *out, const g3_code *code)
 {
     HANDLE(out); SPARE(code);
     return g3_core_row_coder_new(code, (handle *)out);
 }
-g3_status g3_row_coder_push_row(g3_row_coder *coder, const uint8_t *octets, size_t length)
-{
-    HANDLE(coder); OCTETS(octets, length);
-    return g3_core_row_coder_push_row((handle *)coder, octets, length);
-}
-g3_status g3_row_coder_take(g3_row_coder *coder, g3_octets *out)
-{
-    HANDLE(coder); HANDLE(out); APART(coder, out, G3_FULL_HANDLE);
-    return g3_core_row_coder_take((handle *)coder, (handle *)out);
-}
-g3_status g3_row_coder_finish(g3_row_coder *coder, g3_octets *out)
-{
-    HANDLE(coder); HANDLE(out); APART(coder, out, G3_FULL_HANDLE);
-    return g3_core_row_coder_finish((handle *)coder, (handle *)out);
-}
 g3_status g3_row_reader_new(g3_row_reader *out, const g3_code *code)
 {
     HANDLE(out); SPARE(code);
     return g3_core_row_reader_new(code, (handle *)out);
-}
-g3_status g3_row_reader_feed(g3_row_reader *reader, const uint8_t *octets, size_t length, uint64_t *taken)
-{
-    HANDLE(reader); OCTETS(octets, length); PLACE(taken);
-    return g3_core_row_reader_feed((handle *)reader, octets, length, taken);
-}
-g3_status g3_row_reader_next(g3_row_reader *reader, uint8_t *buffer, size_t room, uint64_t *count, uint64_t *place)
-{
-    HANDLE(reader); OCTETS(buffer, room); PLACE(count); PLACE(place);
-    return g3_core_row_reader_next((handle *)reader, buffer, room, count, place);
-}
-g3_status g3_octets_len(const g3_octets *octets, uint64_t *count)
-{
-    HANDLE(octets); PLACE(count);
-    return g3_core_octets_len(READ(octets), count);
 }
 g3_status g3_octets_data(const g3_octets *octets, const uint8_t **data, uint64_t *count)
 {
@@ -339,133 +191,7 @@ g3_status g3_octets_data(const g3_octets *octets, const uint8_t **data, uint64_t
     if (status == G3_OK && *count == 0) *data = NULL;
     return status;
 }
-g3_status g3_octets_copy(const g3_octets *octets, uint8_t *buffer, size_t room, uint64_t *count)
-{
-    HANDLE(octets); OCTETS(buffer, room); PLACE(count);
-    return g3_core_octets_copy(READ(octets), buffer, room, count);
-}
-g3_status g3_deframer_new(g3_deframer *out)
-{
-    HANDLE(out);
-    return g3_core_deframer_new((handle *)out);
-}
-g3_status g3_deframer_feed(g3_deframer *deframer, const uint8_t *octets, size_t length)
-{
-    HANDLE(deframer); OCTETS(octets, length);
-    return g3_core_deframer_feed((handle *)deframer, octets, length);
-}
-g3_status g3_deframer_next(g3_deframer *deframer, uint8_t *buffer, size_t room, uint64_t *count)
-{
-    HANDLE(deframer); OCTETS(buffer, room); PLACE(count);
-    return g3_core_deframer_next((handle *)deframer, buffer, room, count);
-}
-g3_status g3_deframer_counts(const g3_deframer *deframer, g3_counts *counts)
-{
-    HANDLE(deframer); SIZED(counts);
-    return g3_core_deframer_counts(READ(deframer), REST(counts));
-}
-g3_status g3_frame_write(const uint8_t *content, size_t length, g3_octets *out, uint64_t *bits)
-{
-    OCTETS(content, length); HANDLE(out); PLACE(bits);
-    return g3_core_frame_write(content, length, (handle *)out, bits);
-}
 
-g3_status g3_document_new(g3_document *out)
-{
-    HANDLE(out);
-    return g3_core_document_new((handle *)out);
-}
-g3_status g3_document_push(g3_document *document, g3_page *page)
-{
-    HANDLE(document); HANDLE(page); APART(document, page, G3_OTHER_HANDLE);
-    return g3_core_document_push((handle *)document, (handle *)page);
-}
-g3_status g3_document_pages(const g3_document *document, uint64_t *count)
-{
-    HANDLE(document); PLACE(count);
-    return g3_core_document_pages(READ(document), count);
-}
-g3_status g3_answerer_new(g3_terminal *out, const g3_caps *caps)
-{
-    HANDLE(out); SPARE(caps);
-    return g3_core_answerer_new((handle *)out, caps);
-}
-g3_status g3_caller_new(g3_terminal *out, g3_document *document, const g3_wish *wish)
-{
-    HANDLE(out); HANDLE(document); SPARE(wish); APART(out, document, G3_FULL_HANDLE);
-    return g3_core_caller_new((handle *)out, (handle *)document, wish);
-}
-g3_status g3_terminal_hear(g3_terminal *terminal, const uint8_t *octets, size_t length)
-{
-    HANDLE(terminal); OCTETS(octets, length);
-    return g3_core_terminal_hear((handle *)terminal, octets, length);
-}
-g3_status g3_terminal_hear_frame(g3_terminal *terminal, const uint8_t *content, size_t length)
-{
-    HANDLE(terminal); OCTETS(content, length);
-    return g3_core_terminal_hear_frame((handle *)terminal, content, length);
-}
-g3_status g3_terminal_hear_training(g3_terminal *terminal, const uint8_t *octets, size_t length)
-{
-    HANDLE(terminal); OCTETS(octets, length);
-    return g3_core_terminal_hear_training((handle *)terminal, octets, length);
-}
-g3_status g3_terminal_wait_over(g3_terminal *terminal, uint32_t wait)
-{
-    HANDLE(terminal);
-    return g3_core_terminal_wait_over((handle *)terminal, wait);
-}
-uint32_t g3_wait_millis(uint32_t wait) { return g3_core_wait_millis(wait); }
-g3_status g3_terminal_tick(g3_terminal *terminal, uint64_t now, uint32_t line)
-{
-    HANDLE(terminal);
-    return g3_core_terminal_tick((handle *)terminal, now, line);
-}
-g3_status g3_terminal_due(const g3_terminal *terminal, uint64_t *at)
-{
-    HANDLE(terminal); PLACE(at);
-    return g3_core_terminal_due(READ(terminal), at);
-}
-g3_status g3_terminal_most_seconds(g3_terminal *terminal, uint32_t seconds)
-{
-    HANDLE(terminal);
-    return g3_core_terminal_most_seconds((handle *)terminal, seconds);
-}
-g3_status g3_terminal_set_busy(g3_terminal *terminal, uint32_t is)
-{
-    HANDLE(terminal);
-    return g3_core_terminal_set_busy((handle *)terminal, is);
-}
-g3_status g3_terminal_stop(g3_terminal *terminal)
-{
-    HANDLE(terminal);
-    return g3_core_terminal_stop((handle *)terminal);
-}
-g3_status g3_terminal_hang_up(g3_terminal *terminal)
-{
-    HANDLE(terminal);
-    return g3_core_terminal_hang_up((handle *)terminal);
-}
-g3_status g3_terminal_lost(g3_terminal *terminal)
-{
-    HANDLE(terminal);
-    return g3_core_terminal_lost((handle *)terminal);
-}
-g3_status g3_terminal_next_burst(g3_terminal *terminal, g3_octets *out, g3_burst *burst)
-{
-    HANDLE(terminal); HANDLE(out); SIZED(burst); APART(terminal, out, G3_FULL_HANDLE);
-    return spared(g3_core_terminal_next_burst((handle *)terminal, (handle *)out, REST(burst)), &burst->spare);
-}
-g3_status g3_terminal_state(const g3_terminal *terminal, g3_state *state)
-{
-    HANDLE(terminal); SIZED(state);
-    return spared(g3_core_terminal_state(READ(terminal), REST(state)), &state->spare);
-}
-g3_status g3_terminal_progress(const g3_terminal *terminal, g3_progress *progress)
-{
-    HANDLE(terminal); SIZED(progress);
-    return g3_core_terminal_progress(READ(terminal), REST(progress));
-}
 g3_status g3_terminal_params(const g3_terminal *terminal, g3_params *params)
 {
     said it = {0};
@@ -479,16 +205,6 @@ g3_status g3_terminal_peer(const g3_terminal *terminal, g3_signal *signal)
     g3_status status = g3_core_terminal_peer(READ(terminal), &it);
     if (status == G3_OK) says(&it, signal);
     return status;
-}
-g3_status g3_terminal_take_page(g3_terminal *terminal, g3_page *out)
-{
-    HANDLE(terminal); HANDLE(out); APART(terminal, out, G3_FULL_HANDLE);
-    return g3_core_terminal_take_page((handle *)terminal, (handle *)out);
-}
-g3_status g3_terminal_hold(g3_terminal *terminal, g3_page *out)
-{
-    HANDLE(terminal); HANDLE(out); APART(terminal, out, G3_FULL_HANDLE);
-    return g3_core_terminal_hold((handle *)terminal, (handle *)out);
 }
 g3_status g3_signal_read(const uint8_t *content, size_t length, g3_signal *signal)
 {

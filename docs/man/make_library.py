@@ -1,7 +1,8 @@
 #!/usr/bin/env python3
-"""Writes the man pages of the library for C, by group, from the comments of bindings/g3fax.h:
+"""Writes what follows from bindings/g3fax.h: the man pages of the library for C, by group, from its comments; and by bindings/from_header.py
+the names in bindings/exports, and what Python knows of structs and functions:
 
-    docs/man/make_library.py            writes docs/man/g3fax_*.3
+    docs/man/make_library.py            writes docs/man/g3fax_*.3, bindings/exports and bindings/python/g3fax/_native.py
     docs/man/make_library.py --check    writes nothing; names each file that would be another, and ends with status 1 then
 
 Each function, struct and list of numbers of the header stands in one page, with the comment before it. A name that no page takes ends the
@@ -13,6 +14,9 @@ import textwrap
 from pathlib import Path
 
 TOP = Path(__file__).resolve().parent.parent.parent
+sys.path.insert(0, str(TOP / "bindings"))
+import from_header  # noqa: E402
+
 COMMENT = re.compile(r"/\*.*?\*/", re.S)
 FUNCTION = re.compile(r"^(?:G3_CHECK )?[\w ]+?[ *](g3_\w+)\(.*\);$", re.S)
 #: what a page is of, and which names it takes: the first that fits
@@ -137,9 +141,9 @@ def main():
     version = (TOP / "VERSION").read_text().strip()
     date = re.search(r"^## (?:.*, )?(\d{4}-\d\d-\d\d)$", (TOP / "CHANGELOG.md").read_text(), re.M)[1]
     others = []
-    for group, about, _ in GROUPS:
-        file = TOP / f"docs/man/g3fax_{group}.3"
-        text = page(group, about, [item for item in found if item.group() == group], version, date)
+    files = {TOP / f"docs/man/g3fax_{group}.3": page(group, about, [item for item in found if item.group() == group], version, date)
+             for group, about, _ in GROUPS}
+    for file, text in {**files, **from_header.written(version)}.items():
         if sys.argv[1:] == ["--check"]:
             others += [] if file.is_file() and file.read_text() == text else [str(file.relative_to(TOP))]
         else:

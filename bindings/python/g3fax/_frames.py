@@ -5,7 +5,7 @@ from __future__ import annotations
 import ctypes
 from typing import TYPE_CHECKING, Any, Iterable, Iterator, List, Optional, Tuple
 
-from ._native import _NOT_COMPATIBLE, _NOTHING, _Counts, _Dcs, _Dis, _Handle, _library, _Params, _Pps, _Signal, _u32, _u64, _Wish
+from ._native import _NOT_COMPATIBLE, _NOTHING, _Counts, _Dcs, _Dis, _Handle, _library, _Params, _Block, _Signal, _u32, _u64, _Wish
 from ._names import Carrier, Coding, Counts, Dis, Frame, Kind, Modems, PageEnd, Params, Pps, Side, Signal
 from ._owning import NotCompatible, _done, _flag, _is, _number, _octets, _Owner, _room, _taken, _width
 
@@ -100,7 +100,7 @@ def write_signal(signal: Signal, side: Side, last: bool = True) -> bytes:
     if signal.dcs is not None:
         given.dcs = _Dcs(*_numbers(signal.dcs))
     if signal.pps is not None:
-        given.pps = _Pps(*_numbers(signal.pps))
+        given.pps = _Block(*_numbers(signal.pps))
     given.octets[:min(len(octets), 296)] = octets[:296]
     buffer, address = _room(300)
     status = _library.g3_signal_write(ctypes.byref(given), _number(side, "side"), _flag(last, "last"), address, len(buffer),
