@@ -55,6 +55,7 @@ fi
 "$top/bindings/install.sh" "$work" /opt/g3fax "$work/stage"
 (cd "$work/prefix" && find . | sort) > "$work/wanted"
 (cd "$work/stage/opt/g3fax" && find . | sort) | cmp - "$work/wanted" || fails "other files where DESTDIR is given"
+! grep -n '](\.\./' "$work/prefix/share/doc/g3fax/README.md" || fails "the installed README.md has a link to what isn't there"
 grep -q '^prefix=/opt/g3fax$' "$work/stage/opt/g3fax/lib/pkgconfig/g3fax.pc" || fails "g3fax.pc has another prefix"
 grep -q "^Version: $(cat "$top/VERSION")\$" "$work/prefix/lib/pkgconfig/g3fax.pc" || fails "g3fax.pc has another version"
 

@@ -1,7 +1,7 @@
 #!/bin/sh
 # Compiles and runs the first programs of bindings/README.md in C and in Python as they stand there, with the library for C that
-# bindings/build.sh left in a folder, its loop of a call for both ends of a line of virtual time (bindings/tests/line.c), and its loop over
-# the pages of a file (bindings/tests/pages.c):
+# bindings/build.sh left in a folder, its loop of a call for both ends of a line of virtual time (bindings/tests/line.c), its loop over
+# the pages of a file (bindings/tests/pages.c), and the examples of the man pages (docs/man/examples):
 #
 #     .ci/readme_programs.sh FOLDER
 #
@@ -90,6 +90,17 @@ for name in mh.msb mh.lsb mmr.msb mmr.lsb; do
 done
 (cd "$work/readme" && ./pages page.pbm 0 > "$work/output" 2>&1) && fails "the loop over a file that is no page"
 grep -q ': 0 pages, 0 rows$' "$work/output" || fails "the loop over a file that is no page: $(cat "$work/output")"
+# the examples of the man pages, which print what their first lines say
+for file in "$top"/docs/man/examples/*.c; do
+    name=$(basename "$file" .c)
+    "$kit/toolchain/bin/clang" -std=c11 -Wall -Wextra -Werror -O1 -g -fPIE -fsanitize=address,undefined -fsanitize-trap=undefined \
+        -nostdinc -isystem "$top/bindings/include" -I "$work" -c "$file" -o "$work/readme/man.o" || fails "the example of g3fax_$name isn't built"
+    links man man.o
+    runs "the example of g3fax_$name" ./man
+    said=$(sed -n '1s/.*"\(.*\)".*/\1/p' "$file")
+    [ -n "$said" ] || fails "the first line of $name.c doesn't say what is printed"
+    [ "$(cut -c "1-${#said}" "$work/output")" = "$said" ] || fails "the example of g3fax_$name prints $(cat "$work/output")"
+done
 takes python "$work/readme/program.py"
 runs Python env PYTHONDONTWRITEBYTECODE=1 PYTHONPATH="$top/bindings/python" G3FAX_LIBRARY="$work/libg3fax.so.0" python3 -W error program.py
-echo "readme programs: the first ones of bindings/README.md, in C and in Python, run as they stand there; its loops carry calls and read files"
+echo "readme programs: the first ones of bindings/README.md, in C and in Python, run as they stand there; its loops carry calls and read files; man pages"

@@ -19,9 +19,13 @@ CTYPES = {"uint64_t": "_u64", "uint32_t": "_u32", "size_t": "_size", "uint8_t": 
 class Header:
     """The structs and functions of g3fax.h, in order."""
 
+    @staticmethod
+    def plain(text):
+        """The header without its comments."""
+        return re.sub(r"[ \t]+$", "", re.sub(r"/\*.*?\*/", "", text, flags=re.S), flags=re.M)
+
     def __init__(self, text):
-        plain = re.sub(r"/\*.*?\*/", "", text, flags=re.S)
-        plain = re.sub(r"[ \t]+$", "", plain, flags=re.M)
+        plain = self.plain(text)
         #: each struct's members: a type, a name, and of an array how many there are, as text
         self.structs = {}
         for name, inside in STRUCT.findall(plain):
@@ -67,8 +71,8 @@ def wrapper(header, kind, name, parameters):
     call = f"{core}({', '.join(words)})"
     result = f"spared({call}, {spared})" if spared else call
     given = ", ".join(written + word for written, word in parameters)
-    lines = [f"{kind} {core}({', '.join(types)});", f"{kind} {name}({given})", "{", *([f"    {' '.join(tests)}"] if tests else []), f"    return {result};", "}"]
-    return "\n".join(lines)
+    tested = [f"    {' '.join(tests)}"] if tests else []
+    return "\n".join([f"{kind} {core}({', '.join(types)});", f"{kind} {name}({given})", "{", *tested, f"    return {result};", "}"])
 
 
 def wrappers(header, source):

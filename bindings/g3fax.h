@@ -1,5 +1,5 @@
-/* The proved Group 3 fax codec, frames and stations, for C and for every language that calls C. README.md, beside this file, says
- * what is defined and what isn't, who owns what, and which status comes when. SPDX: MIT OR Apache-2.0 */
+/* The proved Group 3 fax codec, frames and stations, for C and for every language that calls C. README.md, which is installed in share/doc,
+ * says what is defined and what isn't, who owns what, and which status comes when. SPDX: MIT OR Apache-2.0 */
 #ifndef G3FAX_H
 #define G3FAX_H
 #include <stddef.h>

@@ -7,7 +7,10 @@
 set -e
 [ $# = 2 ] || [ $# = 3 ] || { echo "usage: install.sh FOLDER PREFIX [DESTDIR]" >&2; exit 2; }
 from=$1 prefix=$2 to=$3$2
-mkdir -p "$to/lib/pkgconfig" "$to/include"
+mkdir -p "$to/lib/pkgconfig" "$to/include" "$to/share/doc/g3fax"
+# the pages that it links to aren't there
+sed 's,\[\([^]]*\)\](\.\./[^)]*),\1,g' "$(dirname "$0")/README.md" > "$to/share/doc/g3fax/README.md"
+chmod 644 "$to/share/doc/g3fax/README.md"
 install -m644 "$from/g3fax.h" "$to/include/g3fax.h"
 install -m644 "$from/libg3fax.a" "$to/lib/libg3fax.a"
 install -m755 "$from/libg3fax.so.0" "$to/lib/libg3fax.so.0"

@@ -1,11 +1,17 @@
-/* The initializers of g3fax.h, in C99 to C17 and in C++98 to C++20: .ci/bindings.sh compiles it as each, and runs it as C and as C++. Ends with 0
- * if what they make is empty, but for the sizes. */
+/* The initializers of g3fax.h, in C99 to C17 and in C++98 to C++20: .ci/bindings.sh compiles it as each. Ends with 0 if what they make is
+ * empty, but for the sizes. */
 #include "g3fax.h"
 
 static g3_state shared = G3_INIT(g3_state);
 static g3_page page = G3_EMPTY;
 
-#define MAKES(type) do { const type it = G3_INIT(type); type other = it; other = G3_INIT_OF(type); bad |= is_made(&it, sizeof it) | is_made(&other, sizeof it); } while (0)
+#define MAKES(type) \
+    do { \
+        const type it = G3_INIT(type); \
+        type other = it; \
+        other = G3_INIT_OF(type); \
+        bad |= is_made(&it, sizeof it) | is_made(&other, sizeof other); \
+    } while (0)
 
 /* Whether it isn't made: it begins with its size, and 0 follows. */
 static int is_made(const void *it, uint64_t size)

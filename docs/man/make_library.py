@@ -2,7 +2,8 @@
 """Writes what follows from bindings/g3fax.h: the man pages of the library for C, by group, from its comments; and by bindings/from_header.py
 the names in bindings/exports, and what Python knows of structs and functions:
 
-    docs/man/make_library.py            writes docs/man/g3fax_*.3, bindings/exports and bindings/python/g3fax/_native.py
+    docs/man/make_library.py            writes docs/man/g3fax_*.3, bindings/exports and bindings/python/g3fax/_native.py; the examples of the
+                                        pages are those of docs/man/examples
     docs/man/make_library.py --check    writes nothing; names each file that would be another, and ends with status 1 then
 
 Each function, struct and list of numbers of the header stands in one page, with the comment before it. A name that no page takes ends the
@@ -101,14 +102,65 @@ def escaped(text):
     return "\n".join("\\&" + line if line[:1] in (".", "'") else line for line in text.split("\n"))
 
 
-def page(group, about, chosen, version, date):
+def broken(text, width):
+    """A declaration in lines of a width: a long line breaks after a comma or a semicolon."""
+    lines = []
+    for line in text.split("\n"):
+        margin = re.match(" *", line)[0]
+        while len(line) > width:
+            at = max(line.rfind(", ", 0, width), line.rfind("; ", 0, width))
+            if at <= len(margin):
+                sys.exit(f"make_library.py: a line of more than {width} columns: {line}")
+            lines.append(line[:at + 1])
+            line = f"{margin}    {line[at + 2:]}"
+        lines.append(line)
+    return "\n".join(lines)
+
+
+def narrow(text, width):
+    """A declaration in lines of a width: the comment of a long line stands before it."""
+    lines = []
+    for line in text.split("\n"):
+        found = re.fullmatch(r"( *)(.*?) *(/\*.*\*/)", line)
+        if len(line) > width and found:
+            margin, line, comment = found[1], found[1] + found[2], words(found[3])
+            told = textwrap.wrap(comment, width - len(margin) - 6, break_on_hyphens=False)
+            last = len(told) - 1
+            lines += [f"{margin}{' *' if row else '/*'} {part}{' */' if row == last else ''}" for row, part in enumerate(told)]
+        lines += broken(line, width).split("\n") if line.strip() else []
+    return "\n".join(lines)
+
+
+def statuses(comments):
+    """The numbers and texts of the statuses that comments name, with those of wrong use."""
+    named = set(re.findall(r"\bG3_\w+", comments))
+    known = re.findall(r'case (G3_\w+): return "(.*)";', (TOP / "bindings/g3fax.c").read_text().split("g3_status_text(")[1])
+    plain = from_header.Header.plain((TOP / "bindings/g3fax.h").read_text())
+    numbers = {name: int(number) for name, number in re.findall(r"\b(G3_\w+) = (\d+)", plain)}
+    coded = "10 to 18" in comments
+    return [(numbers[name], name, text) for name, text in known
+            if name in named or name == "G3_NO_MEMORY" or numbers[name] in (0, 100, 101, 102, 105, 110) or coded and 10 <= numbers[name] <= 18]
+
+
+def elsewhere(group, chosen, found):
+    """Each type that the declarations of a page name and another page has, with that."""
+    own = {item.name for item in chosen}
+    text = "\n".join(item.text for item in chosen)
+    return [f"\\fB{item.name}\\fP is in \\fBg3fax_{item.group()}\\fP(3)" for item in found
+            if not item.function and item.name.startswith("g3_") and item.name not in own and item.group() != group
+            and re.search(rf"\b{item.name}\b", text)]
+
+
+def page(group, about, found, version, date):
     """A man page."""
+    chosen = [item for item in found if item.group() == group]
     functions = [item.function for item in chosen if item.function]
     others = [f"\\fBg3fax_{name}\\fP(3)" for name, _, _ in GROUPS if name != group]
     lines = ['.\\" Written by docs/man/make_library.py from bindings/g3fax.h.', f'.TH G3FAX_{group.upper()} 3 {date} "libg3fax {version}"',
-             ".SH NAME", "\n".join(textwrap.wrap(f"{', '.join([f'g3fax_{group}', *functions])} \\- {about}", 78, break_on_hyphens=False)), ".SH SYNOPSIS", ".nf",
-             "\\fB#include <g3fax.h>\\fP", ""]
-    lines += [escaped(re.sub(r"^G3_CHECK ", "", item.text)) for item in chosen if item.function]
+             ".nh", ".ad l", ".SH NAME", "\n".join(textwrap.wrap(f"{', '.join([f'g3fax_{group}', *functions])} \\- {about}", 72, break_on_hyphens=False)),
+             ".SH LIBRARY", ".nf", "cc program.c $(pkg\\-config \\-\\-cflags \\-\\-libs g3fax), or \\-lg3fax", ".fi",
+             ".SH SYNOPSIS", ".nf", "\\fB#include <g3fax.h>\\fP", ""]
+    lines += [escaped(broken(re.sub(r"^G3_CHECK ", "", item.text), 72)) for item in chosen if item.function]
     lines += [".fi", ".SH DESCRIPTION"]
     for comment, several in grouped(chosen):
         if comment:
@@ -118,9 +170,15 @@ def page(group, about, chosen, version, date):
         if names:
             lines += [".RS", *[f".br\n\\fB{name}\\fP()" for name in names], ".RE"]
         for item in shown:
-            lines += [".RS", ".nf", escaped(item.text), ".fi", ".RE"]
-    lines += [".SH STATUSES", "Which status comes when, what isn't defined and who owns what is in README.md of the library.", ".SH SEE ALSO",
-              ", ".join(others)]
+            lines += [".RS", ".nf", escaped(narrow(item.text, 65)), ".fi", ".RE"]
+    types = elsewhere(group, chosen, found)
+    if types:
+        lines += [".SH TYPES", *textwrap.wrap("; ".join(types) + ".", 78, break_on_hyphens=False)]
+    lines += [".SH STATUSES", "README.md of the library says which comes when, what isn't defined, and who owns what."]
+    for number, name, text in statuses(" ".join(item.comment or "" for item in chosen)):
+        lines += [".TP", f"\\fB{name}\\fP, {number}", escaped(text)]
+    example = (TOP / f"docs/man/examples/{group}.c").read_text()
+    lines += [".SH EXAMPLE", ".nf", escaped(example.rstrip("\n")), ".fi", ".SH SEE ALSO", ", ".join(others)]
     return "\n".join(lines) + "\n"
 
 
@@ -141,7 +199,7 @@ def main():
     version = (TOP / "VERSION").read_text().strip()
     date = re.search(r"^## (?:.*, )?(\d{4}-\d\d-\d\d)$", (TOP / "CHANGELOG.md").read_text(), re.M)[1]
     others = []
-    files = {TOP / f"docs/man/g3fax_{group}.3": page(group, about, [item for item in found if item.group() == group], version, date)
+    files = {TOP / f"docs/man/g3fax_{group}.3": page(group, about, found, version, date)
              for group, about, _ in GROUPS}
     for file, text in {**files, **from_header.written(version)}.items():
         if sys.argv[1:] == ["--check"]:
