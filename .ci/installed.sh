@@ -106,4 +106,29 @@ status=0
 "$work/shared" "$data/page.pbm" "$work/code" mmr msb 2> /dev/null || status=$?
 [ "$status" = 127 ] || fails "shared wants no libg3fax.so.0: status $status"
 LD_LIBRARY_PATH=$work/prefix/lib codes shared
-echo "installed: an example runs with the installed shared library and with the archive, by the flags of g3fax.pc"
+
+# in C++ too; the header of the C library here is for C alone
+printf 'extern "C" {\n#include <stdio.h>\n}\n#include "%s"\n' "$top/docs/man/examples/pages.c" > "$work/installed.cc"
+# shellcheck disable=SC2046
+"$kit/toolchain/bin/clang" -std=c++98 -Wall -Wextra -Werror -O1 -fPIE -nostdinc -isystem "$top/bindings/include" $(flags Cflags) \
+    -c "$work/installed.cc" -o "$work/installed.o"
+# shellcheck disable=SC2046
+links c++ $(flags Libs)
+[ "$(LD_LIBRARY_PATH=$work/prefix/lib "$work/c++")" = "done: 6 octets" ] || fails "the example in C++"
+
+# in a root that has neither the kit nor these sources: the programs, the library and the C library alone
+where="as it is"
+if [ "$(id -u)" = 0 ] && command -v chroot ldd > /dev/null; then
+    root=$work/root
+    mkdir -p "$root/lib64" "$root/lib"
+    cp "$work/static" "$work/shared" "$work/prefix/lib/libg3fax.so.0" "$data/page.pbm" "$root/"
+    cp /lib64/ld-linux-x86-64.so.2 "$root/lib64/"
+    cp "$(ldd "$work/shared" | sed -n 's/.*libc.so.6 => \([^ ]*\).*/\1/p')" "$root/lib/"
+    for name in static shared; do
+        chroot "$root" /lib64/ld-linux-x86-64.so.2 --library-path /lib:/ "/$name" /page.pbm /code mmr msb || fails "$name in a root of its own: $?"
+        cmp "$root/code" "$data/page.mmr.msb" || fails "$name in a root of its own codes otherwise"
+        rm "$root/code"
+    done
+    where="also in a root without the kit"
+fi
+echo "installed: an example runs with the installed shared library and with the archive, by the flags of g3fax.pc, in C and C++, $where"

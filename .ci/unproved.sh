@@ -6,5 +6,9 @@ cd "$(dirname "$0")/.."
 packaging/try.sh
 packaging/try.sh --library
 .ci/readme_programs.sh build
+installed=$(mktemp -d)
+trap 'rm -rf "$installed"' EXIT
+cp build/libg3fax.* build/g3fax.* "$installed"
+.ci/installed.sh "$installed"
 .ci/growths.py
 .ci/end_to_end.sh build/faxtool

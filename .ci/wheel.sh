@@ -60,6 +60,9 @@ for name, given, length in lines[:-1]:
 python3 -m zipfile -e "$to/first/$wheel" "$to/unpacked"
 runs PYTHONPATH="$to/unpacked" "$(python3 -c 'import sys; print(sys.executable)')"
 
+# in the system's Python, which may be another one
+[ ! -x /usr/bin/python3 ] || runs PYTHONPATH="$to/unpacked" /usr/bin/python3
+
 how="unpacked, since there is no pip"
 if python3 -m pip --version > /dev/null 2>&1 && python3 -m venv "$to/env" > "$to/said" 2>&1; then
     "$to/env/bin/python" -m pip install -q "$to/first/$wheel" > "$to/said" 2>&1 || fails "pip install"

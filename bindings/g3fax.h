@@ -339,7 +339,8 @@ G3_CHECK g3_status g3_terminal_next_burst(g3_terminal *terminal, g3_octets *out,
 /* what a station listens for: V.21 alone; a training check by `carrier`; V.21, and the frames of a page by `carrier`, one of which comes next;
  * or the same where V.21 comes first, and pages only after it: for a modem that hears one carrier at a time */
 enum g3_hears { G3_HEARS_V21 = 1, G3_HEARS_CHECK = 2, G3_HEARS_PAGES = 3, G3_HEARS_V21_THEN_PAGES = 4 };
-/* why a call ended */
+/* why a call ended. Another call by a caller may go better after G3_END_NO_ANSWER, _TRAINING, _NO_REPLY, _UNREADABLE, _STILL_BUSY, _PEER_LEFT and
+ * _LINE_LOST; after G3_END_NOT_COMPATIBLE only with other pages, or to another station */
 enum g3_end {
     G3_END_NORMAL = 1,         /* all pages went over */
     G3_END_NO_ANSWER = 2,      /* no DIS or no DCS came */

@@ -15,5 +15,7 @@ install -m644 "$from/g3fax.h" "$to/include/g3fax.h"
 install -m644 "$from/libg3fax.a" "$to/lib/libg3fax.a"
 install -m755 "$from/libg3fax.so.0" "$to/lib/libg3fax.so.0"
 ln -sf libg3fax.so.0 "$to/lib/libg3fax.so"
-sed "s|@PREFIX@|$prefix|" "$from/g3fax.pc" > "$to/lib/pkgconfig/g3fax.pc"
+# a build to be tried has folders of its own there
+sed "s|^prefix=.*|prefix=$prefix|; s|^includedir=.*|includedir=\${prefix}/include|; s|^libdir=.*|libdir=\${prefix}/lib|" "$from/g3fax.pc" \
+    > "$to/lib/pkgconfig/g3fax.pc"
 chmod 644 "$to/lib/pkgconfig/g3fax.pc"
