@@ -74,7 +74,7 @@ fi
 if command -v mypy > /dev/null; then
     mypy --strict --cache-dir="$to/mypy" "$top/bindings/python/g3fax" > "$to/said" 2>&1 || fails "mypy of the package"
     printf '%s\n' 'import g3fax' 'with g3fax.Page.read_pbm(b"") as page:' '    reveal_type(page[0])' '    reveal_type(page[1:])' \
-        > "$to/typed.py"
+        'g3fax.Page.decode(b"").bits + 1' > "$to/typed.py"
     (cd "$to" && MYPYPATH=$to/unpacked mypy --strict --cache-dir="$to/mypy" typed.py) > "$to/said" 2>&1 || fails "mypy of a program"
     for type in memoryview 'Page"'; do grep -q "$type" "$to/said" || fails "the package has no type $type"; done
     # each line has one error of a caller, which is found

@@ -6,7 +6,7 @@ import contextlib
 import ctypes
 import importlib
 import operator
-from typing import TYPE_CHECKING, Any, Dict, Iterator, Optional, Tuple, Type, Union, overload
+from typing import TYPE_CHECKING, Any, Dict, Iterator, Optional, Tuple, Type, Union, cast, overload
 
 from ._native import _MISSING_EOFB, _NOTHING, _Code, _Found, _Handle, _Raster, _Size, _library, _u64
 from ._names import Coding, FileKind, Found, Order
@@ -81,13 +81,13 @@ class Page(_Owner):
 
     @classmethod
     def decode(cls, octets: Buffer, width: int = 1728, coding: Coding = Coding.MMR, order: Order = Order.MSB_FIRST,
-               fine: bool = False) -> Page:
+               fine: bool = False) -> _DecodedPage:
         """The page that octets begin with; what follows is ignored. `bits` of it are the bits used. Raises CodeFault with the bit."""
         page, place, (address, length) = cls._empty(), _u64(), _octets(octets)
         code = _code(coding, order, width, fine)
         _done(_library.g3_page_decode(address, length, ctypes.byref(code), page._at, ctypes.byref(place)), place.value, lambda: _library.g3_code_wrong(ctypes.byref(code)))
         page.bits = place.value
-        return page
+        return cast("_DecodedPage", page)
 
     @classmethod
     def salvage(cls, octets: Buffer, width: int = 1728, coding: Coding = Coding.MMR, order: Order = Order.MSB_FIRST,
@@ -245,6 +245,13 @@ class Page(_Owner):
     def __bytes__(self) -> bytes:
         """The page as a raw PBM image."""
         return bytes(self.pbm())
+
+
+if TYPE_CHECKING:
+    class _DecodedPage(Page):
+        """A page that was decoded, for what checks types: it has bits."""
+
+        bits: int
 
 
 #: what is said of a page beside its rows
