@@ -459,7 +459,7 @@ static void say_ctr(terminal *it)
     is_done(it, g3_octets_copy(&handle, it->octets + FLAGS_BEFORE, ROOM - FLAGS_BEFORE - FLAGS_AFTER, &length));
     g3_octets_free(&handle);
     length += FLAGS_BEFORE + FLAGS_AFTER;
-    it->burst = (g3_burst){sizeof(g3_burst), length * 8, G3_V21, 0, 1};
+    it->burst = (g3_burst){.size = sizeof(g3_burst), .bits = length * 8, .carrier = G3_V21, .last = 1};
     say_burst(it);
 }
 
