@@ -237,6 +237,7 @@ uint32_t g3_version_number(void) { return G3_VERSION_NUMBER; }
 
 const char *g3_code_wrong(const g3_code *code)
 {
+    if (code == NULL) return NULL;
     if (code->coding != G3_MH && code->coding != G3_MMR) return "coding";
     if (code->order != G3_MSB_FIRST && code->order != G3_LSB_FIRST) return "order";
     return NULL;
@@ -244,12 +245,14 @@ const char *g3_code_wrong(const g3_code *code)
 static int is_modems(uint32_t number) { return number >= G3_V27TER && number <= G3_V17; }
 const char *g3_caps_wrong(const g3_caps *caps)
 {
+    if (caps == NULL) return NULL;
     if (!is_modems(caps->modems)) return "modems";
     if (caps->widest != 1728 && caps->widest != 2048 && caps->widest != 2432) return "widest";
     return caps->limit == 0 ? "limit" : NULL;
 }
 const char *g3_wish_wrong(const g3_wish *wish)
 {
+    if (wish == NULL) return NULL;
     if (!is_modems(wish->modems)) return "modems";
     if (wish->coding != G3_MH && wish->coding != G3_MMR) return "coding";
     return wish->frame != 256 && wish->frame != 64 ? "frame" : NULL;

@@ -19,6 +19,7 @@ static void choices(void)
         IS(g3_code_wrong(&code) != NULL, g3_row_coder_new(&coder, &code) == G3_BAD_CHOICE);
         g3_terminal_free(&terminal), g3_row_coder_free(&coder);
     }
+    IS(1, g3_caps_wrong(NULL) == NULL && g3_wish_wrong(NULL) == NULL && g3_code_wrong(NULL) == NULL);
     g3_caps caps = {4, 1, 1, 9, 0};
     IS(0, strcmp(g3_caps_wrong(&caps), "modems"));
     caps.modems = G3_V29;
