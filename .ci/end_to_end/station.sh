@@ -387,7 +387,7 @@ try_from() {
 
 # Two processes that are joined: each line is answered at once, and the pages arrive.
 try_joined() {
-    for words in "--lose 0 --seed 1" "--lose 0.1 --seed 4" "--lose 0.1 --seed 5"; do
+    for words in "--lose 0 --seed 1" "--lose 10% --seed 4" "--lose 1/10 --seed 5" "--lose-frames 25% --seed 3"; do
         rm -rf "$work/stored"
         mkdir "$work/stored"
         timeout 60 python3 -B "$top/docs/examples/join.py" $words --caller-command "$program station --call" --answerer-command \
@@ -397,6 +397,7 @@ try_joined() {
         is_same "$work/stored/page-1.pbm" "$top/docs/examples/row.pbm" "the page of join.py $words"
         count=$((count + 1))
     done
+    grep -q ' without [1-9][0-9]* frames$' "$work/output" || fails "join.py --lose-frames loses none"
 }
 
 # A page that is handed over is confirmed once the driver has kept it, on a line that loses and with a disk that takes up to 9 s.
@@ -521,7 +522,7 @@ for rows in range(20, 53, 8):
     done
     rm -rf "$work/older"
     mkdir "$work/older"
-    cp "$top/docs/examples/pool.py" "$work/older"
+    cp "$top/docs/examples/pool.py" "$top/docs/examples/hdlc.py" "$work/older"
     sed '/if line.startswith(("busy ", "rx ")):/,+1d' "$top/docs/examples/join.py" > "$work/older/join.py"
     ! pool_by "$work/older" --calls 20 $killed || fails "pool.py doesn't see answers to older lines"
     grep -q 'is confirmed by the answer to an older line$' "$work/error" || fails "pool.py says something else of answers to older lines"

@@ -113,6 +113,11 @@ try_joins() {
     says "join.py: the answerer failed: fault 8; $work/missing: no such file or folder" "$work/error"
     joins 1 "$@" "$work/missing.pbm" "$work/stored"
     says "join.py: the caller failed: fault 8; $work/missing.pbm: no such file or folder" "$work/error"
+    for rate in 101% 1/0 -1 x; do
+        status=0
+        python3 -B "$top/docs/examples/join.py" "--lose=$rate" "$row" "$work/stored" > "$work/output" 2> "$work/error" || status=$?
+        [ "$status $(tail -n 1 "$work/error")" = "2 join.py: error: argument --lose: invalid rate value: '$rate'" ] || fails "join.py --lose=$rate"
+    done
     joins 0 "$@" "$row" "$work/stored"
     [ ! -s "$work/error" ] || fails "join.py of a call that ends normally wrote to standard error"
     rm -r "$work/stored"

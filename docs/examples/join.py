@@ -1,10 +1,11 @@
 #!/usr/bin/env python3
 """Joins a caller and an answerer of `faxtool station` by a simulated line, and prints what goes over it.
 
-    join.py [--lose RATE] [--slow MS] [--seed N] [--caller-command COMMAND] [--answerer-command COMMAND] IN.pbm DIR
+    join.py [--lose RATE] [--lose-frames RATE] [--slow MS] [--seed N] [--caller-command COMMAND] [--answerer-command COMMAND] IN.pbm DIR
 
-RATE is the share of bursts that are lost, as 0.1. One station sends at a time. The clock is simulated: a burst lasts as long as its
-bits take, 75 ms of silence come after it, and a quiet line says so every 20 ms. So a call of a minute takes a second. With --slow the
+RATE is the share of bursts that are lost, or of frames in those that come: 10%, 1/10 or 0.1. A lost frame comes as 1 bits. One station sends
+at a time. The clock is simulated: a burst lasts as long as its bits take, 75 ms of silence come after it, and a quiet line says so every
+20 ms, or when it is due if both stations say `wait T`. So a call of a minute takes a second. With --slow the
 answerer takes up to that many milliseconds to store a page; a page that it hands over, with --hold, is kept after as many.
 
 An answer is sent only if the other side hasn't begun to speak since the line that it answers. What is left of it is dropped before a newer
@@ -14,18 +15,41 @@ The exit status is 0 if both stations end normally. If one can't be started, or 
 one and why."""
 
 import argparse
+import fractions
 import os
 import random
 import shlex
 import subprocess
 import sys
 
+from hdlc import bits_of, gaps, octets_of
+
+
+def rate(text):
+    """A share: a percentage, a fraction or a decimal number, 0 to 1."""
+    try:
+        share = fractions.Fraction(text[:-1]) / 100 if text.endswith("%") else fractions.Fraction(text)
+    except ZeroDivisionError:
+        share = 2
+    if not 0 <= share <= 1:
+        raise ValueError(text)
+    return float(share)
+
+
+def without(octets, number, is_lost):
+    """The octets of a burst of so many bits, in hex, without some of its frames; and how many were lost."""
+    bits, lost = bits_of(bytes.fromhex(octets)), 0
+    for begin, end in gaps(bits[:number]):
+        if is_lost():
+            bits, lost = bits[:begin] + "1" * (end - begin) + bits[end:], lost + 1
+    return octets_of(bits).hex(), lost
+
 
 class Station:
     """A process that answers each line."""
 
     def __init__(self, name, command):
-        self.name, self.runs, self.page = name, True, None
+        self.name, self.runs, self.page, self.due = name, True, None, None
         # a fault is explained in words too
         how = {"env": {**os.environ, "FAXTOOL_EXPLAIN": "1"}, "text": True}
         try:
@@ -43,13 +67,15 @@ class Station:
             except BrokenPipeError:
                 self.runs = False
                 return bursts
-            while (answer := self.process.stdout.readline().strip()).startswith(("tx ", "page ")):
+            while (answer := self.process.stdout.readline().strip()).startswith(("tx ", "page ", "hear ")):
                 word, _space, rest = answer.partition(" ")
                 if word == "page":
                     self.page = rest
-                else:
+                elif word == "tx":
                     bursts.append(rest)
-            self.runs = answer == "wait"
+            # with --hear the time stands behind it from which a quiet does something
+            word, _space, rest = answer.partition(" ")
+            self.runs, self.due = word == "wait", int(rest) if rest else None
         return bursts
 
     def end(self):
@@ -96,15 +122,19 @@ class Side:
 
 
 class Line:
-    """A half-duplex line between two sides, on a clock of its own. Of the bursts, the share `lose` doesn't arrive."""
+    """A half-duplex line between two sides, on a clock of its own. Of the bursts, the share `lose` doesn't arrive, nor `frames` of the frames."""
 
-    def __init__(self, sides, lose=0.0, seed=1, step=20, shows=lambda text: None):
-        self.sides, self.lose, self.step, self.shows = sides, lose, step, shows
+    def __init__(self, sides, lose=0.0, seed=1, step=20, shows=lambda text: None, frames=0.0):
+        self.sides, self.lose, self.step, self.shows, self.frames = sides, lose, step, shows, frames
         self.chance, self.clock = random.Random(seed), 0
+
+    def is_over(self):
+        """The call is given up, though a station runs."""
+        return False
 
     def play(self):
         """Plays a call to the end of both stations."""
-        while any(side.station.runs or side.bursts for side in self.sides):
+        while any(side.station.runs or side.bursts for side in self.sides) and not self.is_over():
             for side, other in (self.sides, self.sides[::-1]):
                 side.hear(self.clock, self.chance)
                 # the other side has begun to speak since: what is answered now would answer another line
@@ -114,17 +144,27 @@ class Line:
             if sender:
                 self.carry(sender, self.sides[sender is self.sides[0]])
                 continue
-            self.clock += self.step
+            self.clock = max(self.clock + self.step, self.next_due())
             for side in self.sides:
                 if self.clock >= side.free and not side.lines:
                     side.lines.append((self.clock, f"quiet {self.clock}"))
 
+    def next_due(self):
+        """When a quiet line does something, or a side is free again, if all stations that run say when; else 0."""
+        dues = [side.station.due for side in self.sides if side.station.runs]
+        if None in dues or any(side.held for side in self.sides):
+            return 0
+        return min(dues + [side.free for side in self.sides if side.free > self.clock], default=0)
+
     def carry(self, sender, receiver):
         """Carries a burst to the other side, or loses it."""
         burst, sender.began = sender.bursts.pop(0), self.clock
-        carrier, kind, bits, _octets = burst.split(" ")
-        is_lost = self.chance.random() < self.lose
-        self.shows(f"{self.clock:7} {sender.station.name:8} {carrier} {kind} {bits}{' lost' if is_lost else ''}")
+        carrier, kind, bits, octets = burst.split(" ")
+        is_lost, words = self.chance.random() < self.lose, ""
+        if self.frames and kind == "hdlc" and not is_lost:
+            octets, lost = without(octets, int(bits), lambda: self.chance.random() < self.frames)
+            burst, words = f"{carrier} {kind} {bits} {octets}", f" without {lost} frames" if lost else ""
+        self.shows(f"{self.clock:7} {sender.station.name:8} {carrier} {kind} {bits}{' lost' if is_lost else words}")
         receiver.lines += [] if is_lost else [(self.clock, f"busy {self.clock}")]
         self.clock += int(bits) * 1000 // (300 if carrier == "v21" else int(carrier.split("-")[1]))
         receiver.lines += [] if is_lost else [(self.clock, f"rx {self.clock} {burst}")]
@@ -133,7 +173,8 @@ class Line:
 
 def main():
     parser = argparse.ArgumentParser(description=__doc__, formatter_class=argparse.RawDescriptionHelpFormatter)
-    parser.add_argument("--lose", type=float, default=0.0)
+    parser.add_argument("--lose", type=rate, default=0.0)
+    parser.add_argument("--lose-frames", type=rate, default=0.0)
     parser.add_argument("--slow", type=int, default=0)
     parser.add_argument("--seed", type=int, default=1)
     parser.add_argument("--caller-command", default="faxtool station --call", help="IN.pbm is put after it")
@@ -143,7 +184,7 @@ def main():
     asked = parser.parse_args()
     caller = Station("caller", shlex.split(asked.caller_command) + [asked.document])
     answerer = Station("answerer", shlex.split(asked.answerer_command) + ["--out", asked.folder])
-    Line([Side(caller), Side(answerer, asked.folder, asked.slow)], asked.lose, asked.seed, shows=print).play()
+    Line([Side(caller), Side(answerer, asked.folder, asked.slow)], asked.lose, asked.seed, shows=print, frames=asked.lose_frames).play()
     ended = True
     for station in (caller, answerer):
         errors, status = station.end()

@@ -20,7 +20,8 @@ import signal
 import sys
 from concurrent.futures import ThreadPoolExecutor
 
-from join import Line, Side, Station
+from hdlc import bits_of, content, gaps
+from join import Line, Side, Station, rate
 
 # Third octets of signals, and the fourth of a PPS that no page ends with.
 MCF, PPS, NULL = 0x8C, 0xBE, 0x00
@@ -44,13 +45,9 @@ class Killed(Station):
 
 
 def frames_of(octets):
-    """The contents of a burst's frames, in hex, without their check sequences."""
-    bits = "".join(f"{octet:08b}"[::-1] for octet in bytes.fromhex(octets))
-    for between in bits.split("01111110"):
-        plain = between.replace("111110", "11111")
-        frame = bytes(int(plain[at : at + 8][::-1], 2) for at in range(0, len(plain), 8))
-        if len(frame) > 4:
-            yield frame[:-2]
+    """The contents of the good frames of a burst that is given in hex."""
+    bits = bits_of(bytes.fromhex(octets))
+    return [found for begin, end in gaps(bits) if (found := content(bits[begin:end]))]
 
 
 class Watched(Line):
@@ -149,9 +146,9 @@ def main():
     parser = argparse.ArgumentParser(description=__doc__, formatter_class=argparse.RawDescriptionHelpFormatter)
     parser.add_argument("--calls", type=int, default=100)
     parser.add_argument("--lines", type=int, default=8)
-    parser.add_argument("--lose", type=float, default=0.05)
+    parser.add_argument("--lose", type=rate, default=0.05)
     parser.add_argument("--slow", type=int, default=12000)
-    parser.add_argument("--kill", type=float, default=0.2)
+    parser.add_argument("--kill", type=rate, default=0.2)
     parser.add_argument("--hold", action="store_true")
     parser.add_argument("--seed", type=int, default=1)
     parser.add_argument("--command", default="faxtool station")
