@@ -2,7 +2,7 @@
 
 # Each command line of these documents ends and prints as they show, in a copy of docs/examples.
 try_readme() {
-    commands=$("$top/.ci/sessions.py" "$program" "$top/README.md" "$top/docs/USING.md" "$top/docs/SCRIPTS.md" "$top/docs/JSON.md" 2> "$work/error") || fails "a command line of a document"
+    commands=$("$top/.ci/sessions.py" "$program" "$top/README.md" "$top/docs/USING.md" "$top/docs/SCRIPTS.md" "$top/docs/JSON.md" "$top/docs/BENCH.md" 2> "$work/error") || fails "a command line of a document"
     count=$((count + commands))
 }
 

@@ -1,0 +1,91 @@
+# A station that misbehaves, by docs/examples/misbehave.py and bench.py: what each does by its script, and how our stations end.
+
+# misbehaves WORDS: plays a call of one row; what is printed is in $work/output.
+misbehaves() {
+    rm -rf "$work/stored"
+    mkdir "$work/stored"
+    timeout 120 python3 -B "$top/docs/examples/misbehave.py" --faxtool "$program" "$@" "$top/docs/examples/row.pbm" "$work/stored" \
+        > "$work/output" 2> "$work/error" || fails "misbehave.py $* ended with status $?"
+    count=$((count + 1))
+}
+
+# contents_are LINE..: the log has these frames, in this order, at times that don't run back; the data of an FCD aren't compared.
+contents_are() {
+    grep -v '^#' "$work/output" | cut -d ' ' -f 1 | sort -nc || fails "times of a log run back"
+    printf '%s\n' "$@" > "$work/wanted"
+    grep -v '^#' "$work/output" | cut -d ' ' -f 2- | sed 's/\(FF0306..\).*/\1/' > "$work/found"
+    is_same "$work/found" "$work/wanted" "the frames of a log"
+}
+
+# The frames of a call by T.30's tables: whole; with an MCF that isn't said, a PPR for all, an NSF, a DIS without error correction, wrong
+# counters. A tap hears what was said, and no frame that a station didn't say.
+try_logs() {
+    dis="answerer FF1380006EFA44" dcs="caller FF13830022F844" cfr="answerer FF1384" fcd="caller FF030600" rcp="caller FF0386"
+    pps="caller FF13BF2F000000" mcf="answerer FF138C" dcn="caller FF13FB"
+    misbehaves
+    contents_are "$dis" "$dcs" "$cfr" "$fcd" "$rcp" "$rcp" "$rcp" "$pps" "$mcf" "$dcn"
+    misbehaves --do no-mcf
+    contents_are "$dis" "$dcs" "$cfr" "$fcd" "$rcp" "$rcp" "$rcp" "$pps" "$pps" "$mcf" "$dcn"
+    misbehaves --do ppr-all
+    contents_are "$dis" "$dcs" "$cfr" "$fcd" "$rcp" "$rcp" "$rcp" "$pps" "answerer FF13BC$(printf 'F%.0s' $(seq 64))" \
+        "$fcd" "$rcp" "$rcp" "$rcp" "$pps" "$mcf" "$dcn"
+    misbehaves --do "nsf 300"
+    contents_are "answerer FF0320$(printf '55%.0s' $(seq 297))" "$dis" "$dcs" "$cfr" "$fcd" "$rcp" "$rcp" "$rcp" "$pps" "$mcf" "$dcn"
+    misbehaves --do no-ecm
+    contents_are "answerer FF1380006EFA40" "$dcn"
+    misbehaves --do "lose-said 2" --do "spoil-heard 1"
+    contents_are "$dis" "$dcs" "$dcs" "$dcs" "$cfr" "$fcd" "$rcp" "$rcp" "$rcp" "$pps" "$mcf" "$dcn"
+    misbehaves --test answerer --do wrong-page --do "after 2" --do "repeat-said 1" --do rr
+    contents_are "$dis" "$dcs" "$cfr" "$fcd" "$rcp" "$rcp" "$rcp" "$rcp" "caller FF13BF2F010000" "$mcf" "$dcn"
+    misbehaves --test answerer --do "after 5" --do rr --do wrong-last
+    contents_are "$dis" "$dcs" "$cfr" "$fcd" "$rcp" "$rcp" "$rcp" "caller FF136F" "caller FF13BF2F000001" \
+        "answerer FF13BCFE$(printf 'F%.0s' $(seq 62))" "$rcp" "$rcp" "$rcp" "$pps" "answerer FF13BCFE$(printf 'F%.0s' $(seq 62))" \
+        "$rcp" "$rcp" "$rcp" "$pps" "answerer FF13BCFE$(printf 'F%.0s' $(seq 62))" \
+        "$rcp" "$rcp" "$rcp" "$pps" "answerer FF13BCFE$(printf 'F%.0s' $(seq 62))" "$dcn"
+}
+
+# The same seed gives the same call, another one another; a line that is none is named.
+try_seeds() {
+    for seed in 3 3 4; do
+        misbehaves --do "any 20" --do "some-lost 10" --seed "$seed"
+        [ ! -f "$work/seeded" ] || [ $seed != 3 ] || is_same "$work/output" "$work/seeded" "a call of the same seed"
+        [ $seed = 3 ] || ! cmp -s "$work/output" "$work/seeded" || fails "two seeds give the same call"
+        cp "$work/output" "$work/seeded"
+    done
+    rm "$work/seeded"
+    for line in "rnr 0" "rnr x" "lose" "no-mcf  2"; do
+        status=0
+        printf '# a comment\n\n%s\n' "$line" > "$work/script"
+        python3 -B "$top/docs/examples/misbehave.py" --script "$work/script" "$top/docs/examples/row.pbm" "$work" > "$work/output" 2> "$work/error" || status=$?
+        [ "$status $(cut -d ';' -f 1 "$work/error")" = "1 misbehave.py: line 3 of the script is none: '$line'" ] || fails "a script with the line $line"
+    done
+}
+
+# benches STATUS WORDS: bench.py over the calls of a list.
+benches() {
+    end=$1 status=0
+    shift
+    rm -rf "$work/bench"
+    mkdir "$work/bench"
+    timeout 600 python3 -B "$top/docs/examples/bench.py" --faxtool "$program" "$@" "$work/bench" > "$work/output" 2> "$work/error" || status=$?
+    is_status "$end" "bench.py $*"
+    count=$((count + $(grep -c '^| [ca]' "$work/output")))
+}
+
+# Both stations end each call as their tables say, but one: an MCF that comes twice in one burst confirms a page that wasn't sent. A row that
+# ends otherwise is seen, also if it is that one.
+try_bench() {
+    try_logs
+    try_seeds
+    benches 1
+    grep '\*' "$work/output" > "$work/found"
+    echo '| caller | repeat-said 3 | normal * | 2 (1 stored) |' > "$work/wanted"
+    is_same "$work/found" "$work/wanted" "calls that end otherwise than the list says"
+    [ "$(grep -c '^| [ca]' "$work/output")" -ge 70 ] || fails "bench.py played few calls"
+    benches 0 --only "caller rnr 21" --judge "grep 'answerer FF13EC'"
+    grep -q '^| caller | rnr 21 | normal | 2 | 21 |$' "$work/output" || fails "bench.py with a judge: $(cat "$work/output")"
+    printf '%s\n' "caller | dcn 2 | peer-left 1" "answerer | | normal 1" > "$work/list"
+    benches 1 --list "$work/list"
+    [ "$(grep -c '\*' "$work/output")" = 2 ] || fails "bench.py doesn't see other ends: $(cat "$work/output")"
+    rm -rf "$work/bench" "$work/stored"
+}

@@ -1,0 +1,99 @@
+#!/usr/bin/env python3
+"""Tests a T.30 station: plays a call for each line of `deviations`, in which the other station misbehaves, and prints a table.
+
+    bench.py [--caller-command COMMAND] [--answerer-command COMMAND] [--only TEXT] [--list FILE] [--judge COMMAND] [--seed N]
+        [--faxtool PROGRAM] DIR
+
+Each call has a folder in DIR with the pages that are stored, and the `log` of misbehave.py, which says how a command has to behave. The document
+has two pages of random patterns. Of the station that isn't named ours is tested. A row has the deviation, the end, and the pages: those that
+a caller counts as confirmed, and how many of them were stored if that is fewer; or those that an answerer stored. With `*` the list has
+another end or other pages: those of a station that follows docs/STATION.md.
+With --judge a row also has how many lines COMMAND prints of the log that is put after it: the rules that the station broke.
+
+The exit status is 0 if no row has a `*`, and no station was ended by a signal."""
+
+import argparse
+import os
+import random
+import shlex
+import subprocess
+import sys
+
+import misbehave
+
+ROWS = 24
+
+
+def document():
+    """Two pages of random patterns, of some frames each."""
+    chance = random.Random(86)
+    page = [bytes(chance.choice((0, 0, 0, 255, 15, 60)) for _octet in range(216 * ROWS)) for _page in range(2)]
+    return b"".join(b"P4\n1728 %d\n" % ROWS + octets for octets in page)
+
+
+def deviations(path):
+    """What each line of the list has: which station is tested, the lines of the script, the end and the pages."""
+    with open(path, encoding="utf-8") as file:
+        for line in file:
+            if not line.startswith("#"):
+                tested, script, wanted = (part.strip() for part in line.split("|"))
+                yield tested, [part.strip() for part in script.split(";") if part.strip()], wanted
+
+
+def judged(command, log):
+    """How many lines a judge prints of a log, or nothing without one."""
+    if not command:
+        return ""
+    done = subprocess.run(shlex.split(command) + [log], stdout=subprocess.PIPE, check=False)
+    return f" {len(done.stdout.splitlines())} |"
+
+
+def row(asked, number, tested, script, wanted):
+    """Plays a call; the row of the table, and whether it is as the list has it."""
+    folder = os.path.join(asked.folder, f"call-{number}")
+    os.mkdir(folder)
+    path = os.path.join(folder, "log")
+    asked.test, asked.document = tested, os.path.join(asked.folder, "document.pbm")
+    asked.command = asked.caller_command if tested == "caller" else asked.answerer_command
+    # the answerer's pages lie in a folder of their own
+    asked.pages = os.path.join(folder, "pages")
+    os.mkdir(asked.pages)
+    with open(path, "w", encoding="utf-8") as log:
+        said, status = misbehave.call(asked, script, lambda text: print(text, file=log))
+    words = said.split(" ") if said.startswith("end ") else ["", said, "", "-"]
+    end, pages = " ".join(words[1:-2]), words[-1]
+    stored = len([name for name in os.listdir(asked.pages) if name.startswith("page-")])
+    if tested == "caller" and pages.isdigit() and stored < int(pages):
+        pages += f" ({stored} stored)"
+    is_wanted = f"{end} {pages}" == wanted and status >= 0
+    return f"| {tested} | {'; '.join(script) or 'nothing'} | {end}{'' if is_wanted else ' *'} | {pages} |{judged(asked.judge, path)}", is_wanted
+
+
+def main():
+    parser = argparse.ArgumentParser(description=__doc__, formatter_class=argparse.RawDescriptionHelpFormatter)
+    parser.add_argument("--caller-command")
+    parser.add_argument("--answerer-command")
+    parser.add_argument("--only", default="", help="tests only deviations with this text")
+    parser.add_argument("--list", default=os.path.join(os.path.dirname(os.path.abspath(__file__)), "deviations"))
+    parser.add_argument("--judge")
+    parser.add_argument("--seed", type=int, default=1)
+    parser.add_argument("--faxtool", default="faxtool")
+    parser.add_argument("folder", metavar="DIR")
+    asked = parser.parse_args()
+    asked.most = 1800
+    with open(os.path.join(asked.folder, "document.pbm"), "wb") as file:
+        file.write(document())
+    print(f"| Tested | Deviation | End | Pages |{' Rules |' if asked.judge else ''}\n|---|---|---|---|{'---|' if asked.judge else ''}")
+    wrong = count = 0
+    for tested, script, wanted in deviations(asked.list):
+        if asked.only in f"{tested} {'; '.join(script)}":
+            count += 1
+            text, is_wanted = row(asked, count, tested, script, wanted)
+            print(text, flush=True)
+            wrong += not is_wanted
+    print(f"\n{count} calls, {wrong} of them end otherwise than the list says")
+    return 1 if wrong else 0
+
+
+if __name__ == "__main__":
+    sys.exit(main())
