@@ -7,7 +7,7 @@
 Each call has a folder in DIR with the pages that are stored, and the `log` of misbehave.py, which says how a command has to behave. The document
 has two pages of random patterns. Of the station that isn't named ours is tested. A row has the deviation, the end, and the pages: those that
 a caller counts as confirmed, and how many of them were stored if that is fewer; or those that an answerer stored. With `*` the list has
-another end or other pages: those of a station that follows docs/STATION.md.
+other pages, or for ours another end: those of a station that follows docs/STATION.md.
 With --judge a row also has how many lines COMMAND prints of the log that is put after it: the rules that the station broke.
 
 The exit status is 0 if no row has a `*`, and no station was ended by a signal."""
@@ -40,6 +40,11 @@ def deviations(path):
                 yield tested, [part.strip() for part in script.split(";") if part.strip()], wanted
 
 
+def named(script):
+    """A script in a cell of the table."""
+    return "; ".join(script) or "nothing"
+
+
 def judged(command, log):
     """How many lines a judge prints of a log, or nothing without one."""
     if not command:
@@ -65,8 +70,12 @@ def row(asked, number, tested, script, wanted):
     stored = len([name for name in os.listdir(asked.pages) if name.startswith("page-")])
     if tested == "caller" and pages.isdigit() and stored < int(pages):
         pages += f" ({stored} stored)"
-    is_wanted = f"{end} {pages}" == wanted and status >= 0
-    return f"| {tested} | {'; '.join(script) or 'nothing'} | {end}{'' if is_wanted else ' *'} | {pages} |{judged(asked.judge, path)}", is_wanted
+    wanted_end, _space, wanted_pages = wanted.partition(" ")
+    # another station's ends have other names
+    ends = " *" if end != wanted_end and not asked.command or status < 0 else ""
+    others = " *" if pages != wanted_pages else ""
+    text = f"| {tested} | {named(script)} | {end}{ends} | {pages}{others} |{judged(asked.judge, path)}"
+    return text, not ends and not others
 
 
 def main():
@@ -86,7 +95,7 @@ def main():
     print(f"| Tested | Deviation | End | Pages |{' Rules |' if asked.judge else ''}\n|---|---|---|---|{'---|' if asked.judge else ''}")
     wrong = count = 0
     for tested, script, wanted in deviations(asked.list):
-        if asked.only in f"{tested} {'; '.join(script)}":
+        if asked.only in f"{tested} {named(script)}":
             count += 1
             text, is_wanted = row(asked, count, tested, script, wanted)
             print(text, flush=True)
