@@ -90,6 +90,14 @@ try_spandsp() {
     done
 }
 
+# ITU's test calls of error correction, those that need no CTC and no EOR.
+try_tsb85() {
+    timeout 600 python3 -B "$data/try_tsb85.py" "$program" "$work" > "$work/output" 2> "$work/error" || fails "ITU's test calls"
+    echo "end to end: $(head -n 1 "$work/output")"
+    count=$((count + $(tail -n 1 "$work/output")))
+    rm -r "$work/tsb85"
+}
+
 # Both stations end each call as their tables say, but one: an MCF that comes twice in one burst confirms a page that wasn't sent. A row that
 # ends otherwise is seen, also if it is that one.
 try_bench() {
@@ -108,5 +116,6 @@ try_bench() {
     sed '1,2d; /^$/,$d' "$work/output" > "$work/found"
     is_same "$work/found" "$work/wanted" "rows that end otherwise than the list says"
     try_spandsp
+    try_tsb85
     rm -rf "$work/bench" "$work/stored"
 }
