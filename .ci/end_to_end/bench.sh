@@ -46,27 +46,30 @@ try_logs() {
         "$rcp" "$rcp" "$rcp" "$pps" "answerer FF13BCFE$(printf 'F%.0s' $(seq 62))" "$dcn"
 }
 
-# converts NAME: what the converter makes of a kept log of another program.
+# converts FILE: what the converter makes of a kept log of another program.
 converts() {
-    python3 -B "$top/docs/examples/$1"2log.py < "$data/$1.log" > "$work/output" 2> "$work/error" || fails "$1"2log.py
+    python3 -B "$top/docs/examples/${1%.*}2log.py" < "$data/$1" > "$work/output" 2> "$work/error" || fails "${1%.*}2log.py"
     count=$((count + 1))
 }
 
-# Logs of libspandsp and of HylaFAX have the frames that T.30's tables give; without a DIS and a DCS nobody knows who calls.
+# Logs of libspandsp and of HylaFAX, and a capture of T.38, have the frames that T.30's tables give; without a DIS and a DCS nobody knows who calls.
 try_converted() {
     dis="answerer FF1380006EFA44" dcs="caller FF13830022F844" cfr="answerer FF1384" fcd="caller FF030600" rcp="caller FF0386"
-    converts spandsp
+    converts spandsp.log
     contents_are "$dis" "$dcs" "$cfr" "$fcd" "$rcp" "$rcp" "$rcp" "caller FF13BF2F000000" "answerer FF138C" "caller FF13FB"
     # without the DIS the DCS says who calls
     sed '/ ff 13 80 /d' "$data/spandsp.log" | python3 -B "$top/docs/examples/spandsp2log.py" > "$work/output" || fails "spandsp2log.py without a DIS"
     contents_are "$dcs" "$cfr" "$fcd" "$rcp" "$rcp" "$rcp" "caller FF13BF2F000000" "answerer FF138C" "caller FF13FB"
-    converts hylafax
+    converts hylafax.log
     spaces=$(printf '20%.0s' $(seq 20))
     contents_are "answerer FF034030${spaces#20}" "$dis" "caller FF0343$spaces" "$dcs" "$cfr" "$fcd" "$rcp" "$rcp" "$rcp" \
         "caller FF13BF2F000000" "answerer FF138C" "caller FF13FB"
     grep -q "^67208850 answerer " "$work/output" || fails "the time of a frame in a log of HylaFAX"
-    for name in spandsp hylafax; do
-        ! python3 -B "$top/docs/examples/${name}2log.py" < /dev/null > "$work/output" 2>&1 || fails "${name}2log.py of nothing ends well"
+    converts t38.json
+    contents_are "answerer FF034030${spaces#20}" "$dis" "$dcs" "$cfr" "$fcd" "$rcp" "$rcp" "$rcp" "caller FF13BF2F000001" \
+        "answerer FF138C" "caller FF13FB"
+    for name in spandsp hylafax t38; do
+        ! echo '[]' | python3 -B "$top/docs/examples/${name}2log.py" > "$work/output" 2>&1 || fails "${name}2log.py of nothing ends well"
     done
 }
 
