@@ -19,25 +19,25 @@ try_standard() {
     count=$((count + 8))
 }
 
-# aren_t_apart TEXT WORDS: the words are refused with the text, and nothing is printed or written.
+# aren_t_apart TEXT WORDS: the words end with status 1 and the text alone on standard error, and nothing is printed or written.
 aren_t_apart() {
     text=$1
     shift
     cksum row other script > sums
-    refuses "$@"
-    grep -qF -e "$text" "$work/error" || fails "$* doesn't say: $text"
+    gives 1 "$@"
+    [ "$(cat "$work/error")" = "$text: nothing is read or written" ] || fails "$* doesn't say: $text"
+    [ ! -s "$work/output" ] || fails "$* printed something"
     cksum row other script > wanted
     is_same sums wanted "the files of $*"
     [ ! -e new ] && [ ! -e to/to-caller.bits ] || fails "$* wrote a new file"
 }
 
-# Two files of a command that are the same file, by whatever names: it is refused before anything is read or written. And two things that
-# would go to standard output.
-try_apart() {
+# makes_apart FILE: a folder with a copy of the file as `row`, and with other names of it.
+makes_apart() {
     rm -rf "$work/apart"
     mkdir -p "$work/apart/to"
     cd "$work/apart"
-    cp "$(octets "$white")" row
+    cp "$1" row
     echo as it was > other
     echo polite 11 > script
     ln row hard
@@ -45,42 +45,78 @@ try_apart() {
     ln -s ../row to/soft
     ln -s new to-new
     ln -s ../new to/new
+}
+
+# replaces FILE WORDS: a copy of the file, `row`, is read and written by the words with each of its names at the end, and gets there what
+# the words write into a new file.
+replaces() {
+    file=$1
+    shift
+    makes_apart "$file"
+    gives 0 "$@" "$work/written"
     for name in row ./row hard soft to/soft to/../row "$work/apart/row"; do
-        aren_t_apart "IN and --out are the same file" call --script script --out "$name" row
-        aren_t_apart "IN and --diagram are the same file" call --lose 5% --seed 1 --diagram "$name" row
-        aren_t_apart "IN and OUT are the same file" code --code mh row "$name"
-        aren_t_apart "FILE and OUT are the same file" decode --code mh --width 8 "$name" row
-        aren_t_apart "IN and --trace are the same file" station --call --trace "$name" row
-        aren_t_apart "--caller and --diagram are the same file" frames --caller row --answerer other --diagram "$name"
-        aren_t_apart "--answerer and --diagram are the same file" frames --caller other --answerer row --diagram "$name"
+        makes_apart "$file"
+        gives 0 "$@" "$name"
+        is_same "$name" "$work/written" "what $* $name wrote"
     done
-    aren_t_apart "--script and --out are the same file" call --script script --out script row
+}
+
+# Two files of a command that are the same file, by whatever names. An output takes the place of what was read whole before. Where it would
+# destroy what is still to be read, or two outputs meet, nothing is read or written, as where two things would go to standard output.
+try_apart() {
+    image=$(octets "$white")
+    works code --code mmr "$image" "$work/white.mmr"
+    replaces "$image" code --code mh row
+    replaces "$work/white.mmr" decode --code mmr --width 1728 row
+    replaces "$image" call --script script row --diagram
+    replaces "$image" call --lose 5% --seed 1 row --out
+    replaces "$data/line.bits" frames --caller row --answerer other --diagram
+    makes_apart "$image"
+    works call --script script --bits . "$(cp row to-answerer.bits; echo to-answerer.bits)"
+    ! cmp -s row to-answerer.bits || fails "a file of --bits didn't take the place of the document"
+    works call --script script --out script row
+    is_same script row "the pages that took the place of the script"
+    for words in "identify row" "call --lose 5% --seed 1 row"; do
+        makes_apart "$image"
+        works $words
+        cat row "$work/output" > wanted
+        "$program" $words >> row 2> "$work/error" || fails "$words with its file as standard output ended with status $?"
+        is_same row wanted "what $words adds to its file"
+    done
+    makes_apart "$image"
+    for name in row ./row hard soft to/soft to/../row "$work/apart/row"; do
+        aren_t_apart "IN and --trace are the same file" station --call --trace "$name" row
+    done
     for name in new ./new to-new to/../new to/new "$work/apart/new"; do
         aren_t_apart "--out and --diagram are the same file" call --script script --out new --diagram "$name" row
     done
     aren_t_apart "--out and --diagram are the same file" call --script script --out other --diagram other row
+    aren_t_apart "--out and --diagram are the same file" call --script script --out row --diagram hard row
     aren_t_apart "--out and a file of --bits are the same file" call --script script --bits to --out to/to-caller.bits row
-    aren_t_apart "IN and a file of --bits are the same file" call --script script --bits . "$(cp row to-answerer.bits; echo to-answerer.bits)"
-    for words in "--out -" "--json --out -" "--diagram -" "--json --diagram -"; do
-        aren_t_apart "and what is printed can't both go to standard output" call --script script $words row
-        aren_t_apart "and what is printed can't both go to standard output" call --lose 5% --seed 1 $words row
+    for words in "--out -" "--diagram -"; do
+        aren_t_apart "${words% -} and what is printed can't both go to standard output" call --script script $words row
+        aren_t_apart "${words% -} and what is printed can't both go to standard output" call --lose 5% --seed 1 $words row
     done
     aren_t_apart "--out and --diagram can't both go to standard output" call --script script --out - --diagram - row
+    gives 1 call --script script --json --out - row
+    [ "$(cat "$work/error")" = '{"notice":"--out and what is printed can'"'"'t both go to standard output: nothing is read or written"}' ] ||
+        fails "call --json --out - has another record: $(cat "$work/error")"
     cp row kept
-    for words in "show --code mh --width 8 row" "frames row" "identify row" "call --script script --out row other" "call --script script row"; do
+    for words in "frames row" "identify row other" "identify other row" "call --script script --out row other"; do
         status=0
         "$program" $words >> row 2> "$work/error" || status=$?
-        [ "$status" = 2 ] || fails "$words with its file as standard output ended with status $status"
+        is_status 1 "$words with its file as standard output"
+        grep -q "are the same file: nothing is read or written$" "$work/error" || fails "$words with its file as standard output says otherwise"
         is_same row kept "the file of $words"
     done
     for option in --out --diagram; do
         { "$program" call --script script "$option" /dev/stdout row 2> "$work/error" || echo "status $?"; } | cat > "$work/output"
-        [ "$(cat "$work/output")" = "status 2" ] || fails "call $option /dev/stdout into a pipe printed something"
+        [ "$(cat "$work/output")" = "status 1" ] || fails "call $option /dev/stdout into a pipe printed something"
     done
     works code --code mh row new
     works code --code mh row to/soft.mh
     works call --script script --out /dev/null --diagram /dev/null row
-    count=$((count + 5))
+    count=$((count + 8))
     cd "$top"
 }
 

@@ -5,12 +5,12 @@ pub(crate) mod diagram;
 pub mod drives;
 
 ghost use Rattle.calls.specs.Calls.{HaveRows};
-ghost use Rattle.command_files.specs.Apart.{AddsFiles, read_as};
+ghost use Rattle.command_files.specs.Apart.{AddsFiles};
 ghost use Rattle.commands.specs.Files.{named_in, script_files};
 ghost use Rattle.commands.specs.Runs.{IsNoDocument, IsScripted, IsUnscripted};
 ghost use Rattle.faults.specs.Faults.{IsOutside};
 ghost use Rattle.raster.specs.Pbm.{AreImages};
-ghost use Rattle.std.specs.Prelude.{◌≡◌, ◌∷◌, ℕ, IfErr, IfOk, List, OnOk, codes, string_bytes};
+ghost use Rattle.std.specs.Prelude.{◌≡◌, ℕ, IfErr, IfOk, List, OnOk};
 
 use calls::{CallOptions, call_of_document, check_script, ended_normally};
 use command_files::command::{Completeness, NO_NAMES, Names, Runs};
@@ -51,11 +51,10 @@ impl<'a> CallFiles<'a> {
         }
     }
 
-    /// Adds the files, which have to be apart. Errors: memory was refused.
+    /// Adds the files that are written, which have to be apart. Errors: memory was refused.
     pub(crate) fn add_to(self, files: &mut CommandFiles<'_>) -> Result<(), AllocError>
         ensures { OnOk result (AddsFiles (named_in self.entry) files.old.files.items files.new.files.items) }
     {
-        files.reads("IN", self.input)?;
         files.may_write("--out", self.out)?;
         files.may_write("--diagram", self.diagram)?;
         files.may_write_bits(self.bits)?;
@@ -148,7 +147,6 @@ impl Runs for ScriptCommand {
     }
 
     fn add_files(&self, files: &mut CommandFiles<'_>) -> Result<(), AllocError> {
-        files.reads("--script", self.script.as_str())?;
         self.files().add_to(files)
     }
 
@@ -169,7 +167,7 @@ impl Runs for ScriptCommand {
 
 impl ScriptCommand {
     fn files(&self) -> CallFiles<'_>
-        ensures { read_as (codes "--script") (string_bytes self.now.script) ∷ named_in result ≡ script_files self.now }
+        ensures { named_in result ≡ script_files self.now }
     {
         CallFiles {
             input: self.input.as_str(),

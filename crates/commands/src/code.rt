@@ -44,7 +44,6 @@ impl Runs for CodeCommand {
     }
 
     fn add_files(&self, files: &mut CommandFiles<'_>) -> Result<(), AllocError> {
-        files.reads("IN", self.input.as_str())?;
         files.writes("OUT", self.output.as_str())
     }
 

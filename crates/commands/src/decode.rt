@@ -57,7 +57,6 @@ impl Runs for DecodeCommand {
     }
 
     fn add_files(&self, files: &mut CommandFiles<'_>) -> Result<(), AllocError> {
-        files.reads("FILE", self.input.as_str())?;
         files.writes("OUT", self.output.as_str())
     }
 

@@ -38,7 +38,6 @@ impl Runs for IdentifyCommand {
     }
 
     fn add_files(&self, files: &mut CommandFiles<'_>) -> Result<(), AllocError> {
-        files.reads("FILE", self.input.as_str())?;
         files.prints()
     }
 

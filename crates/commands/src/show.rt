@@ -61,7 +61,6 @@ impl Runs for ShowCommand {
     }
 
     fn add_files(&self, files: &mut CommandFiles<'_>) -> Result<(), AllocError> {
-        files.reads("FILE", self.input.as_str())?;
         files.prints()
     }
 

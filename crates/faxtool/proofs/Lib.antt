@@ -1,4 +1,3 @@
 -- The lemmas of the program.
-mod ApartLemmas
 mod CommandLemmas
 mod JobLemmas

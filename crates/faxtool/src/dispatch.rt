@@ -5,25 +5,24 @@ ghost use Rattle.faxtool.specs.Ran.{Gave, Ran};
 ghost use Rattle.raster.specs.Pixels.{IsWidth};
 ghost use Rattle.std.specs.Prelude.{IfSome};
 
-use crate::apart::check_apart;
+use crate::apart::{refuse_not_apart, why_not_apart};
 use crate::args::words::{Outcome, Request};
 use crate::command::Command;
-use crate::explain::{show_fault, show_refusal};
+use crate::explain::{refused, show_fault};
 use command_files::context::{Context, Messages};
 use command_files::streams::Streams;
 use command_files::{Completeness, Runs};
+use faults::NO_MEMORY;
 
-/// What a command is run with: the system, the words that ask for it, and how its messages are shown.
+/// What a command is run with: the system, and how its messages are shown.
 #[derive(Clone, Copy)]
 struct Asked<'a> {
     streams: &'a Streams<'a>,
-    words: &'a [&'a str],
     messages: Messages,
 }
 
-/// Runs the command of a request, which these words ask for, and shows its fault: a line, and on a terminal or if asked for a second line
-/// in words.
-pub fn run_request(streams: &Streams<'_>, words: &[&str], request: &Request) -> Outcome
+/// Runs the command of a request, and shows its fault: a line, and on a terminal or if asked for a second line in words.
+pub fn run_request(streams: &Streams<'_>, request: &Request) -> Outcome
     requires { HasWidth request.now.command }
     ensures { Ran request.now.command result }
 {
@@ -31,11 +30,7 @@ pub fn run_request(streams: &Streams<'_>, words: &[&str], request: &Request) -> 
         json: request.json,
         explain: request.explain,
     };
-    let asked = Asked {
-        streams,
-        words,
-        messages,
-    };
+    let asked = Asked { streams, messages };
     run_one(&request.command, asked)
 }
 
@@ -65,11 +60,15 @@ fn run_one(command: &Command, asked: Asked<'_>) -> Outcome
 /// Runs a command if its files are apart, and shows its fault.
 fn run_command<C: Runs>(command: &C, asked: Asked<'_>) -> Outcome
     requires { IfSome (C.width command.now) IsWidth }
-    ensures { Gave (C.gives command.now) result }
+    ensures { Gave (C.its_files command.now) (C.gives command.now) result }
 {
     // two files that are one are found before anything is read or written
-    if let Err(refusal) = check_apart(asked.streams.rt(), asked.words, command) {
-        return show_refusal(asked.streams, asked.words, refusal);
+    let why = match why_not_apart(asked.streams.rt(), command) {
+        Ok(why) => why,
+        Err(_memory) => return refused(asked.streams, NO_MEMORY, "the command's words", None),
+    };
+    if let Some(why) = why {
+        return refuse_not_apart(asked.streams, asked.messages, why);
     }
     let mut context = Context::new(asked.streams, asked.messages);
     match command.run(&mut context) {

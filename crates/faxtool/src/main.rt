@@ -71,7 +71,7 @@ fn refuse_words(streams: &Streams<'_>, error: io::Error) -> Outcome {
 /// Runs what these words ask for, and shows what is wrong with them.
 fn run_asked(streams: &Streams<'_>, asked: &[&str]) -> Outcome {
     match read_words(streams.rt().alloc(), asked) {
-        Ok(request) => run_request(streams, asked, &request),
+        Ok(request) => run_request(streams, &request),
         Err(refusal) => show_refusal(streams, asked, refusal),
     }
 }
@@ -96,7 +96,7 @@ fn run_untold(streams: &Streams<'_>) -> Outcome {
             if count_untold(request.command.several_files()) != untold {
                 return refuse_no_text(streams);
             }
-            run_request(streams, texts.as_slice(), &request)
+            run_request(streams, &request)
         }
         Err(_refusal) => refuse_no_text(streams),
     }

@@ -53,8 +53,6 @@ impl Runs for CapturesCommand {
     }
 
     fn add_files(&self, files: &mut CommandFiles<'_>) -> Result<(), AllocError> {
-        files.reads("--caller", self.caller.as_str())?;
-        files.reads("--answerer", self.answerer.as_str())?;
         files.writes("--diagram", self.diagram.as_str())
     }
 

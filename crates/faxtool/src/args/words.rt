@@ -667,7 +667,7 @@ pub(crate) fn number_in(matches: &ArgMatches<'_>, id: &str) -> Option<u32>
 }
 
 // The error for words whose options or files don't go together, or that miss a value, with the usage of the command of this name.
-pub(crate) fn unfit(alloc: Global, name: Option<&str>, text: &str) -> Result<Error, AllocError>
+fn unfit(alloc: Global, name: Option<&str>, text: &str) -> Result<Error, AllocError>
     ensures { IfOk result (λ error. kind_of error ≡ ErrorKind.ArgumentConflict) }
 {
     let mut command = named_command(alloc, name)?;
