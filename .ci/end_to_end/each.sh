@@ -56,6 +56,7 @@ each/image: no fax: PBM\neach/tiff: no fax: TIFF\neach/zeros: not read: identify
     try_each_words
     try_each_names
     try_each_new
+    try_one_found
     cd "$top"
     FAXTOOL=$program timeout 600 python3 -B "$top/bench/fuzz/fuzz_each.py" --times 100 > "$work/output" || fails "fuzz_each.py: $(cat "$work/output")"
     count=$((count + 100))
@@ -145,6 +146,44 @@ try_each_words() {
     # nothing of the file before is in the words of the next one
     gives 1 decode --explain --code mmr --width 1728 --each each/out each/open each/none
     [ "$(tail -n 1 "$work/output")" = "    each/none: no such file or folder" ] || fails "a file's words have those of the one before"
+    rm -rf each/out/*
+}
+
+# `decode` of one page without --code does what --each does: the same image, the same lines, the same status.
+try_one_found() {
+    rm -rf each/out/* each/new.pbm
+    works decode each/mh each/one.pbm
+    is_same each/one.pbm "$data/page.pbm" "decode without --code of T.4"
+    works decode --code mmr --order lsb --width 1728 --fine each/two each/one.pbm
+    for words in "" "--page 2" "--fine"; do
+        works decode $words each/two each/new.pbm
+        is_same each/new.pbm each/one.pbm "decode $words without --code of T.6"
+    done
+    rm each/new.pbm
+    for file in image tiff zeros short; do
+        rm -rf each/out/*
+        for json in "" --json; do
+            gives 1 decode $json --each each/out "each/$file"
+            cp "$work/output" each/wanted
+            gives 1 decode $json "each/$file" each/new.pbm
+            is_same "$work/error" each/wanted "what decode $json says of each/$file"
+            [ ! -s "$work/output" ] && [ ! -e each/new.pbm ] || fails "decode $json of each/$file wrote something"
+        done
+    done
+    # a page that is decoded, but not to its end: the same as with the code that identify says
+    for words in "open --code mmr --width 1728" "cut --code mh --width 315"; do
+        file=each/${words%% *}
+        for option in "" --salvage --repair --explain "--salvage --explain" --whole "--verbose --repair" "--json --explain"; do
+            rm -f each/one.pbm each/new.pbm
+            status=0
+            "$program" decode $option ${words#* } "$file" each/one.pbm 2> each/wanted || status=$?
+            gives "$status" decode $option "$file" each/new.pbm
+            is_same "$work/error" each/wanted "what decode $option says of $file"
+            [ ! -e each/one.pbm ] || is_same each/new.pbm each/one.pbm "the rows of decode $option of $file"
+        done
+    done
+    refuses decode --code mh each/mh each/new.pbm
+    refuses decode --width 315 each/mh each/new.pbm
     rm -rf each/out/*
 }
 

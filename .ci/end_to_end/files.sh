@@ -68,6 +68,7 @@ try_apart() {
     works code --code mmr "$image" "$work/white.mmr"
     replaces "$image" code --code mh row
     replaces "$work/white.mmr" decode --code mmr --width 1728 row
+    replaces "$work/white.mmr" decode row
     replaces "$image" call --script script row --diagram
     replaces "$image" call --lose 5% --seed 1 row --out
     replaces "$data/line.bits" frames --caller row --answerer other --diagram

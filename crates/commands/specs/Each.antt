@@ -9,12 +9,9 @@ use Rattle.faults.specs.FaultKinds.{kind_of, number_of}
 use Rattle.faults.specs.Faults.{IsOutside, fault_text}
 use Rattle.faults.specs.RecordLines.{count, words}
 use Rattle.faults.specs.declared.fault.ToolFault.{ToolFault}
-use Rattle.page_files.specs.Found.{Finds}
-use Rattle.page_files.specs.declared.found.Found.{Found}
-use Rattle.page_files.specs.declared.found.Found.TheVariants as found
 use Rattle.page_files.specs.declared.options.DecodeOptions.{DecodeOptions}
 use Rattle.page_files.specs.declared.options.PageForm.{PageForm}
-use Rattle.commands.specs.Damaged.{is_taken}
+use Rattle.commands.specs.FoundForms.{IsFormOf}
 use Rattle.commands.specs.Names.{shown_name}
 use Rattle.commands.specs.PageFacts.{page_records}
 use Rattle.commands.specs.Pages.{GoesOn, IsPageReport, file_end, page_lines, with_front}
@@ -81,32 +78,19 @@ IsSaid end report = (report.end ≡ end) × (report.told.items ≡ []) × (repor
 abbrev pub as_lines : DecodeOptions → DecodeOptions
 as_lines options = record options { records = false }
 
--- a way to read pages, with the lines that are asked for
-abbrev pub lined : Bool → PageForm → PageForm
-lined fine form = record form { fine = fine }
-
--- damaged pages are asked for
-abbrev pub asks_damaged : DecodeOptions → Bool
-asks_damaged options = options.salvage || options.repair
-
--- the report of a file by what `identify` says of it
-abbrev pub EndsFound : EachCommand → List ℕ → Found → FileReport → Type 0
-EndsFound command octets (found.Page way) report = EndsWithin command.most_pages (as_lines command.options) (lined command.fine way.form) octets report
-EndsFound command octets (found.Format name) report = IsSaid (file.NoFax name) report
-EndsFound command octets found.Several report = IsSaid file.NoWidth report
-EndsFound command octets (found.Begun way) report = ((is_taken (asks_damaged command.options) way ≡ true)
-    × EndsWithin command.most_pages (as_lines command.options) (lined command.fine way.form) octets report)
-    ⊎ ((is_taken (asks_damaged command.options) way ≡ false) × IsSaid file.Nothing report)
-EndsFound command octets found.Nothing report = IsSaid file.Nothing report
+-- the report of a file whose pages are decoded in a form, or of one of which this is said
+abbrev pub EndsBy : EachCommand → List ℕ → Result PageForm FileEnd → FileReport → Type 0
+EndsBy command octets (Ok form) report = EndsWithin command.most_pages (as_lines command.options) form octets report
+EndsBy command octets (Err end) report = IsSaid end report
 
 -- the report of a file of these octets: all pages have the form that is given, or that which `identify` says
-abbrev pub EndsIn : EachCommand → Option PageForm → List ℕ → FileReport → Type 0
-EndsIn command (Some form) octets report = EndsWithin command.most_pages (as_lines command.options) form octets report
-EndsIn command None octets report = (what : Found) × Finds octets what × EndsFound command octets what report
+abbrev pub EndsIn : EachCommand → List ℕ → FileReport → Type 0
+EndsIn command octets report = (form : Result PageForm FileEnd) × IsFormOf command.form command.options command.fine octets form
+    × EndsBy command octets form report
 
 -- the report of a file: it was read, and its pages decoded and written; or its name isn't UTF-8, or it can't be read
 abbrev pub IsFileReport : EachCommand → FileReport → Type 0
-IsFileReport command report = ((octets : List ℕ) × EndsIn command command.form octets report)
+IsFileReport command report = ((octets : List ℕ) × EndsIn command octets report)
     ⊎ (IsSaid file.NoText report ⊎ ((fault : ToolFault) × IsSaid (file.Failed fault) report))
 
 -- a file has a report, which is complete or not

@@ -3,6 +3,7 @@ pub mod Captured
 pub mod Damaged
 pub mod Each
 pub mod Files
+pub mod FoundForms
 pub mod Laws
 pub mod Listed
 pub mod Names

@@ -2,7 +2,7 @@
 --
 -- No clause says what a file holds. So the octets that a command has read, and what a writer had before and after, are some octets of which
 -- the engine's definition holds.
-use Rattle.std.specs.Prelude.{◌≡◌, ◌⊎◌, ◌<◌, ◌||◌, ℕ, Bool, List, Option, Some, None, Result, Ok, Err, not, false}
+use Rattle.std.specs.Prelude.{◌≡◌, ◌⊎◌, ◌<◌, ◌||◌, ℕ, Bool, List, Option, Some, None, Result, Ok, Err, nat_eq, not, true, false}
 use Rattle.std.specs.Prelude.{IfOk, if◌then◌else◌, length}
 use Rattle.call_tallies.specs.ManyCalls.{TellsMany}
 use Rattle.captures.specs.declared.frames.ListForm.{ListForm}
@@ -15,6 +15,8 @@ use Rattle.line_sim.specs.declared.live.Ending.{Ending}
 use Rattle.faults.specs.Faults.{IsOutside, IsUnread}
 use Rattle.faults.specs.declared.fault.ToolFault.{ToolFault}
 use Rattle.command_files.specs.Runs.{completeness_of}
+use Rattle.command_files.specs.declared.files.bounded.Ways.{Ways}
+use Rattle.command_files.specs.declared.files.bounded.Ways.TheVariants as ways
 use Rattle.page_files.specs.CodedPages.{AppendsCode, RefusesShow, ShowsPage}
 use Rattle.page_files.specs.Identified.{Identifies}
 use Rattle.page_files.specs.LaterPages.{AnswersPage}
@@ -24,10 +26,12 @@ use Rattle.page_files.specs.declared.options.PageForm.{PageForm}
 use Rattle.raster.specs.Pages.{PagePixels}
 use Rattle.command_files.specs.declared.command.Completeness.{Completeness}
 use Rattle.command_files.specs.declared.command.Completeness.TheVariants.{Lacking, Whole}
+use Rattle.commands.specs.FoundForms.{IsFormOf}
 use Rattle.commands.specs.declared.call.ScriptCommand.{ScriptCommand}
 use Rattle.commands.specs.declared.call.drives.DriveCommand.{DriveCommand}
 use Rattle.commands.specs.declared.code.CodeCommand.{CodeCommand}
 use Rattle.commands.specs.declared.decode.DecodeCommand.{DecodeCommand}
+use Rattle.commands.specs.declared.decode.ends.FileEnd.{FileEnd}
 use Rattle.commands.specs.declared.show.ShowCommand.{ShowCommand}
 
 -- ---- pages
@@ -49,14 +53,37 @@ ShowGives command (Ok completeness) = (completeness ≡ Whole)
 ShowGives command (Err fault) = IsUnread fault
     ⊎ ((octets : List ℕ) × RefusesShow command.coding command.order command.width octets fault)
 
--- the page with the number that is asked for was decoded as the options ask, with this end
-abbrev pub IsAnswered : DecodeCommand → Result Bool ToolFault → Type 0
-IsAnswered command end = (octets later : List ℕ) × (page : PagePixels) × (told : List ℕ)
-    × AnswersPage command.form command.options command.page octets later page told end
+-- the ways in which a file is read of which a page of this form is wanted, if one is given, by whether pages are repaired and whether the
+-- first one is wanted
+abbrev pub ways_in : Option PageForm → Bool → Bool → Ways
+ways_in None repair first = ways.Tried
+ways_in (Some form) true first = ways.Any
+ways_in (Some form) false true = ways.First form
+ways_in (Some form) false false = ways.One form
 
--- the page was decoded, with the end that the engine says; or reading, writing or memory failed
+-- how the file of `decode` is read, so that no more is than is wanted: where the form is given, by that, and its first page alone if that is
+-- asked for; with `--repair` any rows are wanted
+abbrev pub ways_of : DecodeCommand → Ways
+ways_of command = ways_in command.form command.options.repair (nat_eq command.page 1)
+
+-- the page of these octets with the number that is asked for was decoded in this form as the options ask, with this end
+abbrev pub AnswersIn : DecodeCommand → PageForm → List ℕ → Result Bool ToolFault → Type 0
+AnswersIn command form octets end = (later : List ℕ) × (page : PagePixels) × (told : List ℕ)
+    × AnswersPage form command.options command.page octets later page told end
+
+-- the page with the number that is asked for was decoded in the form that is given, or in which `identify` reads the file, with this end
+abbrev pub IsAnswered : DecodeCommand → Result Bool ToolFault → Type 0
+IsAnswered command end = (octets : List ℕ) × (form : PageForm) × IsFormOf command.form command.options command.fine octets (Ok form)
+    × AnswersIn command form octets end
+
+-- nothing was decoded, since `identify` reads the file in no form, and this was said of it
+abbrev pub IsUndecoded : DecodeCommand → Type 0
+IsUndecoded command = (octets : List ℕ) × (end : FileEnd) × IsFormOf command.form command.options command.fine octets (Err end)
+
+-- the page was decoded, with the end that the engine says, or none is; or reading, writing or memory failed
 abbrev pub DecodeGives : DecodeCommand → Result Completeness ToolFault → Type 0
-DecodeGives command (Ok completeness) = (complete : Bool) × (completeness ≡ completeness_of complete) × IsAnswered command (Ok complete)
+DecodeGives command (Ok completeness) = ((complete : Bool) × (completeness ≡ completeness_of complete) × IsAnswered command (Ok complete))
+    ⊎ ((completeness ≡ Lacking) × IsUndecoded command)
 DecodeGives command (Err fault) = IsUnread fault ⊎ IsAnswered command (Err fault)
 
 -- the file was identified as this

@@ -1,14 +1,19 @@
 //! The command `decode`.
 
 ghost use Rattle.command_files.specs.Bounds.{HavePageWidths};
-ghost use Rattle.faults.specs.Faults.{IsUnread};
-ghost use Rattle.commands.specs.Runs.{IsAnswered};
+ghost use Rattle.command_files.specs.Runs.{completeness_of};
+ghost use Rattle.commands.specs.Runs.{AnswersIn, ways_of};
+ghost use Rattle.faults.specs.Faults.{IsOutside, IsUnread};
 ghost use Rattle.raster.specs.Pixels.{IsWidth};
-ghost use Rattle.std.specs.Prelude.{IfErr, IfOk};
+ghost use Rattle.std.specs.Prelude.{◌≡◌, ◌⊎◌, Bool, Err, IfErr, IfOk, IfSome, Ok};
 
 pub mod each;
 mod ends;
+pub(crate) mod found_form;
 
+use crate::decode::each::report::{FileReport, report_lines};
+use crate::decode::ends::FileEnd;
+use crate::decode::found_form::form_of;
 use command_files::command::{Completeness, NO_NAMES, Names, Runs};
 use command_files::context::Context;
 use command_files::files::apart::CommandFiles;
@@ -25,8 +30,10 @@ use std::slice;
 /// Writes a page in a file as an image.
 #[derive(Debug, PartialEq, Eq, Drop)]
 pub struct DecodeCommand {
-    /// How the page is read; its width is 1 to 2,432 pixels.
-    pub form: PageForm,
+    /// How the page is read; as `identify` says it of the file, if that isn't given.
+    pub form: Option<PageForm>,
+    /// Whether the lines of a page that is read as `identify` says it are fine, 7.7 a millimeter, and not standard, 3.85.
+    pub fine: bool,
     /// What is asked for of the page.
     pub options: DecodeOptions,
     /// The page's number in the file, counted from 1.
@@ -38,11 +45,11 @@ pub struct DecodeCommand {
 }
 
 impl Runs for DecodeCommand {
-    ghost use Rattle.std.specs.Prelude.{Some};
+    ghost use Rattle.std.specs.Prelude.{option_map};
     ghost use Rattle.commands.specs.Runs.{DecodeGives};
     ghost use Rattle.commands.specs.Files.{decode_files};
 
-    ghost width = { λ command. Some command.form.width };
+    ghost width = { λ command. option_map (λ form. form.width) command.form };
 
     ghost its_files = { decode_files };
 
@@ -61,20 +68,27 @@ impl Runs for DecodeCommand {
     }
 
     fn page(&self) -> Option<PageForm> {
-        Some(self.form)
+        self.form
     }
 
-    // The image's file is opened only once the whole page is read, and has a row. The messages go to standard error.
     fn run(&self, context: &mut Context<'_>) -> Result<Completeness, ToolFault> {
         output::check_terminal(context, self.output.as_str())?;
-        let DecodeAnswer { page, told, end } = self.answer(context)?;
-        if !page.rows().is_empty() {
-            save_images(context, self.output.as_str(), slice::from_ref(&page))?;
-        }
-        context.streams().tell(told.as_slice())?;
-        match end {
-            Ok(is_complete) => Ok(Completeness::of(is_complete)),
-            Err(fault) => Err(fault),
+        let octets = read_coded(context, self.input.as_str(), self.ways(), Watch::Shown)?;
+        match form_of(
+            context.alloc(),
+            self.form,
+            self.options,
+            self.fine,
+            octets.as_slice(),
+        )? {
+            Ok(form) => {
+                let is_complete = self.decode(context, octets, form)?;
+                Ok(Completeness::of(is_complete))
+            }
+            Err(end) => {
+                self.tell_end(context, end)?;
+                Ok(Completeness::Lacking)
+            }
         }
     }
 }
@@ -82,36 +96,76 @@ impl Runs for DecodeCommand {
 impl DecodeCommand {
     /// The way in which the file is read: only the first page, if that is asked for.
     fn ways(&self) -> Ways
-        requires { IsWidth self.now.form.width }
-        ensures { HavePageWidths result }
+        requires { IfSome self.now.form (λ form. IsWidth form.width) }
+        ensures ways { result ≡ ways_of self.now }
+        ensures widths { HavePageWidths result }
     {
-        match Ways::of(self.form, self.options.repair) {
-            Ways::One(form) if self.page == 1 => Ways::First(form),
-            ways => ways,
+        match self.form {
+            None => Ways::Tried,
+            Some(form) => {
+                if self.options.repair {
+                    Ways::Any
+                } else if self.page == 1 {
+                    Ways::First(form)
+                } else {
+                    Ways::One(form)
+                }
+            }
         }
     }
 
-    /// Reads the file and decodes the page.
-    fn answer(&self, context: &mut Context<'_>) -> Result<DecodeAnswer, ToolFault>
-        requires { IsWidth self.now.form.width }
-        ensures answered { IfOk result (λ answer. IsAnswered self.now answer.end) }
+    /// Decodes the page of octets in this form, and returns whether it is complete. The image's file is opened only once the whole page is
+    /// read, and has a row. The messages go to standard error.
+    fn decode(
+        &self,
+        context: &mut Context<'_>,
+        octets: Vec<u8>,
+        form: PageForm,
+    ) -> Result<bool, ToolFault>
+        requires { IsWidth form.width }
+        ensures done { IfOk result (λ complete. AnswersIn self.now form octets.items (Ok complete)) }
+        ensures fault { IfErr result (λ fault. IsUnread fault ⊎ AnswersIn self.now form octets.items (Err fault)) }
+    {
+        let DecodeAnswer { page, told, end } = self.answer(context, octets, form)?;
+        if !page.rows().is_empty() {
+            save_images(context, self.output.as_str(), slice::from_ref(&page))?;
+        }
+        context.streams().tell(told.as_slice())?;
+        match end {
+            Ok(is_complete) => Ok(is_complete),
+            Err(fault) => Err(fault),
+        }
+    }
+
+    /// Decodes the page of octets in this form. Errors: `NoMemory` (9).
+    fn answer(
+        &self,
+        context: &mut Context<'_>,
+        octets: Vec<u8>,
+        form: PageForm,
+    ) -> Result<DecodeAnswer, ToolFault>
+        requires { IsWidth form.width }
+        ensures answered { IfOk result (λ answer. AnswersIn self.now form octets.items answer.end) }
         ensures refused { IfErr result IsUnread }
     {
-        let mut octets = read_coded(context, self.input.as_str(), self.ways(), Watch::Shown)?;
+        let mut octets = octets;
         let mut kept = None;
         let alloc = context.alloc();
-        let answer = answer_page(
-            alloc,
-            &mut octets,
-            self.form,
-            self.options,
-            self.page,
-            &mut kept,
-        );
+        let answer = answer_page(alloc, &mut octets, form, self.options, self.page, &mut kept);
         context.keep_read(octets, kept);
         match answer {
             Ok(answer) => Ok(answer),
             Err(fault) => Err(context.in_memory(fault)),
         }
+    }
+
+    /// Says on standard error of a file that isn't decoded what `--each` prints of it. Errors: `Io` (8), `NoMemory` (9).
+    fn tell_end(&self, context: &mut Context<'_>, end: FileEnd) -> Result<(), ToolFault>
+        ensures { IfErr result IsOutside }
+    {
+        let report = FileReport::of(context.alloc(), end);
+        let lines = report_lines(context, self.input.as_str(), &report, None)?;
+        context.streams().tell(lines.as_slice())?;
+        Ok(())
     }
 }

@@ -11,6 +11,7 @@ mod row_widths;
 mod told;
 
 use crate::damaged::CHANCE_ROWS;
+use crate::decode::found_form::found_form;
 use crate::names::shown_text;
 use crate::words::row_widths::same_width;
 pub use crate::words::told::Told;
@@ -33,6 +34,7 @@ pub fn explained<'a>(
     requires { IfSome form (λ form. IsWidth form.width) }
     ensures fault { result.words.fault ≡ fault }
 {
+    let form = form_read(form, context);
     let (row, expected) = refused_place(form, fault, context);
     let cause = context.cause().or(cause_of(form, fault, context));
     // with another width, or such runs, neither the order nor the code is in doubt
@@ -52,6 +54,21 @@ pub fn explained<'a>(
     Told {
         words: Explained { fault, known },
         cause,
+    }
+}
+
+/// Returns how the page was read in which the fault is: in the form that is given, or else as `identify` reads the file.
+fn form_read(given: Option<PageForm>, context: &Context<'_>) -> Option<PageForm>
+    requires { IfSome given (λ form. IsWidth form.width) }
+    ensures { IfSome result (λ form. IsWidth form.width) }
+{
+    if given.is_some() || context.refused().is_none() {
+        return given;
+    }
+    // a page was decoded, so that it doesn't matter whether damaged ones are asked for
+    match found_form(context.alloc(), context.octets(), true, false) {
+        Ok(Ok(form)) => Some(form),
+        Ok(Err(_)) | Err(_) => None,
     }
 }
 

@@ -142,21 +142,6 @@ show_is_decode e =
     let bad : 115 ≡ 100 = ap (λ (t : Text). slice_index t 0) e in
     absurd (omega (arith, bad))
 
-decode_is_code : codes "decode" ≡ codes "code" → ⊥
-decode_is_code e =
-    let bad : 100 ≡ 99 = ap (λ (t : Text). slice_index t 0) e in
-    absurd (omega (arith, bad))
-
-decode_is_frames : codes "decode" ≡ codes "frames" → ⊥
-decode_is_frames e =
-    let bad : 100 ≡ 102 = ap (λ (t : Text). slice_index t 0) e in
-    absurd (omega (arith, bad))
-
-decode_is_call : codes "decode" ≡ codes "call" → ⊥
-decode_is_call e =
-    let bad : 100 ≡ 99 = ap (λ (t : Text). slice_index t 0) e in
-    absurd (omega (arith, bad))
-
 call_is_code : codes "call" ≡ codes "code" → ⊥
 call_is_code e =
     let bad : 97 ≡ 111 = ap (λ (t : Text). slice_index t 1) e in
@@ -172,11 +157,6 @@ show_is_version e =
     let bad : 115 ≡ 118 = ap (λ (t : Text). slice_index t 0) e in
     absurd (omega (arith, bad))
 
-decode_is_version : codes "decode" ≡ codes "version" → ⊥
-decode_is_version e =
-    let bad : 100 ≡ 118 = ap (λ (t : Text). slice_index t 0) e in
-    absurd (omega (arith, bad))
-
 call_is_version : codes "call" ≡ codes "version" → ⊥
 call_is_version e =
     let bad : 99 ≡ 118 = ap (λ (t : Text). slice_index t 0) e in
@@ -187,11 +167,6 @@ show_is_station e =
     let bad : 104 ≡ 116 = ap (λ (t : Text). slice_index t 1) e in
     absurd (omega (arith, bad))
 
-decode_is_station : codes "decode" ≡ codes "station" → ⊥
-decode_is_station e =
-    let bad : 100 ≡ 115 = ap (λ (t : Text). slice_index t 0) e in
-    absurd (omega (arith, bad))
-
 call_is_station : codes "call" ≡ codes "station" → ⊥
 call_is_station e =
     let bad : 99 ≡ 115 = ap (λ (t : Text). slice_index t 0) e in
@@ -200,11 +175,6 @@ call_is_station e =
 show_is_identify : codes "show" ≡ codes "identify" → ⊥
 show_is_identify e =
     let bad : 115 ≡ 105 = ap (λ (t : Text). slice_index t 0) e in
-    absurd (omega (arith, bad))
-
-decode_is_identify : codes "decode" ≡ codes "identify" → ⊥
-decode_is_identify e =
-    let bad : 100 ≡ 105 = ap (λ (t : Text). slice_index t 0) e in
     absurd (omega (arith, bad))
 
 call_is_identify : codes "call" ≡ codes "identify" → ⊥
@@ -238,38 +208,6 @@ no_width rows none (Answer command) (others, e, is) =
 no_width rows none (Dial command) (others, e, is) =
     show_is_station (some_name (codes "show") (codes "station") rows others e)
 no_width rows none (Version command) (others, e, is) = show_is_version (some_name (codes "show") (codes "version") rows others e)
-
--- nor is there one for `decode`
-pub no_width_to_decode : (rows : List Row) → first_of (codes "each") rows ≡ None → ((n : ℕ) → IsWidthIn rows n → ⊥) → HasNoCommand (Some (codes "decode", rows))
-no_width_to_decode rows alone none (Code command) (others, e, is) =
-    decode_is_code (some_name (codes "decode") (codes "code") rows others e)
-no_width_to_decode rows alone none (Show command) (others, e, is) =
-    show_is_decode (sym (some_name (codes "decode") (codes "show") rows others e))
-no_width_to_decode rows alone none (Decode command) (others, e, is) =
-    none command.form.width (subst (λ (xs : List Row). IsWidthIn xs command.form.width) (sym (some_rows (codes "decode") (codes "decode") rows others e))
-    is.shown.width_is)
-no_width_to_decode rows alone none (Each command) (others, e, is) =
-    let same : rows ≡ others = some_rows (codes "decode") (codes "decode") rows others e in
-    let no : ◌≡◌ {A = Option Text} (Some (string_bytes command.folder)) None = sym is.folder_is ∙ (ap (first_of (codes "each")) (sym same) ∙ alone) in
-    absurd (cc)
-no_width_to_decode rows alone none (Frames command) (others, e, is) =
-    decode_is_frames (some_name (codes "decode") (codes "frames") rows others e)
-no_width_to_decode rows alone none (Captures command) (others, e, is) =
-    decode_is_frames (some_name (codes "decode") (codes "frames") rows others e)
-no_width_to_decode rows alone none (Identify command) (others, e, one, is) =
-    decode_is_identify (some_name (codes "decode") (codes "identify") rows others e)
-no_width_to_decode rows alone none (Several command) (others, e, more, is) =
-    decode_is_identify (some_name (codes "decode") (codes "identify") rows others e)
-no_width_to_decode rows alone none (Call command) (others, e, is) =
-    decode_is_call (some_name (codes "decode") (codes "call") rows others e)
-no_width_to_decode rows alone none (Drive command) (others, e, is) =
-    decode_is_call (some_name (codes "decode") (codes "call") rows others e)
-no_width_to_decode rows alone none (Answer command) (others, e, is) =
-    decode_is_station (some_name (codes "decode") (codes "station") rows others e)
-no_width_to_decode rows alone none (Dial command) (others, e, is) =
-    decode_is_station (some_name (codes "decode") (codes "station") rows others e)
-no_width_to_decode rows alone none (Version command) (others, e, is) =
-    decode_is_version (some_name (codes "decode") (codes "version") rows others e)
 
 -- without options there is no command for `call`
 pub no_options : (rows : List Row) → HasNoOptions rows → HasNoCommand (Some (codes "call", rows))

@@ -409,7 +409,7 @@ abbrev pub has_half_form : List Row → Bool
 has_half_form rows = if is_some (first_of (codes "code") rows) then not (is_some (first_of (codes "width") rows))
     else is_some (first_of (codes "width") rows)
 
--- how all pages are read, if the code and the width are given
+-- how pages are read, if the code and the width are given
 abbrev pub IsFormIn : List Row → Option PageForm → Type 0
 IsFormIn rows None = (coding_named (first_of (codes "code") rows) ≡ None) ⊎ ((width : ℕ) → IsWidthIn rows width → ⊥)
 IsFormIn rows (Some form) = (coding_named (first_of (codes "code") rows) ≡ Some form.coding)
@@ -449,9 +449,12 @@ pub record AreSeveralOf (rows : List Row) (records : Bool) (files : List Text) :
   pub files_are : files ≡ texts_of (codes "file") rows
 
 -- the values of the command `decode` are those that are asked for
-pub record IsDecodeOf (rows : List Row) (form : PageForm) (options : DecodeOptions) (page : ℕ) (input output : Text) : Type 0 where
-  pub shown : IsShowOf rows form.coding form.order form.width input
-  pub fine_is : form.fine ≡ is_named (codes "true") (first_of (codes "fine") rows)
+pub record IsDecodeOf (rows : List Row) (form : Option PageForm) (fine : Bool) (options : DecodeOptions) (page : ℕ) (input output : Text)
+    : Type 0 where
+  pub form_is : IsFormIn rows form
+  pub whole_form : has_half_form rows ≡ false
+  pub fine_is : fine ≡ is_named (codes "true") (first_of (codes "fine") rows)
+  pub input_is : first_of (codes "file") rows ≡ Some input
   pub options_are : AreDecodeOptionsIn rows options
   pub one_way : (options.salvage && options.repair) ≡ false
   pub number : Option ℕ
@@ -761,7 +764,7 @@ IsCommandOf met (Show command) = (rows : List Row)
     × IsShowOf rows command.coding command.order command.width (string_bytes command.input)
 IsCommandOf met (Decode command) = (rows : List Row)
     × (met ≡ Some (codes "decode", rows))
-    × IsDecodeOf rows command.form command.options command.page (string_bytes command.input) (string_bytes command.output)
+    × IsDecodeOf rows command.form command.fine command.options command.page (string_bytes command.input) (string_bytes command.output)
 IsCommandOf met (Each command) = (rows : List Row)
     × (met ≡ Some (codes "decode", rows))
     × IsEachOf rows command
@@ -846,7 +849,7 @@ status_of (Words error) = 2
 abbrev pub HasWidth : Command → Type 0
 HasWidth (Code command) = Unit {0}
 HasWidth (Show command) = IsWidth command.width
-HasWidth (Decode command) = IsWidth command.form.width
+HasWidth (Decode command) = IfSome command.form (λ form. IsWidth form.width)
 HasWidth (Each command) = IfSome command.form (λ form. IsWidth form.width)
 HasWidth (Frames command) = Unit {0}
 HasWidth (Captures command) = Unit {0}

@@ -2,10 +2,8 @@
 
 ghost use Rattle.command_files.specs.Apart.{AddsFiles};
 ghost use Rattle.commands.specs.Files.{file_read, list_read};
-ghost use Rattle.commands.specs.Each.{AllEndSo, EndsFound, EndsIn, IsFileReport, IsReported, as_lines, asks_damaged, lined};
+ghost use Rattle.commands.specs.Each.{AllEndSo, EndsIn, IsFileReport, IsReported, as_lines};
 ghost use Rattle.faults.specs.Faults.{IsOutside, IsUnread};
-ghost use Rattle.page_files.specs.Found.{Finds};
-ghost use Rattle.page_files.specs.declared.found.Found.{Found as FoundValue};
 ghost use Rattle.raster.specs.Pixels.{IsWidth};
 ghost use Rattle.std.specs.Prelude.{◌≡◌, ◌+◌, ℕ, List, IfErr, IfOk, IfSome, None, OnOk, flat_map, length};
 
@@ -13,15 +11,15 @@ pub(crate) mod facts;
 mod listed;
 mod pages;
 mod places;
-mod report;
+pub(crate) mod report;
 
-use crate::damaged::is_taken;
 pub use crate::decode::each::listed::NameList;
 use crate::decode::each::listed::Names as ListedNames;
 use crate::decode::each::pages::{PagesOf, decode_pages};
 use crate::decode::each::places::{page_name, place_under};
 use crate::decode::each::report::{FileReport, tell_report};
 use crate::decode::ends::FileEnd;
+use crate::decode::found_form::form_of;
 use crate::names::is_untold;
 use crate::words::{context_of_file, words_of_file};
 use command_files::command::{Completeness, NO_NAMES, Names, Runs, both};
@@ -31,7 +29,7 @@ use command_files::files::bounded::{Ways, read_coded};
 use command_files::files::output::{check_folder, sync_names};
 use command_files::files::progress::Watch;
 use faults::{FAILED, ToolFault};
-use page_files::{DecodeOptions, Found, PageForm, find_way};
+use page_files::{DecodeOptions, PageForm};
 use std::alloc::AllocError;
 
 /// Writes every page of many files as images.
@@ -236,7 +234,7 @@ impl EachCommand {
     /// `NoMemory` (9).
     fn read_file(&self, own: &mut Context<'_>, name: &str) -> Result<FileReport, ToolFault>
         requires { IfSome self.now.form (λ form. IsWidth form.width) }
-        ensures report { IfOk result (λ report. (octets : List ℕ) × EndsIn self.now self.now.form octets report) }
+        ensures report { IfOk result (λ report. (octets : List ℕ) × EndsIn self.now octets report) }
         ensures form { IfOk result (λ report. IfSome report.form (λ form. IsWidth form.width)) }
         ensures fault { IfErr result IsUnread }
     {
@@ -261,19 +259,17 @@ impl EachCommand {
         octets: Vec<u8>,
     ) -> Result<FileReport, ToolFault>
         requires { IfSome self.now.form (λ form. IsWidth form.width) }
-        ensures report { IfOk result (EndsIn self.now self.now.form octets.items) }
+        ensures report { IfOk result (EndsIn self.now octets.items) }
         ensures form { IfOk result (λ report. IfSome report.form (λ form. IsWidth form.width)) }
         ensures fault { IfErr result IsOutside }
     {
-        match self.form {
-            Some(form) => {
+        let alloc = own.alloc();
+        match form_of(alloc, self.form, self.options, self.fine, octets.as_slice())? {
+            Ok(form) => {
                 let report = decode_pages(own, self.pages_of(place), octets, form)?;
                 Ok(report)
             }
-            None => {
-                let report = self.decode_found(own, place, octets)?;
-                Ok(report)
-            }
+            Err(end) => Ok(FileReport::of(alloc, end)),
         }
     }
 
@@ -290,54 +286,6 @@ impl EachCommand {
             },
             resumes: self.resume,
             most: self.most_pages,
-        }
-    }
-
-    /// Decodes every page of octets as `identify` says them.
-    fn decode_found(
-        &self,
-        own: &mut Context<'_>,
-        place: &str,
-        octets: Vec<u8>,
-    ) -> Result<FileReport, ToolFault>
-        ensures report { IfOk result (λ report. (what : FoundValue) × Finds octets.items what
-            × EndsFound self.now octets.items what report) }
-        ensures form { IfOk result (λ report. IfSome report.form (λ form. IsWidth form.width)) }
-        ensures fault { IfErr result IsOutside }
-    {
-        let alloc = own.alloc();
-        match find_way(alloc, octets.as_slice())? {
-            Found::Page(way) => {
-                let form = self.lined(way.form);
-                let report = decode_pages(own, self.pages_of(place), octets, form)?;
-                Ok(report)
-            }
-            Found::Format(name) => Ok(FileReport::of(alloc, FileEnd::NoFax(name))),
-            Found::Several => Ok(FileReport::of(alloc, FileEnd::NoWidth)),
-            Found::Begun(way) if is_taken(self.asks_damaged(), &way) => {
-                let form = self.lined(way.form);
-                let report = decode_pages(own, self.pages_of(place), octets, form)?;
-                Ok(report)
-            }
-            Found::Begun(_) => Ok(FileReport::of(alloc, FileEnd::Nothing)),
-            Found::Nothing => Ok(FileReport::of(alloc, FileEnd::Nothing)),
-        }
-    }
-
-    /// Returns whether damaged pages are asked for.
-    fn asks_damaged(&self) -> bool
-        ensures { result ≡ asks_damaged self.now.options }
-    {
-        self.options.salvage || self.options.repair
-    }
-
-    /// A way to read pages, with the lines that are asked for.
-    fn lined(&self, form: PageForm) -> PageForm
-        ensures { result ≡ lined self.now.fine form }
-    {
-        PageForm {
-            fine: self.fine,
-            ..form
         }
     }
 }

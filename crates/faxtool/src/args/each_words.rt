@@ -72,7 +72,7 @@ fn has_one(matches: &ArgMatches<'_>) -> bool
 }
 
 // Whether one of the code and the width was given, and not the other.
-fn has_half_form(matches: &ArgMatches<'_>) -> bool
+pub(crate) fn has_half_form(matches: &ArgMatches<'_>) -> bool
     ensures { result ≡ has_half_form (rows_of (found_of matches.now)) }
 {
     if text_in(matches, "code").is_some() {
@@ -82,8 +82,8 @@ fn has_half_form(matches: &ArgMatches<'_>) -> bool
     }
 }
 
-// How all pages are read, if that is given.
-fn form_in(matches: &ArgMatches<'_>) -> Option<PageForm>
+// How pages are read, if that is given.
+pub(crate) fn form_in(matches: &ArgMatches<'_>) -> Option<PageForm>
     ensures { IsFormIn (rows_of (found_of matches.now)) result }
 {
     let coding = coding_in(matches)?;

@@ -147,6 +147,7 @@ const DECODE_ARGUMENTS: &[Argument<'static>] = &[
     },
     Argument {
         required: false,
+        help: "The width of the page in pixels, 1 to 2432; without --code and --width the page is read as identify says it",
         ..WIDTH
     },
     ORDER,

@@ -6,15 +6,11 @@
 pub enum Unfit {
     /// There is no command, or a value that it needs isn't there; `clap` refuses that first.
     Missing,
-    /// `decode` of one page without `--code`.
-    NoCode,
-    /// `decode` of one page without `--width`.
-    NoWidth,
     /// `decode` of one page without OUT.
     NoOut,
     /// `decode` of one page with several OUT.
     ManyOuts,
-    /// `--each` with `--code` alone, or with `--width` alone.
+    /// `decode` with `--code` alone, or with `--width` alone.
     HalfForm,
     /// `--each`, and an option for one page.
     EachAndOne,
@@ -89,14 +85,19 @@ pub enum Unfit {
 impl Unfit {
     /// Returns what is wrong, for the user.
     pub fn words(self) -> &'static str {
-        match self {
-            Unfit::Missing => "a value is missing",
-            Unfit::NoCode => "--code is missing, or --each, the folder of the pages of many files",
-            Unfit::NoWidth =>
-                "--width is missing, or --each, the folder of the pages of many files",
+        self.page_words()
+            .or(self.frames_words())
+            .or(self.call_words())
+            .or(self.station_words())
+            .unwrap_or("a value is missing")
+    }
+
+    /// Returns what is wrong with `decode`.
+    fn page_words(self) -> Option<&'static str> {
+        let words = match self {
             Unfit::NoOut => "OUT is missing, or --each, the folder of the pages of many files",
             Unfit::ManyOuts => "one page goes to one OUT: for many files --each is missing",
-            Unfit::HalfForm => "--each needs --code and --width, or neither",
+            Unfit::HalfForm => "--code and --width go together: give both, or neither",
             Unfit::EachAndOne =>
                 "--page and --verbose are for one page, and can't be used with --each",
             Unfit::NoFiles => "FILE is missing, or --from, the list of files",
@@ -105,6 +106,14 @@ impl Unfit {
             Unfit::NoFile => "FILE is missing",
             Unfit::RepairAndSalvage =>
                 "--repair and --salvage can be used together only with --each",
+            _ => return None,
+        };
+        Some(words)
+    }
+
+    /// Returns what is wrong with `frames`.
+    fn frames_words(self) -> Option<&'static str> {
+        let words = match self {
             Unfit::NoCapture => "FILE is missing, or --diagram with --caller and --answerer",
             Unfit::NoPages => "--salvage needs --pages",
             Unfit::PictureAndListing =>
@@ -113,6 +122,14 @@ impl Unfit {
             Unfit::NoCaptures =>
                 "--diagram needs --caller and --answerer, the files of what both stations sent",
             Unfit::CapturesBothStandard => "--caller and --answerer can't both be standard input",
+            _ => return None,
+        };
+        Some(words)
+    }
+
+    /// Returns what is wrong with `call`.
+    fn call_words(self) -> Option<&'static str> {
+        let words = match self {
             Unfit::ScriptAndLose => "--script and --lose can't be used together",
             Unfit::ScriptAndLine =>
                 "--spoil, --busy, --seed, --calls and --times are for a call with --lose",
@@ -127,6 +144,14 @@ impl Unfit {
                 "--times counts the ends of many calls, and can't be used with --expect",
             Unfit::TimesAndDiagram => "--times draws no call, and can't be used with --diagram",
             Unfit::TimesAndJson => "--times prints a table, and can't be used with --json",
+            _ => return None,
+        };
+        Some(words)
+    }
+
+    /// Returns what is wrong with `station`.
+    fn station_words(self) -> Option<&'static str> {
+        let words = match self {
             Unfit::NoStation => "a station answers or calls: either --answer or --call is needed",
             Unfit::BothStations => "--answer and --call can't be used together",
             Unfit::AnswererAsCaller =>
@@ -141,6 +166,8 @@ impl Unfit {
                 "--out, --standard, --widest, --limit, --mode, --most-.., --refuse and --hold are for a station with --answer",
             Unfit::NoDocument => "--call needs IN, the file of the document",
             Unfit::DocumentStandard => "IN can't be standard input, where the lines come",
-        }
+            _ => return None,
+        };
+        Some(words)
     }
 }

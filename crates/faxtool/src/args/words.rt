@@ -13,7 +13,9 @@ ghost use Rattle.faxtool.specs.Ran.{status_told};
 ghost use Rattle.calls.specs.declared.losses.BadLine.{BadLine as LineValue};
 
 use crate::args::captures_words::{captures_command, has_captures};
-use crate::args::each_words::{each_command, has_more, is_for_many, several_command};
+use crate::args::each_words::{
+    each_command, form_in, has_half_form, has_more, is_for_many, several_command,
+};
 use crate::args::parser::{command_alone, entry_named, faxtool_command};
 use crate::args::station_words::station_command;
 use crate::args::unfit::Unfit;
@@ -31,7 +33,7 @@ use commands::show::ShowCommand;
 use commands::version::VersionCommand;
 use faults::{NO_MEMORY, ToolFault};
 use page_code::Coding;
-use page_files::{DecodeOptions, PageForm};
+use page_files::DecodeOptions;
 use run_tables::Order;
 use signals::Modems;
 use std::alloc::{AllocError, Global};
@@ -246,12 +248,9 @@ fn decode_command(
     if is_for_many(matches) {
         return Ok(Err(Unfit::OneAndMany));
     }
-    let Some(coding) = coding_in(matches) else {
-        return Ok(Err(Unfit::NoCode));
-    };
-    let Some(width) = width_in(matches) else {
-        return Ok(Err(Unfit::NoWidth));
-    };
+    if has_half_form(matches) {
+        return Ok(Err(Unfit::HalfForm));
+    }
     let Some(input) = text_in(matches, "file") else {
         return Ok(Err(Unfit::NoFile));
     };
@@ -265,14 +264,9 @@ fn decode_command(
     if options.salvage && options.repair {
         return Ok(Err(Unfit::RepairAndSalvage));
     }
-    let form = PageForm {
-        coding,
-        order: order_in(matches),
-        width,
-        fine: is_named(text_in(matches, "fine"), "true"),
-    };
     Ok(Ok(Command::Decode(DecodeCommand {
-        form,
+        form: form_in(matches),
+        fine: is_named(text_in(matches, "fine"), "true"),
         options,
         page: page_of(number_in(matches, "page")),
         input: String::from_str(alloc, input)?,

@@ -64,6 +64,19 @@ pub(crate) fn tell_report(
 ) -> Result<(), ToolFault>
     ensures { IfErr result IsOutside }
 {
+    let lines = report_lines(context, name, report, words)?;
+    say(context, lines.as_slice())
+}
+
+/// Returns what is reported of a file, as `tell_report` prints it. Errors: `NoMemory` (9).
+pub(crate) fn report_lines(
+    context: &Context<'_>,
+    name: &str,
+    report: &FileReport,
+    words: Option<&str>,
+) -> Result<Vec<u8>, ToolFault>
+    ensures { IfErr result IsOutside }
+{
     let alloc = context.alloc();
     let mut lines = Vec::new(alloc);
     if context.is_json() {
@@ -73,7 +86,7 @@ pub(crate) fn tell_report(
     } else {
         write_report(alloc, name, report, words, &mut lines)?;
     }
-    say(context, lines.as_slice())
+    Ok(lines)
 }
 
 /// Writes the line of a file, and under it the lines of its pages and the words of its fault, each after four spaces.

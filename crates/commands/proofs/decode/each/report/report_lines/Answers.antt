@@ -1,8 +1,8 @@
--- What the check asks of `tell_report`.
+-- What the check asks of `report_lines`.
 use Rattle.std.proofs.Common.{ap, ◌∙◌}
 use Rattle.serde_json.specs.Written.{has_float}
 use Rattle.commands.proofs.RecordData.{each_whole}
-use Rattle.commands.proofs.decode.each.report.tell_report.Goals as goal
+use Rattle.commands.proofs.decode.each.report.report_lines.Goals as goal
 
 pub write_record-requires : goal.write_record-requires
 write_record-requires c = record {
