@@ -2,8 +2,8 @@
 
 ghost use Rattle.faults.specs.Faults.{IsOutside, IsUnread};
 ghost use Rattle.raster.specs.Pixels.{IsWidth};
-ghost use Rattle.command_files.specs.Bounds.{HavePageWidths};
-ghost use Rattle.std.specs.Prelude.{IfErr};
+ghost use Rattle.command_files.specs.Bounds.{BeginSo, HavePageWidths};
+ghost use Rattle.std.specs.Prelude.{IfErr, IfOk};
 
 use crate::context::{Cause, Context, Part};
 use crate::files::input::{self, Source};
@@ -155,13 +155,18 @@ fn read_up_to(source: &mut Source<'_>, octets: &mut Vec<u8>, most: usize) -> Res
 /// Returns whether the first page is wanted alone, and stands whole in octets. Errors: memory was refused.
 fn begins_with_page(alloc: Global, octets: &[u8], ways: Ways) -> Result<bool, AllocError>
     requires { HavePageWidths ways }
+    ensures { IfOk result (BeginSo ways octets.now) }
 {
     match ways {
-        Ways::First(form) => Ok(matches!(
-            form.coding
-                .page(alloc, octets, form.order, form.width, form.fine)?,
-            PageRead::Page(_, _),
-        )),
+        Ways::First(form) => {
+            match form
+                .coding
+                .page(alloc, octets, form.order, form.width, form.fine)?
+            {
+                PageRead::Page(_, _) => Ok(true),
+                PageRead::Refused(_, _) => Ok(false),
+            }
+        }
         Ways::One(_) | Ways::Tried | Ways::Any => Ok(false),
     }
 }
