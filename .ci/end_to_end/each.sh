@@ -272,15 +272,21 @@ each/other/mh: whole 1 pages\neach/early: 1 pages, and one or more has no end\n 
     try_each_places
     try_each_resumed
     try_each_listed
+    try_each_most
+    try_each_tally
     rm -rf each/out each/x-* each/x && mkdir each/out
 }
 
-# Pages lie under the folder at the file's own place; the root, `.` and `..` are left out.
+# Pages lie under the folder at the file's own place; the root, `.` and `..` are left out, and a line says so of the root and of `..`.
 try_each_places() {
     rm -rf each/out && mkdir each/out
+    left="    the names of its images have no leading / and no ..\n"
     for name in "$work/each/mh" ../"${work##*/}"/each/mh each/.././each/other//mh; do
-        works decode --each each/out "$name"
+        tells_each 0 "$name: whole 1 pages\n$left" decode --each each/out "$name"
+        tells_each 1 "$name: page 1 is not written: fault 8\n" decode --each each/out "$name"
     done
+    tells_each 0 "./each/./mh: whole 1 pages\n" decode --each each/out ./each/./mh
+    rm each/out/each/mh-0001.pbm
     "$program" decode --each each/out - < each/mh > "$work/output" || fails "decode --each of standard input ended with status $?"
     (cd each/out && find . -type f | sort) > each/found
     printf '%s\n' "./${work#/}/each/mh-0001.pbm" "./${work##*/}/each/mh-0001.pbm" ./each/each/other/mh-0001.pbm ./stdin-0001.pbm | sort > each/wanted
@@ -323,6 +329,41 @@ try_each_resumed() {
         gives "$status" decode --repair --salvage --json --each each/out $words
         is_same "$work/output" each/repaired "decode --each --repair --salvage of $words"
     done
+    rm -rf each/out/*
+}
+
+# A file with more octets than are asked for isn't decoded.
+try_each_most() {
+    size=$(wc -c < each/mh)
+    rm -rf each/out/*
+    tells_each 0 "each/mh: whole 1 pages\n" decode --most-octets "$size" --each each/out each/mh
+    rm -rf each/out/*
+    most=$((size - 1))
+    tells_each 1 "each/mh: fault 32\n    each/mh: it has more octets than are read of such a file, $most\n" \
+        decode --explain --most-octets $most --each each/out each/mh
+    [ -z "$(ls each/out)" ] || fails "decode --most-octets wrote $(ls -R each/out)"
+    for words in "--most-octets 0 --each each/out" "--most-octets 134217729 --each each/out" "--code mh --width 315 --most-octets $size each/mh"; do
+        refuses decode $words each/mh
+    done
+}
+
+# On a terminal a line says how far the run is, after two seconds, and is cleared before each line on the same terminal and at the end.
+try_each_tally() {
+    rm -rf each/out/*
+    printf '%s\n' '#!/bin/sh' "(echo each/mh; sleep 2.3; echo each/none; sleep 1; echo each/two) | '$program' decode --each each/out --from - \"\$@\"" > each/slowly
+    chmod +x each/slowly
+    script -qec "each/slowly" /dev/null < /dev/null > each/shown || true
+    printf 'each/mh: whole 1 pages\r\neach/none: fault 8\r\n    each/none: no such file or folder\r\n\r2 files, 1 pages, 1 bad, 1 files a second' > each/wanted
+    printf '\r\033[Keach/two: whole 2 pages\r\n\r3 files, 3 pages, 1 bad, 1 files a second\r\033[K' >> each/wanted
+    is_same each/shown each/wanted "how far a run is, beside its lines"
+    rm -rf each/out/*
+    script -qec "each/slowly > each/said" /dev/null < /dev/null > each/shown || true
+    printf '\r2 files, 1 pages, 1 bad, 1 files a second\r3 files, 3 pages, 1 bad, 1 files a second\r\033[K' > each/wanted
+    is_same each/shown each/wanted "how far a run is"
+    rm -rf each/out/*
+    script -qec "each/slowly 2> each/said" /dev/null < /dev/null > each/shown || true
+    [ ! -s each/said ] || fails "decode --each tells a file how far it is: $(cat each/said)"
+    count=$((count + 3))
     rm -rf each/out/*
 }
 

@@ -6,7 +6,7 @@ _faxtool_options() {
     case $1 in
         code) echo --code --order --explain --help ;;
         show) echo --code --width --order --explain --help ;;
-        decode) echo --code --width --order --fine --salvage --repair --whole --verbose --json --page --each --from --null --resume --most-pages --explain --help ;;
+        decode) echo --code --width --order --fine --salvage --repair --whole --verbose --json --page --each --from --null --resume --most-pages --most-octets --explain --help ;;
         frames) echo --data --order --pages --salvage --json --diagram --caller --answerer --explain --help ;;
         call) echo --script --lose --spoil --busy --seed --calls --times --code --frame --modems --fine --out --expect --bits --diagram --json --explain --help ;;
         identify) echo --json --explain --help ;;
@@ -24,6 +24,7 @@ _faxtool_values() {
         --width) echo 1728 2048 2432 ;;
         --from) echo 2 ;;
         --most-pages) echo 100 ;;
+        --most-octets) echo 100000000 ;;
         --data) echo 8 ;;
         --lose) echo 1% 5% 10% ;;
         --spoil) echo 1% 5% ;;
@@ -37,7 +38,6 @@ _faxtool_values() {
         --widest) echo 1728 2048 2432 ;;
         --limit) echo 2 10 ;;
         --mode) echo 0600 0640 ;;
-        --most-octets) echo 100000000 ;;
         --most-seconds) echo 3600 ;;
         --t1) echo 35000 ;;
         --t2) echo 7000 ;;

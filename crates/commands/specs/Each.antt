@@ -1,6 +1,6 @@
 -- What `decode --each` gives of each file, and what it says of it.
-use Rattle.std.specs.Prelude.{ℕ, zero, suc, ◌≡◌, ◌≢◌, ◌⊎◌, ◌+◌, ◌++◌, ◌∷◌, ◌&&◌, ◌||◌, Bool, true, false, List, [], Option, Some, None, Result, Ok, Err}
-use Rattle.std.specs.Prelude.{◌==◌, codes, length}
+use Rattle.std.specs.Prelude.{ℕ, zero, suc, ◌≡◌, ◌≢◌, ◌≤◌, ◌⊎◌, ◌+◌, ◌++◌, ◌∷◌, ◌&&◌, ◌||◌, Bool, true, false, List, [], Option, Some, None, Result, Ok, Err}
+use Rattle.std.specs.Prelude.{◌==◌, codes, cond, length}
 use Rattle.std.specs.Fmt.{decimal}
 use Rattle.serde_json.specs.Data.{Data, array, boolean, member, no_items, no_members, null, object, put}
 use Rattle.command_files.specs.Runs.{completeness_of}
@@ -13,6 +13,7 @@ use Rattle.page_files.specs.declared.options.DecodeOptions.{DecodeOptions}
 use Rattle.page_files.specs.declared.options.PageForm.{PageForm}
 use Rattle.commands.specs.FoundForms.{IsFormOf}
 use Rattle.commands.specs.Names.{shown_name}
+use Rattle.commands.specs.Places.{has_left_out}
 use Rattle.commands.specs.PageFacts.{page_records}
 use Rattle.commands.specs.Pages.{GoesOn, IsPageReport, file_end, page_lines, with_front}
 use Rattle.commands.specs.declared.decode.each.EachCommand.{EachCommand}
@@ -90,7 +91,7 @@ EndsIn command octets report = (form : Result PageForm FileEnd) × IsFormOf comm
 
 -- the report of a file: it was read, and its pages decoded and written; or its name isn't UTF-8, or it can't be read
 abbrev pub IsFileReport : EachCommand → FileReport → Type 0
-IsFileReport command report = ((octets : List ℕ) × EndsIn command octets report)
+IsFileReport command report = ((octets : List ℕ) × (length octets ≤ command.most_octets) × EndsIn command octets report)
     ⊎ (IsSaid file.NoText report ⊎ ((fault : ToolFault) × IsSaid (file.Failed fault) report))
 
 -- a file has a report, which is complete or not
@@ -137,7 +138,7 @@ end_text (file.Cut number row fault) = codes "cut at row " ++ (decimal row ++ (c
 end_text (file.Lost number fault) = codes "page " ++ (decimal number ++ (codes " is not read: " ++ fault_text fault))
 end_text (file.NotWritten number fault) = codes "page " ++ (decimal number ++ (codes " is not written: " ++ fault_text fault))
 end_text (file.NoFax name) = codes "no fax: " ++ name.now
-end_text file.NoWidth = codes "the width is not known"
+end_text file.NoWidth = codes "the width is not known: decode it by --code, --order and --width in each way that identify names"
 end_text file.Nothing = codes "not read: identify may tell what it is"
 end_text file.NoText = codes "its name isn't UTF-8"
 end_text (file.Failed fault) = fault_text fault
@@ -147,10 +148,16 @@ abbrev pub words_line : Option (List ℕ) → List ℕ
 words_line None = []
 words_line (Some text) = codes "    " ++ (text ++ codes "\n")
 
--- the line of a file of this name, and under it, each after four spaces, what is reported of its pages and the words of its fault
-abbrev pub each_text : List ℕ → FileEnd → List ℕ → Option (List ℕ) → List ℕ
-each_text name end told text = (shown_name name ++ (codes ": " ++ (end_text end ++ codes "\n")))
-    ++ (with_front (codes "    ") told ++ words_line text)
+-- the line that says what of a file's name isn't in the names of its images, if it has some
+abbrev pub left_out_line : List ℕ → Bool → List ℕ
+left_out_line name false = []
+left_out_line name true = cond (has_left_out name) (codes "    the names of its images have no leading / and no ..\n") []
+
+-- The line of a file of this name with images or without, and under it, each after four spaces, what is reported of its pages, what of its
+-- name is left out, and the words of its fault.
+abbrev pub each_text : List ℕ → FileEnd → List ℕ → Bool → Option (List ℕ) → List ℕ
+each_text name end told images text = (shown_name name ++ (codes ": " ++ (end_text end ++ codes "\n")))
+    ++ (with_front (codes "    ") told ++ (left_out_line name images ++ words_line text))
 
 -- the record of a file without a fault, or whose words aren't shown: without `says` if nothing is reported of its pages
 abbrev pub plain_record : List ℕ → FileEnd → List ℕ → Bool → Data

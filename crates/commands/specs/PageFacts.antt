@@ -1,5 +1,5 @@
 -- What a page of a file is, for programs.
-use Rattle.std.specs.Prelude.{ℕ, ◌^◌, Bool, false, List, Option, Some, None, String, codes, cond}
+use Rattle.std.specs.Prelude.{ℕ, ◌^◌, ◌∷◌, ◌||◌, [], Bool, false, List, is_some, Option, Some, None, String, codes, cond}
 use Rattle.std.specs.Prelude.{map, nat_lt, option_map, string_bytes}
 use Rattle.serde_json.specs.Data.{Data, Members, array, boolean, no_members, null, object, put}
 use Rattle.serde_json.specs.View.{items_of}
@@ -25,6 +25,11 @@ bits_of (to.NoEnd bit) = None
 bits_of (to.Lines repaired) = None
 bits_of (to.Fault refused) = None
 
+-- the image of one of these pages is written
+abbrev pub has_images : List PageFacts → Bool
+has_images [] = false
+has_images (page ∷ pages) = is_some page.out || has_images pages
+
 -- ---- the record of a page
 
 -- a number, or null
@@ -37,15 +42,17 @@ abbrev pub maybe_words : {Z : Type 0} → Option (String Z) → Data
 maybe_words None = null
 maybe_words (Some text) = words (string_bytes text)
 
--- the values of `--code`, `--order` and of lines
+-- the value of `--code` for a code
 abbrev pub code_word : Coding → List ℕ
 code_word OneDim = codes "mh"
 code_word T6 = codes "mmr"
 
+-- the value of `--order` for an order of bits
 abbrev pub order_word : Order → List ℕ
 order_word MsbFirst = codes "msb"
 order_word LsbFirst = codes "lsb"
 
+-- what lines are called, by whether they are fine
 abbrev pub lines_word : Bool → List ℕ
 lines_word fine = cond fine (codes "fine") (codes "standard")
 

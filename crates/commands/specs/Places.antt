@@ -1,5 +1,5 @@
 -- Where the pages of a file of `decode --each` are written.
-use Rattle.std.specs.Prelude.{ℕ, ◌++◌, ◌||◌, ◌∷◌, [], List, codes, cond, flat_map, nat_lt}
+use Rattle.std.specs.Prelude.{ℕ, ◌++◌, ◌||◌, ◌∷◌, [], Bool, false, List, codes, cond, flat_map, nat_lt}
 use Rattle.std.specs.Fmt.{decimal}
 use Rattle.std.specs.Path.{cur_dir, parent_dir, path_components, root_dir, slash}
 use Rattle.std.specs.Str.{bytes_eq}
@@ -15,6 +15,19 @@ file_name name = cond (bytes_eq name (codes "-")) (codes "stdin") name
 -- the file's own place under a folder
 abbrev pub place_under : List ℕ → List ℕ → List ℕ
 place_under folder name = folder ++ flat_map part_text (path_components (file_name name))
+
+-- a part of a name is the root or `..`, which aren't in the place of a file's pages
+abbrev pub is_left_out : List ℕ → Bool
+is_left_out part = bytes_eq part root_dir || bytes_eq part parent_dir
+
+-- one of these parts is
+abbrev pub have_left_out : List (List ℕ) → Bool
+have_left_out [] = false
+have_left_out (part ∷ parts) = is_left_out part || have_left_out parts
+
+-- a file's name has such a part
+abbrev pub has_left_out : List ℕ → Bool
+has_left_out name = have_left_out (path_components (file_name name))
 
 -- the zeros with which a number has four digits
 abbrev pub zeros_before : ℕ → List ℕ

@@ -137,10 +137,11 @@ abbrev pub number_rule : Text → ℕ → ℕ → Rule
 number_rule id first last = record (option_rule id) { parser = Some (vp.Signed (pos first) (pos last)) }
 
 -- the command with the folder of all pages, the list of files, whether 0 ends its names, whether images that are there count as written,
--- and the most pages of a file
+-- and the most pages and the most octets of a file
 abbrev pub with_each : App → App
-with_each app = with_rule (with_rule (with_rule (with_rule (with_rule app (option_rule (codes "each"))) (option_rule (codes "from")))
-    (flag_rule (codes "null"))) (flag_rule (codes "resume"))) (number_rule (codes "most-pages") 1 4294967295)
+with_each app = with_rule (with_rule (with_rule (with_rule (with_rule (with_rule app (option_rule (codes "each")))
+    (option_rule (codes "from"))) (flag_rule (codes "null"))) (flag_rule (codes "resume"))) (number_rule (codes "most-pages") 1 4294967295))
+    (number_rule (codes "most-octets") 1 134217728)
 
 -- `decode`: the code, the width, the order, fine or not, what is done with a page that can't be
 -- read or has no end, verbose or not, records or not, the page's number, what is asked for of many files, and the files of the page and of
@@ -398,7 +399,8 @@ has_one rows = is_some (first_of (codes "page") rows) || is_named (codes "true")
 -- an option for many files was given
 abbrev pub is_for_many : List Row → Bool
 is_for_many rows = is_some (first_of (codes "from") rows) || (is_named (codes "true") (first_of (codes "null") rows)
-    || (is_named (codes "true") (first_of (codes "resume") rows) || is_some (first_of (codes "most-pages") rows)))
+    || (is_named (codes "true") (first_of (codes "resume") rows) || (is_some (first_of (codes "most-pages") rows)
+    || is_some (first_of (codes "most-octets") rows))))
 
 -- a file was given, or the list of files
 abbrev pub has_files : List Row → Bool
@@ -427,6 +429,11 @@ abbrev pub most_of : Option ℕ → ℕ
 most_of None = 10000
 most_of (Some most) = most
 
+-- the most octets of a file: as many as are read of any, if no number is given
+abbrev pub most_octets_of : Option ℕ → ℕ
+most_octets_of None = 134217728
+most_octets_of (Some most) = most
+
 -- the values of the command `decode` are those of many files, of which every page is decoded
 pub record IsEachOf (rows : List Row) (command : EachCommand) : Type 0 where
   pub folder_is : first_of (codes "each") rows ≡ Some (string_bytes command.folder)
@@ -442,6 +449,9 @@ pub record IsEachOf (rows : List Row) (command : EachCommand) : Type 0 where
   pub number : Option ℕ
   pub number_given : ReadsNumber (codes "most-pages") rows number
   pub most_is : command.most_pages ≡ most_of number
+  pub octets : Option ℕ
+  pub octets_given : ReadsNumber (codes "most-octets") rows octets
+  pub most_octets_is : command.most_octets ≡ most_octets_of octets
 
 -- the values of the command `identify` are those of several files, or of records
 pub record AreSeveralOf (rows : List Row) (records : Bool) (files : List Text) : Type 0 where

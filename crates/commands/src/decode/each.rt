@@ -5,32 +5,35 @@ ghost use Rattle.commands.specs.Files.{file_read, list_read};
 ghost use Rattle.commands.specs.Each.{AllEndSo, EndsIn, IsFileReport, IsReported, as_lines};
 ghost use Rattle.faults.specs.Faults.{IsOutside, IsUnread};
 ghost use Rattle.raster.specs.Pixels.{IsWidth};
-ghost use Rattle.std.specs.Prelude.{◌≡◌, ◌+◌, ℕ, List, IfErr, IfOk, IfSome, None, OnOk, flat_map, length};
+ghost use Rattle.std.specs.Prelude.{◌≡◌, ◌≤◌, ◌+◌, ℕ, List, IfErr, IfOk, IfSome, None, OnOk, flat_map, length};
 
 pub(crate) mod facts;
 mod listed;
 mod pages;
 mod places;
 pub(crate) mod report;
+mod tally;
 
 pub use crate::decode::each::listed::NameList;
 use crate::decode::each::listed::Names as ListedNames;
 use crate::decode::each::pages::{PagesOf, decode_pages};
 use crate::decode::each::places::{page_name, place_under};
 use crate::decode::each::report::{FileReport, tell_report};
+use crate::decode::each::tally::Tally;
 use crate::decode::ends::FileEnd;
 use crate::decode::found_form::form_of;
 use crate::names::is_untold;
 use crate::words::{context_of_file, words_of_file};
 use command_files::command::{Completeness, NO_NAMES, Names, Runs, both};
-use command_files::context::{Context, Part};
+use command_files::context::{Cause, Context, Part};
 use command_files::files::apart::CommandFiles;
 use command_files::files::bounded::{Ways, read_coded};
 use command_files::files::output::{check_folder, sync_names};
 use command_files::files::progress::Watch;
-use faults::{FAILED, ToolFault};
+use faults::{FAILED, TOO_MANY_OCTETS, ToolFault};
 use page_files::{DecodeOptions, PageForm};
 use std::alloc::AllocError;
+use std::io::ErrorKind;
 
 /// Writes every page of many files as images.
 #[derive(Debug, PartialEq, Eq, Drop)]
@@ -51,6 +54,8 @@ pub struct EachCommand {
     pub resume: bool,
     /// The most pages of a file.
     pub most_pages: u32,
+    /// The most octets of a file.
+    pub most_octets: u32,
 }
 
 impl Runs for EachCommand {
@@ -85,12 +90,10 @@ impl Runs for EachCommand {
     // A file that fails doesn't stop the others: its line says so.
     fn run(&self, context: &mut Context<'_>) -> Result<Completeness, ToolFault> {
         check_folder(context, self.folder.as_str(), Part::Output)?;
-        let mut is_complete = true;
-        for name in &self.files {
-            let is_done = self.do_file(context, name.as_str())?;
-            is_complete = both(is_complete, is_done);
-        }
-        let are_complete = self.do_listed(context, is_complete)?;
+        let mut tally = Tally::new(context.rt());
+        let done = self.do_all(context, &mut tally);
+        tally.end();
+        let are_complete = done?;
         Ok(Completeness::of(are_complete))
     }
 }
@@ -116,8 +119,28 @@ impl EachCommand {
         }
     }
 
+    /// Does all files, those that are named and those of the list, and returns whether all are complete. Errors: those of `do_listed`.
+    fn do_all(&self, context: &mut Context<'_>, tally: &mut Tally<'_>) -> Result<bool, ToolFault>
+        requires { IfSome self.now.form (λ form. IsWidth form.width) }
+        ensures complete { IfOk result (λ complete. (listed : ℕ)
+            × AllEndSo self.now (length self.now.files.items + listed) complete × (self.now.list ≡ None → listed ≡ 0)) }
+        ensures fault { IfErr result IsOutside }
+    {
+        let mut is_complete = true;
+        for name in &self.files {
+            let is_done = self.do_file(context, name.as_str(), tally)?;
+            is_complete = both(is_complete, is_done);
+        }
+        self.do_listed(context, is_complete, tally)
+    }
+
     /// Does the files of the list, if there is one, after those before it, and returns whether all are complete. Errors: those of `do_list`.
-    fn do_listed(&self, context: &mut Context<'_>, before: bool) -> Result<bool, ToolFault>
+    fn do_listed(
+        &self,
+        context: &mut Context<'_>,
+        before: bool,
+        tally: &mut Tally<'_>,
+    ) -> Result<bool, ToolFault>
         requires { IfSome self.now.form (λ form. IsWidth form.width) }
         ensures complete { (files : ℕ) → AllEndSo self.now files before → IfOk result (λ complete. (listed : ℕ)
             × AllEndSo self.now (files + listed) complete × (self.now.list ≡ None → listed ≡ 0)) }
@@ -125,7 +148,7 @@ impl EachCommand {
     {
         match &self.list {
             Some(list) => {
-                let are_complete = self.do_list(context, list, before)?;
+                let are_complete = self.do_list(context, list, before, tally)?;
                 Ok(are_complete)
             }
             None => Ok(before),
@@ -139,6 +162,7 @@ impl EachCommand {
         context: &mut Context<'_>,
         name: &str,
         before: bool,
+        tally: &mut Tally<'_>,
     ) -> Result<bool, ToolFault>
         requires { IfSome self.now.form (λ form. IsWidth form.width) }
         ensures complete { (files : ℕ) → AllEndSo self.now files before
@@ -148,7 +172,7 @@ impl EachCommand {
         if name.is_empty() {
             return Ok(before);
         }
-        let is_done = self.do_file(context, name)?;
+        let is_done = self.do_file(context, name, tally)?;
         Ok(both(before, is_done))
     }
 
@@ -159,6 +183,7 @@ impl EachCommand {
         context: &mut Context<'_>,
         list: &NameList,
         before: bool,
+        tally: &mut Tally<'_>,
     ) -> Result<bool, ToolFault>
         requires { IfSome self.now.form (λ form. IsWidth form.width) }
         ensures complete { (files : ℕ) → AllEndSo self.now files before
@@ -171,7 +196,7 @@ impl EachCommand {
             let Some(name) = names.next_in(context)? else {
                 return Ok(is_complete);
             };
-            let is_done = self.do_next(context, name.as_str(), is_complete)?;
+            let is_done = self.do_next(context, name.as_str(), is_complete, tally)?;
             is_complete = is_done;
         }
         // no list has so many names
@@ -180,7 +205,12 @@ impl EachCommand {
 
     /// Decodes every page of a file, prints what is reported of it, and returns whether that is complete. Errors: `Io` (8) if it can't be
     /// printed, `NoMemory` (9).
-    fn do_file(&self, context: &mut Context<'_>, name: &str) -> Result<bool, ToolFault>
+    fn do_file(
+        &self,
+        context: &mut Context<'_>,
+        name: &str,
+        tally: &mut Tally<'_>,
+    ) -> Result<bool, ToolFault>
         requires { IfSome self.now.form (λ form. IsWidth form.width) }
         ensures complete { IfOk result (IsReported self.now) }
         ensures fault { IfErr result IsOutside }
@@ -188,7 +218,9 @@ impl EachCommand {
         let mut own = context_of_file(context);
         let report = self.decode_file(&mut own, name);
         let words = self.words_of(&own, name, &report)?;
+        tally.step_aside();
         tell_report(context, name, &report, words.as_deref())?;
+        tally.count(report.pages.len(), report.is_complete);
         Ok(report.is_complete)
     }
 
@@ -234,7 +266,7 @@ impl EachCommand {
     /// `NoMemory` (9).
     fn read_file(&self, own: &mut Context<'_>, name: &str) -> Result<FileReport, ToolFault>
         requires { IfSome self.now.form (λ form. IsWidth form.width) }
-        ensures report { IfOk result (λ report. (octets : List ℕ) × EndsIn self.now octets report) }
+        ensures report { IfOk result (λ report. (octets : List ℕ) × (length octets ≤ self.now.most_octets) × EndsIn self.now octets report) }
         ensures form { IfOk result (λ report. IfSome report.form (λ form. IsWidth form.width)) }
         ensures fault { IfErr result IsUnread }
     {
@@ -242,13 +274,27 @@ impl EachCommand {
             Some(form) => Ways::of(form, self.options.repair),
             None => Ways::Tried,
         };
-        let octets = read_coded(own, name, ways, Watch::Shown)?;
+        let octets = read_coded(own, name, ways, Watch::Silent)?;
+        self.check_octets(own, octets.len())?;
         let place = place_under(own.alloc(), self.folder.as_str(), name)?;
         let report = self.read_pages(own, place.as_str(), octets)?;
         if report.has_image() {
             sync_names(own, place.as_str(), Part::Output)?;
         }
         Ok(report)
+    }
+
+    /// Checks that a file has no more octets than are asked for. Errors: `TooManyOctets` (32), and that is noted.
+    fn check_octets(&self, own: &mut Context<'_>, count: usize) -> Result<(), ToolFault>
+        ensures within { OnOk result (count ≤ self.now.most_octets) }
+        ensures fault { IfErr result IsUnread }
+    {
+        if count > self.most_octets as usize {
+            own.note_cause(Cause::TooLong(self.most_octets as usize));
+            own.blame(Part::Input, ErrorKind::FileTooLarge);
+            return Err(TOO_MANY_OCTETS);
+        }
+        Ok(())
     }
 
     /// Decodes every page of octets, in the way that is given, or else as `identify` says them. Errors: `NoMemory` (9).

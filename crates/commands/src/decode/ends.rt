@@ -140,7 +140,10 @@ impl fmt::Display for FileEnd {
                 write!(f, "page {page} is not written: {fault}")
             }
             FileEnd::NoFax(name) => write!(f, "no fax: {name}"),
-            FileEnd::NoWidth => write!(f, "the width is not known"),
+            FileEnd::NoWidth => write!(
+                f,
+                "the width is not known: decode it by --code, --order and --width in each way that identify names"
+            ),
             FileEnd::Nothing => write!(f, "not read: identify may tell what it is"),
             FileEnd::NoText => write!(f, "its name isn't UTF-8"),
             FileEnd::Failed(fault) => write!(f, "{fault}"),

@@ -1,7 +1,7 @@
 //! The words of the commands for many files: `decode --each`, and `identify` of several files.
 ghost use Rattle.std.specs.Prelude.{◌≡◌, ◌++◌, ◌||◌, IfOk, MatchResult, OnOk, Some, codes, is_some, map, option_map, string_bytes, true};
 ghost use Rattle.clap.specs.Words.{all_of, first_of, found_of, rows_of};
-ghost use Rattle.faxtool.specs.Jobs.{HasNoCommand, IsCommandOf, IsFormIn, IsListIn, has_files, has_half_form, has_more, has_one, is_named, most_of};
+ghost use Rattle.faxtool.specs.Jobs.{HasNoCommand, IsCommandOf, IsFormIn, IsListIn, has_files, has_half_form, has_more, has_one, is_named, most_octets_of, most_of};
 ghost use Rattle.faxtool.specs.Jobs.{is_for_many, texts_of};
 
 use crate::args::unfit::Unfit;
@@ -17,6 +17,9 @@ use std::alloc::{AllocError, Global};
 
 /// The most pages of a file, if no number is given.
 const MOST_PAGES: u32 = 10_000;
+
+/// The most octets of a file, if no number is given: as many as are read of any.
+const MOST_OCTETS: u32 = 134_217_728;
 
 // The values of an argument.
 fn texts_in<'b, 'a>(matches: &'b ArgMatches<'a>, id: &str) -> Option<&'b [&'a str]>
@@ -130,6 +133,7 @@ pub(crate) fn each_command(
         list,
         resume: is_named(text_in(matches, "resume"), "true"),
         most_pages: most_of(number_in(matches, "most-pages")),
+        most_octets: most_octets_of(number_in(matches, "most-octets")),
     })))
 }
 
@@ -153,6 +157,13 @@ fn most_of(given: Option<u32>) -> u32
     given.unwrap_or(MOST_PAGES)
 }
 
+/// Returns the most octets of a file.
+fn most_octets_of(given: Option<u32>) -> u32
+    ensures { result ≡ most_octets_of given }
+{
+    given.unwrap_or(MOST_OCTETS)
+}
+
 /// Returns whether a file was given, or the list of files.
 fn has_files(matches: &ArgMatches<'_>) -> bool
     ensures { result ≡ has_files (rows_of (found_of matches.now)) }
@@ -170,6 +181,7 @@ pub(crate) fn is_for_many(matches: &ArgMatches<'_>) -> bool
         || is_named(text_in(matches, "null"), "true")
         || is_named(text_in(matches, "resume"), "true")
         || text_in(matches, "most-pages").is_some()
+        || text_in(matches, "most-octets").is_some()
 }
 
 /// Returns the command that prints what each of several files is.

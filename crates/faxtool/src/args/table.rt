@@ -213,6 +213,13 @@ const DECODE_ARGUMENTS: &[Argument<'static>] = &[
         ..FILE_OPTION
     },
     Argument {
+        id: "most-octets",
+        shown: &["N"],
+        parser: Some(ValueParser::Signed(1, 134_217_728)),
+        help: "The most octets of a file, 134217728 if not said; one with more is not decoded (with --each)",
+        ..FILE_OPTION
+    },
+    Argument {
         required: false,
         ..CODED_PAGE
     },

@@ -102,7 +102,7 @@ impl Unfit {
                 "--page and --verbose are for one page, and can't be used with --each",
             Unfit::NoFiles => "FILE is missing, or --from, the list of files",
             Unfit::OneAndMany =>
-                "--from, --null, --resume and --most-pages are for many files, with --each",
+                "--from, --null, --resume and --most-.. are for many files, with --each",
             Unfit::NoFile => "FILE is missing",
             Unfit::RepairAndSalvage =>
                 "--repair and --salvage can be used together only with --each",

@@ -1,6 +1,6 @@
 //! Where the pages of a file of `--each` are written: under the folder, at the file's own place.
 
-ghost use Rattle.commands.specs.Places.{page_name, part_text, place_under, zeros_before};
+ghost use Rattle.commands.specs.Places.{has_left_out, is_left_out, page_name, part_text, place_under, zeros_before};
 ghost use Rattle.std.specs.Prelude.{◌≡◌, ◌++◌, IfOk, OnOk, string_bytes};
 
 use command_files::files::STANDARD;
@@ -29,6 +29,27 @@ pub(crate) fn place_under(alloc: Global, folder: &str, name: &str) -> Result<Str
         push_part(&mut place, part.as_os_str())?;
     }
     Ok(place)
+}
+
+/// Returns whether a part of a name is the root or `..`, which aren't in the place of a file's pages.
+fn is_left_out(part: &str) -> bool
+    ensures { result ≡ is_left_out part.now }
+{
+    part == "/" || part == ".."
+}
+
+/// Returns whether a file's name has such a part.
+pub(crate) fn has_left_out(name: &str) -> bool
+    ensures { result ≡ has_left_out name.now }
+{
+    let file = if name == STANDARD { "stdin" } else { name };
+    let mut parts = Path::new(file).components();
+    while let Some(part) = parts.next() {
+        if is_left_out(part.as_os_str()) {
+            return true;
+        }
+    }
+    false
 }
 
 /// Returns the zeros with which a page's number has four digits.

@@ -1,13 +1,15 @@
 //! What is reported of a file of which every page is decoded.
 
-ghost use Rattle.commands.specs.Each.{IsSaid, each_record, each_text, file_record, is_silent, not_read, pages_in, plain_record, said_record};
+ghost use Rattle.commands.specs.Each.{IsSaid, left_out_line, each_record, each_text, file_record, is_silent, not_read, pages_in, plain_record, said_record};
 ghost use Rattle.commands.specs.Each.{with_pages};
 ghost use Rattle.faults.specs.Faults.{IsOutside};
+ghost use Rattle.commands.specs.PageFacts.{has_images};
 ghost use Rattle.serde_json.specs.View.{view};
 ghost use Rattle.std.specs.Prelude.{◌≡◌, ◌++◌, IfErr, IfOk, None, OnOk, option_map};
 
 use crate::decode::each::facts::{PageFacts, page_records};
 use crate::decode::each::pages::{add_lines, is_silent};
+use crate::decode::each::places::has_left_out;
 use crate::decode::ends::FileEnd;
 use crate::names::{record_name, shown_name};
 use command_files::context::Context;
@@ -35,8 +37,15 @@ pub(crate) struct FileReport {
 
 impl FileReport {
     /// Whether the image of one of its pages is written.
-    pub(crate) fn has_image(&self) -> bool {
-        self.pages.iter().any(|page| page.out.is_some())
+    pub(crate) fn has_image(&self) -> bool
+        ensures { result ≡ has_images self.now.pages.items }
+    {
+        for page in &self.pages {
+            if page.out.is_some() {
+                return true;
+            }
+        }
+        false
     }
 
     /// The report of a file of which no page is read.
@@ -89,7 +98,22 @@ pub(crate) fn report_lines(
     Ok(lines)
 }
 
-/// Writes the line of a file, and under it the lines of its pages and the words of its fault, each after four spaces.
+/// Writes what of a file's name isn't in the names of its images, if it has some.
+fn add_left_out(name: &str, has_image: bool, lines: &mut Vec<u8>) -> Result<(), ToolFault>
+    ensures told { OnOk result (lines.new.items ≡ lines.old.items ++ left_out_line name.now has_image) }
+    ensures fault { IfErr result IsOutside }
+{
+    if has_image && has_left_out(name) {
+        writeln!(
+            lines,
+            "    the names of its images have no leading / and no .."
+        )?;
+    }
+    Ok(())
+}
+
+/// Writes the line of a file, and under it the lines of its pages, what of its name is left out, and the words of its fault, each after four
+/// spaces.
 fn write_report(
     alloc: Global,
     name: &str,
@@ -98,7 +122,8 @@ fn write_report(
     lines: &mut Vec<u8>,
 ) -> Result<(), ToolFault>
     ensures told { OnOk result (lines.new.items
-        ≡ lines.old.items ++ each_text name.now report.now.end report.now.told.items (option_map (λ text. text.now) words.entry)) }
+        ≡ lines.old.items ++ each_text name.now report.now.end report.now.told.items (has_images report.now.pages.items)
+        (option_map (λ text. text.now) words.entry)) }
     ensures fault { IfErr result IsOutside }
 {
     let shown = shown_name(alloc, name)?;
@@ -106,6 +131,7 @@ fn write_report(
     let end = report.end;
     writeln!(lines, ": {end}")?;
     add_lines("    ", report.told.as_slice(), lines)?;
+    add_left_out(name, report.has_image(), lines)?;
     if let Some(text) = words {
         writeln!(lines, "    {text}")?;
     }

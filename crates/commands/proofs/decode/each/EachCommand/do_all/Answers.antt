@@ -1,7 +1,7 @@
--- What the check asks of `run`.
+-- What the check asks of `do_all`.
 use Rattle.std.proofs.Common.{◌≡◌, ℕ, add-one, arith, length, subst, sym}
 use Rattle.commands.specs.Each.{AllEndSo}
-use Rattle.commands.proofs.decode.each.EachCommandRuns.run.Goals as goal
+use Rattle.commands.proofs.decode.each.EachCommand.do_all.Goals as goal
 
 pub loop-name-preserved : goal.loop-name-preserved
 loop-name-preserved c =
@@ -13,8 +13,8 @@ loop-name-preserved c =
       c.both-is_complete.ensures,
     )
 
-pub returns : goal.returns
-returns c =
+pub returns-clause-complete : goal.returns-clause-complete
+returns-clause-complete c =
     let items = c.args.self.now.files.items in
     let all : c.loop-name.name-index ≡ length items =
     omega (
@@ -22,6 +22,5 @@ returns c =
       rw c.deref-name-items.ensures.value at c.loop-name-test.false,
       rw c.deref-name-items.ensures.value at c.loop-name.auto.name-index-end,
     ) in
-    let held = c.in_ok-are_complete.ensures.complete (length items)
-    (subst (λ (n : ℕ). AllEndSo c.args.self.now n c.loop-name.is_complete) all c.loop-name.invariant) in
-    (c.in_ok-are_complete.are_complete, held.0, held.1, held.2, c.of.ensures)
+    c.do_listed.ensures.complete (length items)
+    (subst (λ (n : ℕ). AllEndSo c.args.self.now n c.loop-name.is_complete) all c.loop-name.invariant)
