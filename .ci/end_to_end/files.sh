@@ -68,13 +68,14 @@ try_apart() {
     works code --code mmr "$image" "$work/white.mmr"
     replaces "$image" code --code mh row
     replaces "$work/white.mmr" decode --code mmr --width 1728 row
-    replaces "$work/white.mmr" decode row
+    replaces "$data/page.mh.msb" decode row
     replaces "$image" call --script script row --diagram
     replaces "$image" call --lose 5% --seed 1 row --out
     replaces "$data/line.bits" frames --caller row --answerer other --diagram
     makes_apart "$image"
-    works call --script script --bits . "$(cp row to-answerer.bits; echo to-answerer.bits)"
-    ! cmp -s row to-answerer.bits || fails "a file of --bits didn't take the place of the document"
+    # a file of --bits takes no place of another
+    faults "fault 8" call --script script --bits . "$(cp row to-answerer.bits; echo to-answerer.bits)"
+    is_same to-answerer.bits row "the document in the place of a file of --bits"
     works call --script script --out script row
     is_same script row "the pages that took the place of the script"
     for words in "identify row" "call --lose 5% --seed 1 row"; do
