@@ -142,6 +142,16 @@ show_is_decode e =
     let bad : 115 ≡ 100 = ap (λ (t : Text). slice_index t 0) e in
     absurd (omega (arith, bad))
 
+decode_is_frames : codes "decode" ≡ codes "frames" → ⊥
+decode_is_frames e =
+    let bad : 100 ≡ 102 = ap (λ (t : Text). slice_index t 0) e in
+    absurd (omega (arith, bad))
+
+decode_is_call : codes "decode" ≡ codes "call" → ⊥
+decode_is_call e =
+    let bad : 100 ≡ 99 = ap (λ (t : Text). slice_index t 0) e in
+    absurd (omega (arith, bad))
+
 call_is_code : codes "call" ≡ codes "code" → ⊥
 call_is_code e =
     let bad : 97 ≡ 111 = ap (λ (t : Text). slice_index t 1) e in
