@@ -15,3 +15,4 @@ pub mod Writable
 pub mod FrameSizes
 pub mod BurstSizes
 pub mod Timeouts
+pub mod TimedLaws

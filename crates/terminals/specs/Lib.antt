@@ -13,6 +13,7 @@ pub mod Speaking
 pub mod Stations
 pub mod StationsAfter
 pub mod Stopping
+pub mod Timed
 pub mod Timeouts
 pub mod Timing
 pub mod Watching

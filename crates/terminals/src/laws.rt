@@ -11,6 +11,7 @@ ghost use Rattle.terminals.specs.Saying.{AnswerersHangUp, AnswerersLose, Answere
 ghost use Rattle.terminals.specs.Saying.{TurnsAreLeft, WaitsAreShown};
 ghost use Rattle.terminals.specs.StationsAfter.{AnswererIsAfter, CallerIsAfter};
 ghost use Rattle.terminals.specs.Stopping.{AnswerersSendDcn, CallersSendDcn};
+ghost use Rattle.terminals.specs.Timed.{TimedAreDue, TimedLimitsHold};
 ghost use Rattle.terminals.specs.Timeouts.{LimitsHold, TimeoutsAreDue};
 ghost use Rattle.terminals.specs.WatchingLaws.{GapIsFirstJump, GapsByOctets, RefusedByOctets, SecondIsRefused, UsedByOctets, UsedIsBrought};
 ghost use Rattle.terminals.specs.Writable.{AnswerersCanBeWritten, AnswerersSendWhole, CallersCanBeWritten, CallersSendWhole};
@@ -75,6 +76,13 @@ pub fn waits_are_named()
 pub fn timeouts_are_due()
     ensures due { TimeoutsAreDue }
     ensures limits { LimitsHold }
+{}
+
+/// After a `pass` of a `TimedTerminal` the next one does something at a time exactly if the time that is due has come, unless something comes
+/// before, or the line changes; and the limit of its call holds. Both hold also while a burst waits to be sent, when no wait ends.
+pub fn timed_are_due()
+    ensures due { TimedAreDue }
+    ensures limits { TimedLimitsHold }
 {}
 
 /// T2 and T4 are never over while a carrier is on, nor before the line has been quiet since a carrier of either side.

@@ -12,6 +12,7 @@ mod speaking;
 mod station;
 mod stopping;
 mod terminal;
+mod timed;
 mod timeout;
 mod timing;
 mod watching;
@@ -24,6 +25,7 @@ pub use crate::sending::SentBurst;
 pub use crate::station::Station;
 pub use crate::stopping::{Shown, Stoppable};
 pub use crate::terminal::{AnswererTerminal, CallerTerminal, Terminal};
+pub use crate::timed::{Next, TimedTerminal};
 pub use crate::timeout::{Limit, Timeout};
 pub use crate::timing::{
     BETWEEN_CARRIERS_MILLIS, T1_MILLIS, T2_MILLIS, T4_MILLIS, T5_MILLIS, flags_after, flags_before,

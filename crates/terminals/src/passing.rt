@@ -2,9 +2,10 @@
 
 ghost use Rattle.std.specs.Prelude.{◌≡◌, IfOk, OnErr, OnOk};
 ghost use Rattle.terminals.specs.Passing.{Acts, Passes, is_awaited};
+ghost use Rattle.terminals.specs.Timed.{PassesUnlessSending, unless_sending};
 
 use crate::clock::{Clock, Durations, LineState};
-use crate::stopping::Stoppable;
+use crate::stopping::{Shown, Stoppable};
 use crate::terminal::Terminal;
 use crate::timeout::{Limit, Timeout};
 use stations::Listening;
@@ -71,6 +72,46 @@ pub fn pass<S: Stoppable>(
         .heard(moment.brought)
         .asked(shown.longer);
     let done = told.timeout(moment.line, side, shown, durations, limit);
+    act(terminal, done)?;
+    *clock = told.asked(terminal.shown().longer);
+    Ok(done)
+}
+
+/// What a station shows while a burst waits to be sent, or none does: no wait runs until the burst was sent.
+pub(crate) fn unless_sending(sending: bool, shown: Shown) -> Shown
+    ensures { result ≡ unless_sending sending shown }
+{
+    if sending {
+        return Shown {
+            running: None,
+            longer: None,
+            ..shown
+        };
+    }
+    shown
+}
+
+/// Tells a terminal the time, as `pass` does; but no wait ends while a burst waits to be sent.
+pub(crate) fn pass_unless_sending<S: Stoppable>(
+    terminal: &mut Terminal<S>,
+    clock: &mut Clock,
+    moment: Moment,
+    durations: Durations,
+    limit: Limit,
+) -> Result<Option<Timeout>, AllocError>
+    ensures ok { IfOk result (λ done. PassesUnlessSending S S.sends S.lends S.steps S.cut_off S.stop_says S.shows moment durations limit
+        terminal.old clock.old terminal.new clock.new done) }
+    ensures err { OnErr result ((terminal.new ≡ terminal.old) × (clock.new ≡ clock.old)) }
+{
+    let side = terminal.station().side();
+    let shown = terminal.shown();
+    let waits = unless_sending(terminal.has_burst(), shown);
+    let at = moment.at.max(clock.now);
+    let told = clock
+        .at(moment.line, at)
+        .heard(moment.brought)
+        .asked(shown.longer);
+    let done = told.timeout(moment.line, side, waits, durations, limit);
     act(terminal, done)?;
     *clock = told.asked(terminal.shown().longer);
     Ok(done)

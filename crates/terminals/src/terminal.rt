@@ -2,8 +2,9 @@
 
 ghost use Rattle.std.specs.Prelude.{◌≡◌, ℕ, List, [], OnOk, OnErr};
 ghost use Rattle.hdlc.specs.DeframerState.{IsAfter};
-ghost use Rattle.terminals.specs.Hearing.{HasHeard, check, over, busy, good_frames};
-ghost use Rattle.terminals.specs.Runs.{Hears};
+ghost use Rattle.signals.specs.Reading.{read_content};
+ghost use Rattle.terminals.specs.Hearing.{HasHeard, check, over, busy, good_frames, heard_if};
+ghost use Rattle.terminals.specs.Runs.{Hears, TakesAll};
 ghost use Rattle.terminals.specs.Sending.{HasBurst, Sends};
 ghost use Rattle.terminals.specs.Speaking.{Takes, is_mcf};
 ghost use Rattle.terminals.specs.Stations.{without_pages};
@@ -123,6 +124,27 @@ impl<S: Station> Terminal<S> {
             return Ok(());
         }
         Err(HearFault::FrameLost)
+    }
+
+    /// Hears the content of a good frame that was found elsewhere: the station takes the signal that it says, or nothing if it says none, and
+    /// a watch sees it, read once. The octets heard so far, and the count of good frames in them, stay. `AllocError` if memory is refused to
+    /// the step: the frame is lost, as on a line, and was seen.
+    pub fn hear_content<W: Watch>(
+        &mut self,
+        content: &[u8],
+        watch: &mut W,
+    ) -> Result<(), AllocError>
+        ensures ok { OnOk result (TakesAll S.steps self.old.speaking (heard_if (read_content content.now)) self.new.speaking) }
+        ensures err { OnErr result (self.new ≡ self.old) }
+        ensures framing { self.new.framing ≡ self.old.framing }
+        ensures seen { watch.new ≡ W.saw watch.old content.now (read_content content.now) }
+    {
+        let said = signals::read(content);
+        watch.see(content, said);
+        if self.speaker.hear_said(said) {
+            return Ok(());
+        }
+        Err(AllocError)
     }
 
     /// The station hears the octets of a training check. `AllocError` if memory is refused; nothing changes.
