@@ -279,10 +279,13 @@ G3_CHECK g3_status g3_caller_new(g3_terminal *out, g3_document *document, const 
  * G3_NO_MEMORY: nothing was taken; give the octets again. G3_FRAME_LOST: don't. */
 G3_CHECK g3_status g3_terminal_hear(g3_terminal *terminal, const uint8_t *octets, size_t length);
 /* Hears a good frame by its content, 3 to 300 octets, as g3_terminal_hear hears the octets of this frame between two flags: for a modem that
- * finds the frames itself. G3_NO_MEMORY: nothing was taken; give it again. G3_FRAME_LOST: don't. */
+ * finds the frames itself. Octets of a frame that began stay. G3_NO_MEMORY: nothing was taken; give it again. */
 G3_CHECK g3_status g3_terminal_hear_frame(g3_terminal *terminal, const uint8_t *content, size_t length);
 /* Hears the octets of a training check that has come. */
 G3_CHECK g3_status g3_terminal_hear_training(g3_terminal *terminal, const uint8_t *octets, size_t length);
+/* What the terminal listens for didn't come: a carrier that couldn't be read, or another one. An awaited training check counts as a bad one
+ * then; else nothing changes. */
+G3_CHECK g3_status g3_terminal_missed(g3_terminal *terminal);
 
 /* the waits of T.30, 5.4.3.1 */
 enum g3_wait { G3_T1 = 1, G3_T2 = 2, G3_T4 = 4, G3_T5 = 5 };
@@ -291,17 +294,24 @@ G3_CHECK g3_status g3_terminal_wait_over(g3_terminal *terminal, uint32_t wait);
 /* How long a wait runs, in milliseconds; 0 for a number that is no wait. */
 uint32_t g3_wait_millis(uint32_t wait);
 
-/* what the line of a call is at a tick: nothing is on it; or a carrier of either station is, or has just ended */
-enum g3_line { G3_QUIET = 1, G3_CARRIER = 2 };
-/* Tells a terminal the time, in milliseconds since its call was set up, and what the line is: a wait that is over on a quiet line ends. Call
- * it when the line changes, after each burst that was sent, and when g3_terminal_due says; g3_terminal_wait_over isn't called then. Frames and
- * checks that were heard since the last tick are heard now. G3_BAD_CHOICE: no such line, or a time before that of the last tick. */
+/* what the line of a call is at a tick: nothing is on it; a carrier of either station is, or has ended and the program doesn't know; or the
+ * other station's has just ended, so that it is this one's turn */
+enum g3_line { G3_QUIET = 1, G3_CARRIER = 2, G3_ENDED = 3 };
+/* Tells a terminal the time, in milliseconds since its call was set up, and what the line is: a wait that is over on a quiet line ends,
+ * unless a burst waits to be sent. Call it when the line changes, after each burst that was sent, and when g3_terminal_due says;
+ * g3_terminal_wait_over isn't called then. Frames and checks that were heard since the last tick are heard now. G3_BAD_CHOICE: no such line,
+ * or a time before that of the last tick. */
 G3_CHECK g3_status g3_terminal_tick(g3_terminal *terminal, uint64_t now, uint32_t line);
 /* When the next tick does something, by the time of the ticks, if the line stays as it is and nothing comes: a wait is over, or the call has
- * lasted as long as it may. G3_NOTHING: never; so on a carrier, before the first tick, and after a burst until the next, if there is no limit. */
+ * lasted as long as it may. G3_NOTHING: never; so on a carrier, before the first tick, while a burst waits to be sent, and after a burst until
+ * the next tick, if there is no limit. */
 G3_CHECK g3_status g3_terminal_due(const g3_terminal *terminal, uint64_t *at);
-/* How many seconds the call may last, by the time of the ticks; 0 for no limit, as in the beginning. The first tick of a quiet line from then
- * on does what g3_terminal_stop does. If the line doesn't fall quiet, the first tick 10 s later does what g3_terminal_lost does. */
+/* what a program does next with a terminal: it waits for what comes; it sends the burst that waits; or it waits until a time */
+enum g3_next { G3_NEXT_NOTHING = 0, G3_NEXT_SEND = 1, G3_NEXT_AT = 2 };
+/* What a program does next; G3_NEXT_AT tells the time of g3_terminal_due too, and else at stays. */
+G3_CHECK g3_status g3_terminal_next(const g3_terminal *terminal, uint32_t *next, uint64_t *at);
+/* How many seconds the call may last, by the time of the ticks; 0 for no limit, as in the beginning. The first tick of G3_QUIET or G3_ENDED
+ * from then on does what g3_terminal_stop does. On a carrier the first tick 10 s later does what g3_terminal_lost does. */
 G3_CHECK g3_status g3_terminal_most_seconds(g3_terminal *terminal, uint32_t seconds);
 /* Whether an answerer can't take pages for now. */
 G3_CHECK g3_status g3_terminal_set_busy(g3_terminal *terminal, uint32_t is);

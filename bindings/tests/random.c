@@ -129,7 +129,7 @@ static g3_status call(uint32_t which, void *a, void *b)
         if (g3_octets_data(a, below(50) ? &address : NULL, number) == G3_OK)
             for (uint64_t at = 0; at < told; at++) buffer[at % sizeof buffer] ^= address[at];
         return G3_OK;
-    case 55: case 56: return g3_terminal_tick(a, now += below(4) ? below(9000) : 0, below(4));
+    case 55: case 56: return g3_terminal_tick(a, now += below(4) ? below(9000) : 0, below(5));
     case 57: return g3_terminal_due(a, number);
     case 58: return g3_terminal_hold(a, b);
     case 59: return g3_terminal_most_seconds(a, below(4) ? below(2000) : 0);
@@ -137,6 +137,8 @@ static g3_status call(uint32_t which, void *a, void *b)
         return g3_carrier_rate(below(12)) <= 14400 && g3_carrier_name(below(12)) != NULL && g3_end_text(below(20)) != NULL
             && g3_status_text(below(120)) != NULL ? G3_OK : UINT32_MAX;
     case 61: return g3_identify(octets, length, below(50) ? &found : NULL);
+    case 63: return g3_terminal_missed(a);
+    case 64: return g3_terminal_next(a, below(50) ? &why : NULL, number);
     case 62: return g3_page_next(octets, length, below(50) ? &code : NULL, below(4) ? below(2000) : stride, number);
     default: g3_page_free(a); return G3_OK;
     }

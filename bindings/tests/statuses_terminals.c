@@ -101,7 +101,7 @@ static void clocks(void)
     IS(G3_OK, g3_answerer_new(&t, &caps));
     IS(G3_NO_ADDRESS, g3_terminal_due(&t, NULL));
     IS(G3_BAD_CHOICE, g3_terminal_tick(&t, 0, 0));
-    IS(G3_BAD_CHOICE, g3_terminal_tick(&t, 0, 3));
+    IS(G3_BAD_CHOICE, g3_terminal_tick(&t, 0, 4));
     IS(G3_OK, g3_terminal_next_burst(&t, &o, &burst));
     g3_octets_free(&o);
     IS(G3_OK, g3_terminal_tick(&t, 1000, G3_CARRIER));
@@ -172,6 +172,101 @@ static void agreed(void)
     IS(G3_OK, g3_terminal_state(&t, &state));
     IS(1, state.frames == 1 && state.listens == G3_HEARS_CHECK && state.carrier == G3_V29_9600);
     g3_terminal_free(&t);
+}
+
+/* What is next: a burst that waits, and no wait runs until it was sent; then the time that is due, or what comes. */
+static void nexts(void)
+{
+    g3_terminal t = G3_EMPTY;
+    g3_octets o = G3_EMPTY;
+    g3_burst burst = G3_INIT(g3_burst);
+    g3_caps caps = {G3_V17, 1, 1, 2432, 1};
+    uint64_t at = 77;
+    uint32_t next = 99;
+    IS(G3_EMPTY_HANDLE, g3_terminal_next(&t, &next, &at));
+    IS(G3_OK, g3_answerer_new(&t, &caps));
+    IS(G3_BAD_LENGTH, g3_terminal_next(&t, NULL, &at));
+    IS(G3_BAD_LENGTH, g3_terminal_next(&t, &next, NULL));
+    IS(1, next == 99 && at == 77);
+    IS(G3_OK, g3_terminal_next(&t, &next, &at));
+    IS(1, next == G3_NEXT_SEND && at == 77); /* the first DIS */
+    IS(G3_OK, g3_terminal_tick(&t, 1000, G3_QUIET));
+    IS(G3_NOTHING, g3_terminal_due(&t, &at));
+    IS(G3_OK, g3_terminal_tick(&t, 20000, G3_QUIET)); /* T2 is not over */
+    IS(G3_OK, g3_terminal_next_burst(&t, &o, &burst));
+    g3_octets_free(&o);
+    IS(G3_OK, g3_terminal_next(&t, &next, &at));
+    IS(1, next == G3_NEXT_NOTHING && at == 77); /* until a tick says what the line is */
+    IS(G3_OK, g3_terminal_tick(&t, 21000, G3_QUIET));
+    IS(G3_OK, g3_terminal_next(&t, &next, &at));
+    IS(1, next == G3_NEXT_AT && at == 28000); /* T2 */
+    IS(G3_OK, g3_terminal_tick(&t, 28000, G3_QUIET));
+    IS(G3_OK, g3_terminal_next(&t, &next, &at));
+    IS(1, next == G3_NEXT_SEND && at == 28000);
+    g3_terminal_free(&t);
+}
+
+/* A check that is awaited and missed is a bad one, and FTT answers it; nothing else is missed. */
+static void missed(void)
+{
+    g3_terminal t = G3_EMPTY;
+    g3_octets o = G3_EMPTY;
+    g3_deframer d = G3_EMPTY;
+    g3_burst burst = G3_INIT(g3_burst);
+    g3_state state = G3_INIT(g3_state);
+    g3_signal s = G3_INIT(g3_signal);
+    g3_caps caps = {G3_V17, 1, 1, 2432, 1};
+    const uint8_t *data = NULL;
+    uint64_t n = 0;
+    IS(G3_EMPTY_HANDLE, g3_terminal_missed(&t));
+    IS(G3_EMPTY_HANDLE, g3_terminal_missed(NULL));
+    IS(G3_OK, g3_answerer_new(&t, &caps));
+    IS(G3_OK, g3_terminal_next_burst(&t, &o, &burst));
+    g3_octets_free(&o);
+    IS(G3_OK, g3_terminal_missed(&t));
+    IS(G3_NOTHING, g3_terminal_next_burst(&t, &o, &burst));
+    s.kind = G3_DCS, s.dcs.carrier = G3_V29_9600, s.dcs.width = 1728, s.dcs.coding = G3_MMR, s.dcs.frame = 256;
+    IS(G3_OK, g3_signal_write(&s, G3_CALLER, 1, octets, sizeof octets, &n));
+    IS(G3_OK, g3_terminal_hear_frame(&t, octets, n));
+    IS(G3_OK, g3_terminal_state(&t, &state));
+    IS(1, state.frames == 1 && state.listens == G3_HEARS_CHECK);
+    IS(G3_OK, g3_terminal_missed(&t));
+    IS(G3_OK, g3_terminal_next_burst(&t, &o, &burst));
+    IS(G3_OK, g3_octets_data(&o, &data, &n));
+    IS(G3_OK, g3_deframer_new(&d));
+    IS(G3_OK, g3_deframer_feed(&d, data, n));
+    IS(G3_OK, g3_deframer_next(&d, octets, sizeof octets, &n));
+    IS(G3_OK, g3_signal_read(octets, n, &s));
+    IS(G3_FTT, s.kind);
+    g3_octets_free(&o); g3_deframer_free(&d); g3_terminal_free(&t);
+}
+
+/* A call whose carrier has just ended is stopped by DCN once it has lasted as long as it may. */
+static void ended(void)
+{
+    g3_terminal t = G3_EMPTY;
+    g3_octets o = G3_EMPTY;
+    g3_burst burst = G3_INIT(g3_burst);
+    g3_state state = G3_INIT(g3_state);
+    g3_caps caps = {G3_V17, 1, 1, 2432, 1};
+    uint64_t at = 77;
+    IS(G3_OK, g3_answerer_new(&t, &caps));
+    IS(G3_OK, g3_terminal_next_burst(&t, &o, &burst));
+    g3_octets_free(&o);
+    IS(G3_OK, g3_terminal_most_seconds(&t, 5));
+    IS(G3_OK, g3_terminal_tick(&t, 4000, G3_CARRIER));
+    IS(G3_OK, g3_terminal_due(&t, &at));
+    IS(15000, (g3_status)at);
+    IS(G3_OK, g3_terminal_tick(&t, 4999, G3_ENDED));
+    IS(G3_OK, g3_terminal_due(&t, &at));
+    IS(5000, (g3_status)at);
+    IS(G3_NOTHING, g3_terminal_next_burst(&t, &o, &burst));
+    IS(G3_OK, g3_terminal_tick(&t, 5000, G3_ENDED));
+    IS(G3_OK, g3_terminal_state(&t, &state));
+    IS(G3_END_STOPPED, state.end);
+    IS(G3_OK, g3_terminal_next_burst(&t, &o, &burst)); /* DCN */
+    IS(1, burst.carrier == G3_V21 && burst.last == 1);
+    g3_octets_free(&o); g3_terminal_free(&t);
 }
 
 /* most seconds of a call: it is stopped at the first quiet tick from then on, and given up 10 s later on any line; `due` tells it */
@@ -441,6 +536,9 @@ int main(void)
     clocks();
     agreed();
     limits();
+    nexts();
+    missed();
+    ended();
     carriers();
     watched();
     held();

@@ -1,35 +1,36 @@
--- What an answerer has heard, and whether its call is stopped for it.
-use Rattle.std.proofs.Common.{◌≡◌, ◌≢◌, ℕ, Bool, List, Option, ap, refl, subst, ◌∙◌}
-use Rattle.stations.specs.Limiting.{LimitedFields}
-use Rattle.terminals.specs.Runs.{TerminalFields}
-use Rattle.terminals.specs.Stopping.{last_mark, limited_cut_off, limited_stop_says, stopped}
-use Rattle.terminals.specs.Watching.{Sees, noted}
+-- What a terminal has heard, and whether its call is stopped for it.
+use Rattle.std.proofs.Common.{◌≡◌, ◌∙◌, ℕ, Bool, List, Option, Err, ap, refl}
+use Rattle.terminals.specs.Runs.{Hears, TerminalFields}
+use Rattle.terminals.specs.Speaking.{StepOf}
+use Rattle.terminals.specs.Stopping.{stopped}
+use Rattle.terminals.specs.Timed.{BringsIfTaken, SeesOctets, TimedFields}
+use Rattle.terminals.specs.declared.fault.HearFault.TheVariants.{NothingTaken}
+use Rattle.terminals.specs.declared.stopping.Shown.{Shown}
 use Rattle.terminals.specs.declared.watching.Watched.{Watched}
-use Rattle.g3fax.specs.Answering.{AnsweringFields}
-use Rattle.g3fax.specs.Hearing.{AnswererHears, HearsOctets, SeesOctets, answerer_steps, is_reused, stopped_if_reused}
-use Rattle.g3fax.specs.Statuses.{no_memory}
+use Rattle.g3fax.specs.Stations.{Behaviour}
 
--- what was heard and seen, and then done by what was seen
-pub heard_so :
-    (old new : AnsweringFields) (octets : List ℕ) (terminal : TerminalFields LimitedFields) (before watched : Option Watched) (again : Bool)
-    (status : ℕ) → status ≢ no_memory → before ≡ noted (last_mark old.terminal.speaking.station.station) old.watched →
-    HearsOctets LimitedFields answerer_steps old.terminal octets terminal status →
-    SeesOctets old.terminal.framing octets before watched status → again ≡ is_reused watched →
-    new ≡ stopped_if_reused again (record old { terminal = terminal; watched = watched }) → AnswererHears old octets new status
-heard_so old new octets terminal before watched again status some is_noted hears sees again_is is = record {
-  heard = λ other. record {
-    heard = record old { terminal = terminal; watched = watched };
-    hears = hears;
-    sees = subst (λ (w : Option Watched). Sees old.terminal.framing octets w watched) is_noted (sees.seen some);
-    same = refl;
-    stops = is ∙ ap (λ b. stopped_if_reused b (record old { terminal = terminal; watched = watched })) again_is;
-  };
-  kept = λ none. absurd (some none);
-  only = hears.only;
-}
+parts_same : {S : Type 0} (old : TimedFields S) (terminal : TerminalFields S) (watched : Option Watched) (brought : Bool) →
+    terminal ≡ old.terminal → watched ≡ old.watched → brought ≡ old.brought →
+    record old { terminal = terminal; watched = watched; brought = brought } ≡ old
+parts_same old terminal watched brought p q r = rw (p, q, r) refl
+
+-- nothing has changed if no octet was taken
+pub untaken : {S : Type 0} (steps : StepOf S) (shows : S → Shown → Type 0) (old new : TimedFields S) (octets : List ℕ) →
+    Hears steps old.terminal octets new.terminal (Err NothingTaken) →
+    SeesOctets S shows old.terminal octets old.watched new.watched (Err NothingTaken) →
+    BringsIfTaken old.terminal.framing new.terminal.framing old.brought new.brought (Err NothingTaken) →
+    new ≡ record old { terminal = new.terminal; watched = new.watched; brought = new.brought } → new ≡ old
+untaken steps shows old new octets same sees brings rest =
+    rest ∙ parts_same old new.terminal new.watched new.brought same sees.sees brings
+
+terminal_is : {S : Type 0} (b : Behaviour S) (was now : TerminalFields S) → now.framing ≡ was.framing →
+    now.speaking ≡ stopped b.cut_off b.stop_says was.speaking →
+    now ≡ record was { speaking = stopped b.cut_off b.stop_says was.speaking }
+terminal_is b was now framing speaking = rw (← framing, ← speaking) refl
 
 -- a terminal that was stopped, by its parts
-pub stopped_is : (was now : TerminalFields LimitedFields) → now.framing ≡ was.framing →
-    now.speaking ≡ stopped limited_cut_off limited_stop_says was.speaking →
-    now ≡ record was { speaking = stopped limited_cut_off limited_stop_says was.speaking }
-stopped_is was now framing speaking = rw (← framing, ← speaking) refl
+pub stopped_is : {S : Type 0} (b : Behaviour S) (was now : TimedFields S) → now.terminal.framing ≡ was.terminal.framing →
+    now.terminal.speaking ≡ stopped b.cut_off b.stop_says was.terminal.speaking → now ≡ record was { terminal = now.terminal } →
+    now ≡ record was { terminal = record was.terminal { speaking = stopped b.cut_off b.stop_says was.terminal.speaking } }
+stopped_is {S} b was now framing speaking rest =
+    rest ∙ ap (λ (terminal : TerminalFields S). record was { terminal = terminal }) (terminal_is b was.terminal now.terminal framing speaking)

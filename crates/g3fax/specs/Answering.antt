@@ -1,24 +1,14 @@
--- The terminals of callers and answerers in handles.
-use Rattle.std.specs.Prelude.{ℕ, ◌+◌, ◌-◌, ◌^◌, Bool, true, false, List, Option, length, min, nat_le}
+-- The terminals of answerers in handles.
+use Rattle.std.specs.Prelude.{ℕ, ◌+◌, ◌-◌, ◌^◌, Bool, true, false, List, length, min, nat_le}
 use Rattle.raster.specs.Pages.{PagePixels}
 use Rattle.stations.specs.Limiting.{LimitedFields}
-use Rattle.stations.specs.Stopping.{StoppableCallerFields}
-use Rattle.terminals.specs.Runs.{TerminalFields}
-use Rattle.terminals.specs.declared.watching.Watched.{Watched}
+use Rattle.terminals.specs.Timed.{TimedFields}
 use Rattle.g3fax.specs.declared.answering.Tally.{Tally}
-use Rattle.g3fax.specs.declared.timing.Timing.{Timing}
 
--- the terminal of a caller, and its clock
-pub record CallingFields : Type 0 where
-  pub terminal : TerminalFields StoppableCallerFields
-  pub timing : Timing
-
--- the terminal of an answerer, its clock, what it was made to see of its caller, the pages that were taken out of it and not handed out yet,
--- the oldest first, how many pages it stores before it is busy, and how many were handed out and confirmed
+-- the terminal of an answerer, the pages that were taken out of it and not handed out yet, the oldest first, how many pages it stores before it
+-- is busy, and how many were handed out and confirmed
 pub record AnsweringFields : Type 0 where
-  pub terminal : TerminalFields LimitedFields
-  pub timing : Timing
-  pub watched : Option Watched
+  pub timed : TimedFields LimitedFields
   pub waiting : List PagePixels
   pub limit : ℕ
   pub tally : Tally
@@ -33,7 +23,7 @@ with_handed tally = record tally { handed = min (tally.handed + 1) (2 ^ 64 - 1) 
 
 -- how many pages of an answerer are stored and not handed out
 abbrev pub count_left : AnsweringFields → ℕ
-count_left a = length a.waiting + length a.terminal.speaking.station.station.pages
+count_left a = length a.waiting + length a.timed.terminal.speaking.station.station.pages
 
 -- how many pages an answerer has stored so far: those that were handed out, and those that are left
 abbrev pub stored_so_far : AnsweringFields → ℕ

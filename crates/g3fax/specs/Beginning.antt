@@ -14,15 +14,20 @@ use Rattle.signals.specs.declared.params.Wish.{Wish}
 use Rattle.stations.specs.AnswererStep.{new_answerer}
 use Rattle.stations.specs.CallerFields.{AreCallable, NewCaller}
 use Rattle.stations.specs.CallerStep.{no_params}
+use Rattle.stations.specs.Limiting.{LimitedFields}
+use Rattle.stations.specs.Stopping.{StoppableCallerFields}
+use Rattle.stations.specs.declared.turn.Turn.{Turn}
 use Rattle.stations.specs.declared.turn.Turn.TheVariants.{Dis, Silent}
+use Rattle.terminals.specs.Timed.{TimedFields, new_timed}
 use Rattle.terminals.specs.Watching.{nothing_watched}
-use Rattle.g3fax.specs.Answering.{AnsweringFields, CallingFields, no_tally}
+use Rattle.terminals.specs.declared.watching.Watched.{Watched}
+use Rattle.g3fax.specs.Answering.{AnsweringFields, no_tally}
 use Rattle.g3fax.specs.Codes.{coding_of}
 use Rattle.g3fax.specs.Documents.{pages_of}
 use Rattle.g3fax.specs.Handles.{Fills, HasAnswerer, HasCaller, HasDocument, OfDocument}
 use Rattle.g3fax.specs.Pages.{is_set}
 use Rattle.g3fax.specs.Statuses.{ok, no_memory, not_callable, full_handle, bad_choice, nothing_there}
-use Rattle.g3fax.specs.Ticking.{new_timing}
+use Rattle.g3fax.specs.Ticking.{limit_of, of_t30}
 use Rattle.g3fax.specs.declared.beginning.G3Caps.{G3Caps}
 use Rattle.g3fax.specs.declared.beginning.G3Wish.{G3Wish}
 use Rattle.g3fax.specs.declared.handle.Kept.{Kept}
@@ -67,25 +72,28 @@ wish_with (Some modems) (Some coding) (Some small) = Some (record { modems = mod
 abbrev pub wish_of : G3Wish → Option Wish
 wish_of wish = wish_with (modems_of wish.modems) (coding_of wish.coding) (small_of wish.frame)
 
--- a new answerer's terminal, at 0 ms: it has heard and seen nothing, and DIS is to be sent
+-- a new terminal of a station, at 0 ms: it has heard nothing, its call has no limit, and this turn is to be sent
+pub record IsNewTimed (S : Type 0) (station : S) (turn : Turn) (watched : Option Watched) (timed : TimedFields S) : Type 0 where
+  pub framing : IsAfter timed.terminal.framing [] 0
+  pub speaking : timed.terminal.speaking ≡ record { station = station; turn = turn; taken = 0 }
+  pub rest : timed ≡ new_timed timed.terminal watched of_t30 (limit_of 0)
+
+-- an answerer with limits that has heard nothing, by what it can do and how many pages it stores before it is busy
+abbrev pub new_limited : Caps → ℕ → LimitedFields
+new_limited caps limit = record {
+  station = new_answerer caps no_params;
+  limits = record { pages = limit; octets = 2 ^ 64 - 1 };
+  told = false;
+  said = Dis;
+  cut = None;
+}
+
+-- a new answerer's terminal: DIS is to be sent, and what its caller says will be seen
 pub record IsNewAnswerer (caps : Caps) (limit : ℕ) (answering : AnsweringFields) : Type 0 where
-  pub framing : IsAfter answering.terminal.framing [] 0
-  pub speaking : answering.terminal.speaking ≡ record {
-    station = record {
-      station = new_answerer caps no_params;
-      limits = record { pages = limit; octets = 2 ^ 64 - 1 };
-      told = false;
-      said = Dis;
-      cut = None;
-    };
-    turn = Dis;
-    taken = 0;
-  }
-  pub watched : answering.watched ≡ Some (nothing_watched caps)
+  pub is_new : IsNewTimed LimitedFields (new_limited caps limit) Dis (Some (nothing_watched caps)) answering.timed
   pub waiting : answering.waiting ≡ []
   pub stores : answering.limit ≡ limit
   pub tally : answering.tally ≡ no_tally
-  pub timing : answering.timing ≡ new_timing
 
 -- An empty handle is filled with the terminal of a new answerer, which sends DIS first. 104 exactly if the number of the modems or of the
 -- width is unknown, or the limit of pages is 0; else 0, or 9.
@@ -95,14 +103,11 @@ pub record MakesAnswerer (caps : G3Caps) (old : Option Kept) (status : ℕ) (new
   pub no_limit : old ≡ None → caps.limit ≡ 0 → status ≡ bad_choice
   pub only : old ≡ None → caps_of caps ≢ None → 0 < caps.limit → (status ≡ ok) ⊎ (status ≡ no_memory)
 
--- a new caller's terminal, at 0 ms: it has heard nothing, its station waits for DIS, and nothing is to be sent
-pub record IsNewCaller (document : List PagePixels) (wish : Wish) (calling : CallingFields) : Type 0 where
-  pub framing : IsAfter calling.terminal.framing [] 0
-  pub station : NewCaller document wish (Ok calling.terminal.speaking.station.station)
-  pub cut : calling.terminal.speaking.station.cut ≡ None
-  pub turn : calling.terminal.speaking.turn ≡ Silent
-  pub taken : calling.terminal.speaking.taken ≡ 0
-  pub timing : calling.timing ≡ new_timing
+-- a new caller's terminal: its station waits for DIS, and nothing is to be sent
+pub record IsNewCaller (document : List PagePixels) (wish : Wish) (timed : TimedFields StoppableCallerFields) : Type 0 where
+  pub is_new : IsNewTimed StoppableCallerFields timed.terminal.speaking.station Silent None timed
+  pub station : NewCaller document wish (Ok timed.terminal.speaking.station.station)
+  pub cut : timed.terminal.speaking.station.cut ≡ None
 
 -- the status for a document to be sent: 106 without a page, 26 if a call can't have the width of a page, else 0
 abbrev pub AnswersDocument : Option (List PagePixels) → ℕ → Type 0
@@ -118,8 +123,8 @@ AnswersCaller document status = AnswersDocument document status ⊎ (AnswersDocu
 -- of the modems, the code or the frame's size is unknown; 100 and 101 for the document's handle; 106 if it has no page, 26 if a call can't
 -- have the width of a page; else 0, or 9. By any status above 0 both stay.
 pub record MakesCaller (wish : G3Wish) (old : Option Kept) (document left : Option Kept) (status : ℕ) (new : Option Kept) : Type 0 where
-  pub done : status ≡ ok → (old ≡ None) × (left ≡ None) × HasDocument (λ pages. HasCaller (λ calling.
-      IfSome (wish_of wish) (λ given. IsNewCaller (pages_of pages) given calling)) new) document
+  pub done : status ≡ ok → (old ≡ None) × (left ≡ None) × HasDocument (λ pages. HasCaller (λ timed.
+      IfSome (wish_of wish) (λ given. IsNewCaller (pages_of pages) given timed)) new) document
   pub kept : status ≢ ok → (new ≡ old) × (left ≡ document)
   pub full : old ≢ None → status ≡ full_handle
   pub no_wish : old ≡ None → wish_of wish ≡ None → status ≡ bad_choice

@@ -8,14 +8,14 @@ use Rattle.raster.specs.Pages.{PagePixels}
 use Rattle.hdlc.specs.DeframerState.{DeframerState}
 use Rattle.stations.specs.Limiting.{LimitedFields}
 use Rattle.stations.specs.Stopping.{StoppableCallerFields}
-use Rattle.terminals.specs.Runs.{TerminalFields}
+use Rattle.terminals.specs.Timed.{TimedFields}
 use Rattle.page_code.specs.RowCoders.{RowCoding}
 use Rattle.page_code.specs.RowReaders.{RowReading}
-use Rattle.g3fax.specs.Answering.{AnsweringFields, CallingFields}
+use Rattle.g3fax.specs.Answering.{AnsweringFields}
+use Rattle.g3fax.specs.Stations.{Behaviour, answerers, callers}
 use Rattle.g3fax.specs.Statuses.{ok, empty_handle, other_handle, full_handle, no_room}
 use Rattle.g3fax.specs.declared.handle.Kept.{Kept}
 use Rattle.g3fax.specs.declared.handle.Kept.TheVariants.{Octets, Page, Deframer, Document, Caller, Answerer, RowCoder, RowReader}
-use Rattle.g3fax.specs.declared.timing.Timing.{Timing}
 
 -- a handle of octets for which this holds
 abbrev pub HasOctets : (List ℕ → Type 0) → Option Kept → Type 0
@@ -66,7 +66,7 @@ HasDocument Holds (Some (RowCoder coder)) = ⊥
 HasDocument Holds (Some (RowReader reader)) = ⊥
 
 -- a handle of a caller's terminal for which this holds
-abbrev pub HasCaller : (CallingFields → Type 0) → Option Kept → Type 0
+abbrev pub HasCaller : (TimedFields StoppableCallerFields → Type 0) → Option Kept → Type 0
 HasCaller Holds None = ⊥
 HasCaller Holds (Some (Octets octets)) = ⊥
 HasCaller Holds (Some (Page page)) = ⊥
@@ -296,13 +296,13 @@ OnRowReader Makes (Some (RowReader old)) (Some (RowReader new)) status = Makes o
 
 -- the status for a handle that should have a terminal: the first relation for a caller's, the second for an answerer's; 100 if it is empty,
 -- 101 if it has something else
-abbrev pub OfTerminal : (TerminalFields StoppableCallerFields → Type 0) → (AnsweringFields → Type 0) → Option Kept → ℕ → Type 0
+abbrev pub OfTerminal : (TimedFields StoppableCallerFields → Type 0) → (AnsweringFields → Type 0) → Option Kept → ℕ → Type 0
 OfTerminal Calls Answers None status = status ≡ empty_handle
 OfTerminal Calls Answers (Some (Octets octets)) status = status ≡ other_handle
 OfTerminal Calls Answers (Some (Page page)) status = status ≡ other_handle
 OfTerminal Calls Answers (Some (Deframer state)) status = status ≡ other_handle
 OfTerminal Calls Answers (Some (Document pages)) status = status ≡ other_handle
-OfTerminal Calls Answers (Some (Caller calling)) status = Calls calling.value.terminal
+OfTerminal Calls Answers (Some (Caller calling)) status = Calls calling.value
 OfTerminal Calls Answers (Some (Answerer answering)) status = Answers answering.value
 OfTerminal Calls Answers (Some (RowCoder coder)) status = status ≡ other_handle
 OfTerminal Calls Answers (Some (RowReader reader)) status = status ≡ other_handle
@@ -310,7 +310,7 @@ OfTerminal Calls Answers (Some (RowReader reader)) status = status ≡ other_han
 -- What happens to the terminal in a handle: the first relation for a caller's, the second for an answerer's. An empty handle is 100, another
 -- kind is 101, and the handle stays.
 abbrev pub OnStation :
-    (CallingFields → CallingFields → Type 0) → (AnsweringFields → AnsweringFields → Type 0) → Option Kept → Option Kept → ℕ → Type 0
+    (TimedFields StoppableCallerFields → TimedFields StoppableCallerFields → Type 0) → (AnsweringFields → AnsweringFields → Type 0) → Option Kept → Option Kept → ℕ → Type 0
 OnStation Calls Answers None new status = (status ≡ empty_handle) × (new ≡ None)
 OnStation Calls Answers (Some (Octets octets)) new status = (status ≡ other_handle) × (new ≡ Some (Octets octets))
 OnStation Calls Answers (Some (Page page)) new status = (status ≡ other_handle) × (new ≡ Some (Page page))
@@ -337,36 +337,17 @@ OnStation Calls Answers (Some (Answerer old)) (Some (RowReader reader)) status =
 OnStation Calls Answers (Some (RowCoder coder)) new status = (status ≡ other_handle) × (new ≡ Some (RowCoder coder))
 OnStation Calls Answers (Some (RowReader reader)) new status = (status ≡ other_handle) × (new ≡ Some (RowReader reader))
 
--- what happens to the terminal in a handle and to its timing: the first relation for a caller's, the second for an answerer's, of which all
--- else stays
-abbrev pub OnTimed :
-    (TerminalFields StoppableCallerFields → Timing → TerminalFields StoppableCallerFields → Timing → Type 0)
-    → (TerminalFields LimitedFields → Timing → TerminalFields LimitedFields → Timing → Type 0) → Option Kept → Option Kept → ℕ → Type 0
-OnTimed Calls Answers old new status =
-    OnStation (λ before after. Calls before.terminal before.timing after.terminal after.timing)
-    (λ before after. Answers before.terminal before.timing after.terminal after.timing
-    × (after ≡ record before { terminal = after.terminal; timing = after.timing })) old new status
+-- the status for a handle that should have a terminal, by one relation for both stations; 100 if it is empty, 101 if it has something else
+abbrev pub OfBoth : ((S : Type 0) → Behaviour S → TimedFields S → Type 0) → Option Kept → ℕ → Type 0
+OfBoth Answers old status =
+    OfTerminal (Answers StoppableCallerFields callers) (λ answering. Answers LimitedFields answerers answering.timed) old status
 
--- what happens to the terminal in a handle, whose timing stays
-abbrev pub OnTerminal :
-    (TerminalFields StoppableCallerFields → TerminalFields StoppableCallerFields → Type 0)
-    → (TerminalFields LimitedFields → TerminalFields LimitedFields → Type 0) → Option Kept → Option Kept → ℕ → Type 0
-OnTerminal Calls Answers old new status =
-    OnTimed (λ before was after is. Calls before after × (is ≡ was)) (λ before was after is. Answers before after × (is ≡ was)) old new status
-
--- the status for a handle that should have a terminal, by it and its timing: the first relation for a caller's, the second for an
--- answerer's; 100 if it is empty, 101 if it has something else
-abbrev pub OfTimed :
-    (TerminalFields StoppableCallerFields → Timing → Type 0) → (TerminalFields LimitedFields → Timing → Type 0) → Option Kept → ℕ → Type 0
-OfTimed Calls Answers None status = status ≡ empty_handle
-OfTimed Calls Answers (Some (Octets octets)) status = status ≡ other_handle
-OfTimed Calls Answers (Some (Page page)) status = status ≡ other_handle
-OfTimed Calls Answers (Some (Deframer state)) status = status ≡ other_handle
-OfTimed Calls Answers (Some (Document pages)) status = status ≡ other_handle
-OfTimed Calls Answers (Some (Caller calling)) status = Calls calling.value.terminal calling.value.timing
-OfTimed Calls Answers (Some (Answerer answering)) status = Answers answering.value.terminal answering.value.timing
-OfTimed Calls Answers (Some (RowCoder coder)) status = status ≡ other_handle
-OfTimed Calls Answers (Some (RowReader reader)) status = status ≡ other_handle
+-- What happens to the terminal in a handle, by one relation for both stations; all else of an answerer stays. An empty handle is 100, another
+-- kind is 101, and the handle stays.
+abbrev pub OnBoth : ((S : Type 0) → Behaviour S → TimedFields S → TimedFields S → Type 0) → Option Kept → Option Kept → ℕ → Type 0
+OnBoth Makes old new status =
+    OnStation (Makes StoppableCallerFields callers)
+    (λ before after. Makes LimitedFields answerers before.timed after.timed × (after ≡ record before { timed = after.timed })) old new status
 
 -- an empty handle is filled with something of this kind, status 0; a full one is 102; by any status above 0 it stays
 pub record Fills (Holds : Option Kept → Type 0) (old : Option Kept) (status : ℕ) (new : Option Kept) : Type 0 where

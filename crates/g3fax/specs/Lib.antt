@@ -24,6 +24,7 @@ pub mod SignalNumbers
 pub mod Signals
 pub mod SignalsMeant
 pub mod States
+pub mod Stations
 pub mod Statuses
 pub mod Taking
 pub mod Ticking

@@ -10,7 +10,7 @@ use Rattle.stations.specs.declared.howfar.AnswererProgress.{AnswererProgress}
 use Rattle.stations.specs.declared.howfar.BlockProgress.{BlockProgress}
 use Rattle.stations.specs.declared.howfar.CallerProgress.{CallerProgress}
 use Rattle.signals.specs.declared.mark.Mark.{Mark}
-use Rattle.terminals.specs.Runs.{TerminalFields}
+use Rattle.terminals.specs.Timed.{TimedFields}
 use Rattle.terminals.specs.Watching.{refusal_of_seen}
 use Rattle.terminals.specs.declared.watching.Refusal.{Refusal}
 use Rattle.terminals.specs.declared.watching.Refusal.TheVariants.{NoErrorCorrection, NotOffered, UsedNumber}
@@ -106,15 +106,15 @@ abbrev pub answering_told : AnswererProgress → ℕ → ℕ → G3Progress
 answering_told far pages confirmed = with_mark far.accepted (answering_without far pages confirmed)
 
 -- the numbers of a progress say how far a caller is; those of an answerer are 0
-pub record TellsCalling (terminal : TerminalFields StoppableCallerFields) (progress : G3Progress) (status : ℕ) : Type 0 where
+pub record TellsCalling (timed : TimedFields StoppableCallerFields) (progress : G3Progress) (status : ℕ) : Type 0 where
   pub done : status ≡ ok
-  pub told : (t : Caller) → Represents terminal.speaking.station.station t → progress ≡ calling_told (caller_progress t)
+  pub told : (t : Caller) → Represents timed.terminal.speaking.station.station t → progress ≡ calling_told (caller_progress t)
 
 -- the numbers of a progress say how far an answerer is, with the pages stored and not handed out, those confirmed, and what it saw; those of a
 -- caller are 0
 pub record TellsAnswering (answering : AnsweringFields) (progress : G3Progress) (status : ℕ) : Type 0 where
   pub done : status ≡ ok
   pub told : progress ≡
-      with_watch answering.watched
-      (answering_told (answerer_progress answering.terminal.speaking.station.station) progress.pages answering.tally.confirmed)
+      with_watch answering.timed.watched
+      (answering_told (answerer_progress answering.timed.terminal.speaking.station.station) progress.pages answering.tally.confirmed)
   pub pages : Tells (count_left answering) progress.pages

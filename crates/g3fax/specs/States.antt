@@ -1,15 +1,14 @@
 -- What a call tells of the state of a terminal.
 use Rattle.std.specs.Prelude.{ℕ, ◌≡◌, Bool, false, List, Option, Some}
-use Rattle.hdlc.specs.DeframerState.{DeframerState}
 use Rattle.stations.specs.CallerFields.{Represents}
 use Rattle.stations.specs.CallerStep.{Caller, confirmed}
 use Rattle.stations.specs.Stopping.{StoppableCallerFields}
 use Rattle.stations.specs.declared.stopping.CallEnd.{CallEnd}
 use Rattle.stations.specs.declared.stopping.CallEnd.TheVariants.{By}
 use Rattle.stations.specs.declared.turn.End.TheVariants.{Normal, PeerLeft}
-use Rattle.terminals.specs.Hearing.{HasHeard, good_frames}
-use Rattle.terminals.specs.Runs.{TerminalFields}
+use Rattle.terminals.specs.Hearing.{HasHeard}
 use Rattle.terminals.specs.Stopping.{CallerShows, IsShown, LimitedShows}
+use Rattle.terminals.specs.Timed.{TimedFields, all_frames}
 use Rattle.terminals.specs.declared.stopping.Shown.{Shown}
 use Rattle.g3fax.specs.Answering.{AnsweringFields, all_confirmed, count_left}
 use Rattle.g3fax.specs.Codes.{Tells}
@@ -25,18 +24,18 @@ pub record TellsShown (shown : Shown) (state : G3State) : Type 0 where
   pub longer : state.longer ≡ wait_number shown.longer
   pub ends : state.end ≡ end_number shown.end
 
--- the number of good frames that were heard is told
-abbrev pub TellsFrames : DeframerState → G3State → Type 0
-TellsFrames framing state = (octets : List ℕ) → HasHeard framing octets → state.frames ≡ good_frames octets
+-- the number of good frames that were heard is told, of octets of the line and as contents
+abbrev pub TellsFrames : {S : Type 0} → TimedFields S → G3State → Type 0
+TellsFrames timed state = (octets : List ℕ) → HasHeard timed.terminal.framing octets → state.frames ≡ all_frames octets timed.contents
 
 -- the numbers of a state are those of what a caller shows of its call, of its confirmed pages, and of the good frames it has heard
-pub record TellsCaller (terminal : TerminalFields StoppableCallerFields) (state : G3State) (status : ℕ) : Type 0 where
+pub record TellsCaller (timed : TimedFields StoppableCallerFields) (state : G3State) (status : ℕ) : Type 0 where
   pub done : status ≡ ok
   pub shown : Shown
-  pub shows : IsShown CallerShows terminal.speaking.station shown
+  pub shows : IsShown CallerShows timed.terminal.speaking.station shown
   pub told : TellsShown shown state
-  pub pages : (t : Caller) → Represents terminal.speaking.station.station t → state.pages ≡ confirmed t
-  pub frames : TellsFrames terminal.framing state
+  pub pages : (t : Caller) → Represents timed.terminal.speaking.station.station t → state.pages ≡ confirmed t
+  pub frames : TellsFrames timed state
 
 -- why the call of an answerer ended, by whether each page that it has stored was confirmed: a caller that left after its last page, and wasn't
 -- told that this has arrived, left too soon
@@ -49,7 +48,7 @@ known_end _ end = end
 pub record TellsAnswerer (answering : AnsweringFields) (state : G3State) (status : ℕ) : Type 0 where
   pub done : status ≡ ok
   pub shown : Shown
-  pub shows : IsShown LimitedShows answering.terminal.speaking.station shown
+  pub shows : IsShown LimitedShows answering.timed.terminal.speaking.station shown
   pub told : TellsShown (record shown { end = known_end (all_confirmed answering) shown.end }) state
   pub pages : Tells (count_left answering) state.pages
-  pub frames : TellsFrames answering.terminal.framing state
+  pub frames : TellsFrames answering.timed state

@@ -5,32 +5,32 @@ use Rattle.std.specs.declared.option.Option.TheVariants.{None}
 use Rattle.raster.specs.Pages.{PagePixels}
 use Rattle.stations.specs.Limiting.{LimitedFields}
 use Rattle.terminals.specs.Hearing.{busy}
-use Rattle.terminals.specs.Speaking.{Takes}
 use Rattle.terminals.specs.Stopping.{with_pages_taken}
 use Rattle.g3fax.specs.Answering.{AnsweringFields, with_handed}
 use Rattle.g3fax.specs.Handles.{Fills, HasPage}
-use Rattle.g3fax.specs.Hearing.{answerer_steps}
+use Rattle.g3fax.specs.Hearing.{TakesInput}
+use Rattle.g3fax.specs.Stations.{answerers}
 use Rattle.g3fax.specs.Statuses.{ok, no_memory, bad_choice, nothing_there}
 use Rattle.g3fax.specs.declared.handle.Kept.{Kept}
 
 -- the pages that were stored and not handed out, the oldest first
 abbrev pub pages_left : AnsweringFields → List PagePixels
-pages_left answering = answering.waiting ++ answering.terminal.speaking.station.station.pages
+pages_left answering = answering.waiting ++ answering.timed.terminal.speaking.station.station.pages
 
 -- the oldest page was handed out; if none waited, all stored pages were taken out of the station for that
 pub record HandsOutPage (old : AnsweringFields) (page : PagePixels) (new : AnsweringFields) : Type 0 where
   pub oldest : pages_left old ≡ page ∷ pages_left new
-  pub framing : new.terminal.framing ≡ old.terminal.framing
-  pub timing : new.timing ≡ old.timing
-  pub waited : old.waiting ≢ [] → new.terminal ≡ old.terminal
-  pub taken : old.waiting ≡ [] → new.terminal.speaking ≡ with_pages_taken old.terminal.speaking
+  pub framing : new.timed.terminal.framing ≡ old.timed.terminal.framing
+  pub waited : old.waiting ≢ [] → new.timed ≡ old.timed
+  pub taken : old.waiting ≡ [] → new.timed.terminal.speaking ≡ with_pages_taken old.timed.terminal.speaking
+  pub rest : new.timed ≡ record old.timed { terminal = new.timed.terminal }
   pub tally : new.tally ≡ with_handed old.tally
 
 -- The oldest page was handed out, and the answerer is busy until the program says otherwise: first its station has taken that it is.
 pub record HoldsPage (old : AnsweringFields) (page : PagePixels) (new : AnsweringFields) : Type 0 where
   pub held : AnsweringFields
-  pub busy : Takes LimitedFields answerer_steps old.terminal.speaking (busy true) held.terminal.speaking
-  pub rest : held ≡ record old { terminal = record old.terminal { speaking = held.terminal.speaking } }
+  pub busy : TakesInput LimitedFields answerers old.timed (busy true) held.timed ok
+  pub rest : held ≡ record old { timed = held.timed }
   pub hands : HandsOutPage held page new
 
 -- The oldest page that was stored and not handed out fills an empty handle. 106 only if there is none. By any status above 0 nothing

@@ -1,32 +1,26 @@
--- The clocks of terminals, and what a call answers that tells a terminal the time.
-use Rattle.std.specs.Prelude.{ℕ, ◌≡◌, ◌≢◌, ◌<◌, ◌≤◌, ◌⊎◌, ◌||◌, ◌*◌, false, List, IfSome, nat_eq, nat_lt, if◌then◌else◌}
+-- What a call answers that tells a terminal the time, or asks what is next.
+use Rattle.std.specs.Prelude.{ℕ, ◌≡◌, ◌≢◌, ◌<◌, ◌≤◌, ◌⊎◌, ◌*◌, false, IfSome, nat_eq, if◌then◌else◌}
 use Rattle.std.specs.declared.option.Option.{Option}
 use Rattle.std.specs.declared.option.Option.TheVariants.{None, Some}
-use Rattle.hdlc.specs.DeframerState.{DeframerState}
-use Rattle.signals.specs.declared.signal.Side.{Side}
-use Rattle.stations.specs.declared.stopping.Cut.{Cut}
-use Rattle.stations.specs.declared.turn.Turn.{Turn}
 use Rattle.stations.specs.declared.waiting.Wait.TheVariants.{T1, T2, T4, T5}
-use Rattle.terminals.specs.Clocks.{after_burst, new_clock}
-use Rattle.terminals.specs.Hearing.{HasHeard, good_frames}
-use Rattle.terminals.specs.Runs.{TerminalFields}
-use Rattle.terminals.specs.Passing.{Passes, is_awaited}
-use Rattle.terminals.specs.Speaking.{StepOf}
-use Rattle.terminals.specs.Timeouts.{timeout_due}
+use Rattle.terminals.specs.Timed.{IsDue, IsNext, PassesUnlessSending, TimedFields}
 use Rattle.terminals.specs.Timing.{wait_millis}
 use Rattle.terminals.specs.declared.clock.Durations.{Durations}
 use Rattle.terminals.specs.declared.clock.LineState.{LineState}
-use Rattle.terminals.specs.declared.clock.LineState.TheVariants.{Quiet, Carrier, Unsaid}
-use Rattle.terminals.specs.declared.stopping.Shown.{Shown}
+use Rattle.terminals.specs.declared.clock.LineState.TheVariants.{Quiet, Carrier, Ended}
+use Rattle.terminals.specs.declared.timed.Next.{Next}
+use Rattle.terminals.specs.declared.timed.Next.TheVariants.{Send, At, Nothing}
 use Rattle.terminals.specs.declared.timeout.Limit.{Limit}
 use Rattle.terminals.specs.declared.timeout.Timeout.{Timeout}
 use Rattle.g3fax.specs.Codes.{Tells}
+use Rattle.g3fax.specs.Stations.{Behaviour}
 use Rattle.g3fax.specs.Statuses.{ok, no_memory, bad_choice, nothing_there}
-use Rattle.g3fax.specs.declared.timing.Timing.{Timing}
 
--- what the line is, by its number: 1 for a quiet line, 2 for one on which a carrier of the other station is on, or has just ended
+-- what the line is, by its number: 1 for a quiet line, 2 for one on which a carrier of the other station is on, 3 for one on which it has just
+-- ended
 abbrev pub line_of : ℕ → Option LineState
-line_of number = if nat_eq number 1 then Some Quiet else (if nat_eq number 2 then Some Carrier else None)
+line_of number =
+    if nat_eq number 1 then Some Quiet else (if nat_eq number 2 then Some Carrier else (if nat_eq number 3 then Some Ended else None))
 
 -- how long the waits of terminals run
 abbrev pub of_t30 : Durations
@@ -40,63 +34,48 @@ most_millis seconds = if nat_eq seconds 0 then None else Some (seconds * 1000)
 abbrev pub limit_of : ℕ → Limit
 limit_of seconds = record { most = most_millis seconds; more = 10000 }
 
--- the timing of a new terminal: its clock is at 0 ms, nothing has come or gone, and its call has no limit
-abbrev pub new_timing : Timing
-new_timing = record { clock = new_clock; line = Unsaid; checked = false; frames = 0; limit = limit_of 0 }
-
 -- A call has so many seconds at most from now on; nothing else changes.
-pub record LimitsCall (S : Type 0) (old : TerminalFields S) (was : Timing) (seconds : ℕ) (new : TerminalFields S) (is : Timing) (status : ℕ) :
-    Type 0 where
+pub record LimitsCall (S : Type 0) (old : TimedFields S) (seconds : ℕ) (new : TimedFields S) (status : ℕ) : Type 0 where
   pub done : status ≡ ok
-  pub terminal : new ≡ old
-  pub timing : is ≡ record was { limit = limit_of seconds }
+  pub limited : new ≡ record old { limit = limit_of seconds }
 
--- a burst that was taken is noted
-pub record NotesBurst (status : ℕ) (was is : Timing) : Type 0 where
-  pub done : status ≡ ok → is ≡ record was { clock = after_burst was.clock; line = Unsaid }
-  pub kept : status ≢ ok → is ≡ was
-
--- an awaited training check that was heard is noted, by what the station listened for
-pub record NotesCheck (S : Type 0) (shows : S → Shown → Type 0) (old : TerminalFields S) (octets : List ℕ) (status : ℕ) (was is : Timing) :
-    Type 0 where
-  pub shown : Shown
-  pub shows_so : shows old.speaking.station shown
-  pub done : status ≡ ok → is ≡ record was { checked = was.checked || is_awaited shown.listens octets }
-  pub kept : status ≢ ok → is ≡ was
-
--- what has been heard has so many good frames
-abbrev pub HasFrames : DeframerState → ℕ → Type 0
-HasFrames framing frames = (octets : List ℕ) → HasHeard framing octets → frames ≡ good_frames octets
-
--- A terminal has been told the time, and what the line is: as `Passes` of `terminals` says.
-pub record Ticks (S : Type 0) (side : Side) (steps : StepOf S) (cut_off : Cut → S → S) (stop_says : S → Turn) (shows : S → Shown → Type 0)
-    (old : TerminalFields S) (was : Timing) (line : LineState) (now : ℕ) (new : TerminalFields S) (is : Timing) : Type 0 where
-  pub frames : ℕ
+-- A terminal has been told the time, and what the line is, as `PassesUnlessSending` of `terminals` says.
+pub record Ticks (S : Type 0) (b : Behaviour S) (line : LineState) (now : ℕ) (old new : TimedFields S) : Type 0 where
   pub did : Option Timeout
-  pub frames_are : HasFrames old.framing frames
-  pub passes : Passes S side steps cut_off stop_says shows
-      (record { at = now; line = line; brought = was.checked || nat_lt was.frames frames }) of_t30 was.limit old was.clock new is.clock did
-  pub timing : is ≡ record { clock = is.clock; line = line; checked = false; frames = frames; limit = was.limit }
+  pub passes : PassesUnlessSending S b.side b.lends b.steps b.cut_off b.stop_says b.shows
+      (record { at = now; line = line; brought = old.brought }) old.durations old.limit old.terminal old.clock new.terminal new.clock did
+  pub rest : new ≡ record old { terminal = new.terminal; clock = new.clock; line = line; brought = false }
 
 -- A terminal has been told the time; 104 exactly if the number is no line's, or the time is before that of the last tick; else 0, or 9. By
 -- any status above 0 nothing changes.
-pub record AnswersTick (S : Type 0) (side : Side) (steps : StepOf S) (cut_off : Cut → S → S) (stop_says : S → Turn)
-    (shows : S → Shown → Type 0) (line : Option LineState) (now : ℕ) (old : TerminalFields S) (was : Timing) (new : TerminalFields S)
-    (is : Timing) (status : ℕ) : Type 0 where
-  pub done : status ≡ ok → IfSome line (λ line. Ticks S side steps cut_off stop_says shows old was line now new is)
-  pub kept : status ≢ ok → (new ≡ old) × (is ≡ was)
+pub record AnswersTick (S : Type 0) (b : Behaviour S) (line : Option LineState) (now : ℕ) (old new : TimedFields S) (status : ℕ) :
+    Type 0 where
+  pub done : status ≡ ok → IfSome line (λ line. Ticks S b line now old new)
+  pub kept : status ≢ ok → new ≡ old
   pub no_line : line ≡ None → status ≡ bad_choice
-  pub early : now < was.clock.now → status ≡ bad_choice
-  pub only : line ≢ None → was.clock.now ≤ now → (status ≡ ok) ⊎ (status ≡ no_memory)
+  pub early : now < old.clock.now → status ≡ bad_choice
+  pub only : line ≢ None → old.clock.now ≤ now → (status ≡ ok) ⊎ (status ≡ no_memory)
 
--- the time at which a wait is over is told; 106 if there is none, and nothing changes
+-- a time is told; 106 if there is none, and nothing changes
 abbrev pub TellsTime : Option ℕ → ℕ → ℕ → ℕ → Type 0
 TellsTime None old new status = (status ≡ nothing_there) × (new ≡ old)
 TellsTime (Some at) old new status = (status ≡ ok) × Tells at new
 
 -- the time is told at which something is to be done, if the line stays as it is and nothing comes; 106 if nothing ever is
-pub record TellsDue (S : Type 0) (side : Side) (shows : S → Shown → Type 0) (terminal : TerminalFields S) (was : Timing) (old new status : ℕ) :
-    Type 0 where
-  pub shown : Shown
-  pub shows_so : shows terminal.speaking.station shown
-  pub told : TellsTime (timeout_due was.line side shown was.clock of_t30 was.limit) old new status
+pub record TellsDue (S : Type 0) (b : Behaviour S) (timed : TimedFields S) (old new status : ℕ) : Type 0 where
+  pub due : Option ℕ
+  pub is_due : IsDue S b.side b.lends b.shows timed due
+  pub told : TellsTime due old new status
+
+-- what a program does next is told: 1, to send the burst that waits, 2, to wait for a time, which is told, or 0, to wait for what comes
+abbrev pub TellsNextBy : Next → ℕ → ℕ → ℕ → Type 0
+TellsNextBy Nothing old new next = (next ≡ 0) × (new ≡ old)
+TellsNextBy Send old new next = (next ≡ 1) × (new ≡ old)
+TellsNextBy (At at) old new next = (next ≡ 2) × Tells at new
+
+-- what a program does next with a terminal is told
+pub record TellsNext (S : Type 0) (b : Behaviour S) (timed : TimedFields S) (old new next status : ℕ) : Type 0 where
+  pub done : status ≡ ok
+  pub is : Next
+  pub is_next : IsNext S b.side b.lends b.shows timed is
+  pub told : TellsNextBy is old new next

@@ -11,7 +11,7 @@ use crate::status::{EMPTY_HANDLE, NOTHING, OK, OTHER_HANDLE};
 use signals::{Caps, Params, Signal};
 use stations::StoppableCaller;
 use std::alloc::Global;
-use terminals::Terminal;
+use terminals::TimedTerminal;
 
 /// Tells parameters, if there are some.
 fn tell_params(found: Option<Params>, params: &mut G3Params) -> u32
@@ -28,11 +28,11 @@ fn tell_params(found: Option<Params>, params: &mut G3Params) -> u32
 }
 
 /// Tells the parameters of a caller's group.
-fn caller_params(terminal: &Terminal<StoppableCaller>, params: &mut G3Params) -> u32
-    ensures tells { CallerTellsParams terminal.now params.old params.new result }
+fn caller_params(timed: &TimedTerminal<StoppableCaller>, params: &mut G3Params) -> u32
+    ensures tells { CallerTellsParams timed.now params.old params.new result }
     ensures untold { result ≢ 0 → params.new ≡ params.old }
 {
-    tell_params(terminal.station().station().params(), params)
+    tell_params(timed.terminal().station().station().params(), params)
 }
 
 /// Tells the parameters of an answerer's group.
@@ -40,7 +40,10 @@ fn answerer_params(answering: &Answering, params: &mut G3Params) -> u32
     ensures tells { AnswererTellsParams answering.now params.old params.new result }
     ensures untold { result ≢ 0 → params.new ≡ params.old }
 {
-    tell_params(answering.terminal.station().station().params(), params)
+    tell_params(
+        answering.timed.terminal().station().station().params(),
+        params,
+    )
 }
 
 /// Tells how the pages of the group under way are sent, as the caller's DCS says it. Returns `G3_NOTHING` (106) if none is under way: a
@@ -60,7 +63,7 @@ pub extern "C" fn g3_core_terminal_params(
         None => EMPTY_HANDLE,
         Some(kept) => {
             let status = match &*kept {
-                Kept::Caller(calling) => caller_params(&calling.terminal, params),
+                Kept::Caller(calling) => caller_params(&**calling, params),
                 Kept::Answerer(answering) => answerer_params(&**answering, params),
                 _ => OTHER_HANDLE,
             };
@@ -99,11 +102,11 @@ fn tell_dcs(found: Option<Params>, signal: &mut G3Signal) -> u32
 }
 
 /// Tells the DIS of a caller's answerer.
-fn caller_peer(terminal: &Terminal<StoppableCaller>, signal: &mut G3Signal) -> u32
-    ensures tells { CallerTellsPeer terminal.now signal.old signal.new result }
+fn caller_peer(timed: &TimedTerminal<StoppableCaller>, signal: &mut G3Signal) -> u32
+    ensures tells { CallerTellsPeer timed.now signal.old signal.new result }
     ensures untold { result ≢ 0 → signal.new ≡ signal.old }
 {
-    tell_dis(terminal.station().station().peer(), signal)
+    tell_dis(timed.terminal().station().station().peer(), signal)
 }
 
 /// Tells the DCS of an answerer's caller.
@@ -111,7 +114,10 @@ fn answerer_peer(answering: &Answering, signal: &mut G3Signal) -> u32
     ensures tells { AnswererTellsPeer answering.now signal.old signal.new result }
     ensures untold { result ≢ 0 → signal.new ≡ signal.old }
 {
-    tell_dcs(answering.terminal.station().station().peer(), signal)
+    tell_dcs(
+        answering.timed.terminal().station().station().peer(),
+        signal,
+    )
 }
 
 /// Tells what is known of the other station: for a caller's terminal the last DIS that was agreed on, for an answerer's the last DCS that
@@ -131,7 +137,7 @@ pub extern "C" fn g3_core_terminal_peer(
         None => EMPTY_HANDLE,
         Some(kept) => {
             let status = match &*kept {
-                Kept::Caller(calling) => caller_peer(&calling.terminal, signal),
+                Kept::Caller(calling) => caller_peer(&**calling, signal),
                 Kept::Answerer(answering) => answerer_peer(&**answering, signal),
                 _ => OTHER_HANDLE,
             };

@@ -1,29 +1,13 @@
-//! The terminals of callers and answerers in handles.
+//! The terminals of answerers in handles.
 
 ghost use Rattle.g3fax.specs.Answering.{all_confirmed, count_left, stored_so_far, with_confirmed, with_handed};
 ghost use Rattle.std.specs.Prelude.{◌≡◌, ◌<◌, ◌^◌};
 
 use crate::codes::in_64_bits;
-use crate::timing::Timing;
 use raster::Page;
-use stations::{LimitedAnswerer, StoppableCaller};
+use stations::LimitedAnswerer;
 use std::marker::Model;
-use terminals::{Terminal, Watched};
-
-/// The terminal of a caller, and its clock.
-#[derive(Drop)]
-pub struct Calling {
-    pub(crate) terminal: Terminal<StoppableCaller>,
-    pub(crate) timing: Timing,
-}
-
-impl Model for Calling {
-    ghost use Rattle.g3fax.specs.Answering.{CallingFields};
-
-    ghost Value = { CallingFields };
-
-    ghost view = { λ c. record { terminal = c.terminal; timing = c.timing } };
-}
+use terminals::TimedTerminal;
 
 /// How many pages of an answerer went which way; each count stops at 2^64 - 1.
 #[derive(Clone, Copy)]
@@ -52,12 +36,10 @@ impl Tally {
     }
 }
 
-/// The terminal of an answerer, its clock, what it sees of its caller, and the pages taken out of it that wait to be handed out.
+/// The terminal of an answerer, and the pages taken out of it that wait to be handed out.
 #[derive(Drop)]
 pub struct Answering {
-    pub(crate) terminal: Terminal<LimitedAnswerer>,
-    pub(crate) timing: Timing,
-    pub(crate) watched: Option<Watched>,
+    pub(crate) timed: TimedTerminal<LimitedAnswerer>,
     // a terminal gives all its pages at once and is free for others then: with a limit of n there are never more than 2n - 1
     pub(crate) waiting: Vec<Page>,
     // how many pages the station stores before it is busy
@@ -71,9 +53,7 @@ impl Model for Answering {
     ghost Value = { AnsweringFields };
 
     ghost view = { λ a. record {
-      terminal = a.terminal;
-      timing = a.timing;
-      watched = a.watched;
+      timed = a.timed;
       waiting = a.waiting.items;
       limit = a.limit;
       tally = a.tally;
@@ -86,7 +66,7 @@ impl Answering {
         ensures left { result ≡ count_left self.now }
         ensures few { result < 2 ^ 65 }
     {
-        let stored = self.terminal.station().station().pages();
+        let stored = self.timed.terminal().station().station().pages();
         self.waiting.len() as u128 + stored.len() as u128
     }
 

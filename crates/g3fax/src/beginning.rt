@@ -7,18 +7,18 @@ ghost use Rattle.signals.specs.Agreement.{width_of_pixels};
 ghost use Rattle.std.specs.Prelude.{◌≡◌, ◌<◌, ◌↔◌, IfErr, IfOk, IfSome, IsSome, IsTrue, true};
 ghost use Rattle.stations.specs.CallerFields.{AreCallable};
 
-use crate::answering::{Answering, Calling, Tally};
+use crate::answering::{Answering, Tally};
 use crate::codes::coding_of;
 use crate::handle::{G3Handle, Kept};
 use crate::status::{
     BAD_CHOICE, EMPTY_HANDLE, FULL_HANDLE, NO_MEMORY, NOT_CALLABLE, NOTHING, OK, OTHER_HANDLE,
 };
-use crate::timing::Timing;
+use crate::ticking::{durations, limit_of};
 use raster::{Document, Page};
 use signals::{Caps, Modems, PageWidth, Wish};
 use stations::{Caller, LimitedAnswerer, Limits, StoppableCaller, Turn};
 use std::alloc::Global;
-use terminals::{Terminal, Watched};
+use terminals::{Terminal, TimedTerminal, Watched};
 
 /// What an answerer can do: its modems, whether it reads T.6 and takes fine lines, its widest page, and how many pages wait in memory.
 #[repr(C)]
@@ -113,10 +113,10 @@ fn answering(alloc: Global, caps: Caps, limit: u32) -> Answering
         octets: u64::MAX,
     };
     let (station, first) = LimitedAnswerer::new(alloc, caps, limits);
+    let terminal = Terminal::new(alloc, station, first);
+    let watched = Some(Watched::new(caps));
     Answering {
-        terminal: Terminal::new(alloc, station, first),
-        timing: Timing::new(),
-        watched: Some(Watched::new(caps)),
+        timed: TimedTerminal::new(terminal, watched, durations(), limit_of(0)),
         waiting: Vec::new(alloc),
         limit,
         tally: Tally::NONE,
@@ -178,14 +178,17 @@ fn test_document(document: &Option<Document>) -> u32
 }
 
 /// Returns the terminal of a caller in a box of its own. Errors: memory is refused; the document of the caller.
-fn boxed(alloc: Global, calling: Calling) -> Result<Box<Calling>, Document>
-    ensures ok { IfOk result (λ boxed. boxed.value ≡ calling) }
-    ensures err { IfErr result (λ document. document ≡ calling.terminal.speaking.station.station.document) }
+fn boxed(
+    alloc: Global,
+    timed: TimedTerminal<StoppableCaller>,
+) -> Result<Box<TimedTerminal<StoppableCaller>>, Document>
+    ensures ok { IfOk result (λ boxed. boxed.value ≡ timed) }
+    ensures err { IfErr result (λ document. document ≡ timed.terminal.speaking.station.station.document) }
 {
-    match Box::new(alloc, calling) {
+    match Box::new(alloc, timed) {
         Ok(boxed) => Ok(boxed),
         Err(refused) => {
-            let station = refused.value.terminal.into_station().into_station();
+            let station = refused.value.into_terminal().into_station().into_station();
             let (document, _confirmed) = station.into_document();
             Err(document)
         }
@@ -193,9 +196,13 @@ fn boxed(alloc: Global, calling: Calling) -> Result<Box<Calling>, Document>
 }
 
 /// Returns the terminal of a new caller of a document. Errors: there is none; then the document stays.
-fn calling(alloc: Global, document: &mut Option<Document>, wish: Wish) -> Result<Box<Calling>, u32>
-    ensures ok { IfOk result (λ calling. IsNewCaller (pages_of document.old) wish calling.value) }
-    ensures made { IfOk result (λ calling. AnswersDocument document.old 0) }
+fn calling(
+    alloc: Global,
+    document: &mut Option<Document>,
+    wish: Wish,
+) -> Result<Box<TimedTerminal<StoppableCaller>>, u32>
+    ensures ok { IfOk result (λ timed. IsNewCaller (pages_of document.old) wish timed.value) }
+    ensures made { IfOk result (λ timed. AnswersDocument document.old 0) }
     ensures err { IfErr result (λ status. (document.new ≡ document.old) × AnswersCaller document.old status) }
     ensures no { IfErr result (λ status. 0 < status) }
 {
@@ -210,8 +217,8 @@ fn calling(alloc: Global, document: &mut Option<Document>, wish: Wish) -> Result
         return Err(NOT_CALLABLE);
     };
     let terminal = Terminal::new(alloc, StoppableCaller::new(caller), Turn::Silent);
-    let timing = Timing::new();
-    match boxed(alloc, Calling { terminal, timing }) {
+    let timed = TimedTerminal::new(terminal, None, durations(), limit_of(0));
+    match boxed(alloc, timed) {
         Ok(made) => Ok(made),
         Err(pages) => {
             *document = Some(pages);

@@ -1,18 +1,18 @@
 //! What terminals have to send, for C.
 
-ghost use Rattle.g3fax.specs.Bursts.{AnswererBurst, CallerBurst, NextBurst, TellsBurst};
+ghost use Rattle.g3fax.specs.Bursts.{AnswererBurst, NextBurst, TellsBurst};
 ghost use Rattle.g3fax.specs.Handles.{HasOctets, OnStation};
-ghost use Rattle.g3fax.specs.Ticking.{NotesBurst};
+ghost use Rattle.g3fax.specs.Stations.{behaviour, callers};
 ghost use Rattle.std.specs.Prelude.{◌≡◌, ◌≢◌};
+ghost use Rattle.stations.specs.Stopping.{StoppableCallerFields};
 
 use crate::answering::Answering;
 use crate::codes::in_64_bits;
 use crate::handle::{G3Handle, Kept, opened_station, room};
 use crate::numbers::{carrier_number, check_number};
 use crate::status::{FULL_HANDLE, NO_MEMORY, NOTHING, OK};
-use crate::timing::Timing;
 use std::alloc::Global;
-use terminals::{SentBurst, Station, Terminal};
+use terminals::{SentBurst, Stoppable, TimedTerminal};
 
 /// What is told of a burst: its number of bits, its carrier, and whether it is the turn's last.
 #[repr(C)]
@@ -52,31 +52,29 @@ fn give(sent: SentBurst, boxed: Box<Kept>, out: &mut G3Handle, burst: &mut G3Bur
 }
 
 /// Fills an empty handle with the octets of the next burst.
-fn next_burst<S: Station>(
+fn next_burst<S: Stoppable>(
     alloc: Global,
-    terminal: &mut Terminal<S>,
-    timing: &mut Timing,
+    timed: &mut TimedTerminal<S>,
     out: &mut G3Handle,
     burst: &mut G3Burst,
 ) -> u32
-    ensures next { NextBurst S S.sends S.lends terminal.old terminal.new out.old.value out.new.value burst.new result }
-    ensures noted { NotesBurst result timing.old timing.new }
+    ensures next { NextBurst S (behaviour S.sends S.steps S.lends S.cut_off S.stop_says S.shows) timed.old timed.new out.old.value
+        out.new.value burst.new result }
     ensures untold { result ≢ 0 → burst.new ≡ burst.old }
 {
     if out.is_full(alloc) {
         return FULL_HANDLE;
     }
     // first, so that a terminal with nothing to send takes no memory
-    if !terminal.has_burst() {
+    if !timed.terminal().has_burst() {
         return NOTHING;
     }
     let Some(kept) = room(alloc) else {
         return NO_MEMORY;
     };
-    match terminal.next_burst() {
+    match timed.next_burst() {
         Ok(Some(sent)) => {
             give(sent, kept, out, burst);
-            *timing = timing.after_burst();
             OK
         }
         Ok(None) => NOTHING,
@@ -94,14 +92,8 @@ fn answerer_burst(
     ensures next { AnswererBurst answering.old answering.new out.old.value out.new.value burst.new result }
     ensures untold { result ≢ 0 → burst.new ≡ burst.old }
 {
-    let tally = answering.with_confirmed(answering.terminal.confirms());
-    let status = next_burst(
-        alloc,
-        &mut answering.terminal,
-        &mut answering.timing,
-        out,
-        burst,
-    );
+    let tally = answering.with_confirmed(answering.timed.terminal().confirms());
+    let status = next_burst(alloc, &mut answering.timed, out, burst);
     if status == OK {
         answering.tally = tally;
     }
@@ -118,12 +110,12 @@ pub extern "C" fn g3_core_terminal_next_burst(
     out: &mut G3Handle,
     burst: &mut G3Burst,
 ) -> u32
-    ensures next { OnStation (λ old new. CallerBurst old new out.old.value out.new.value burst.new result)
+    ensures next { OnStation (λ old new. NextBurst StoppableCallerFields callers old new out.old.value out.new.value burst.new result)
         (λ old new. AnswererBurst old new out.old.value out.new.value burst.new result) terminal.old.value terminal.new.value result }
     ensures out { result ≢ 0 → out.new.value ≡ out.old.value }
     ensures untold { result ≢ 0 → burst.new ≡ burst.old }
 {
     opened_station!(alloc, terminal,
-        calling => next_burst(alloc, &mut calling.terminal, &mut calling.timing, out, burst),
+        calling => next_burst(alloc, calling, out, burst),
         answering => answerer_burst(alloc, answering, out, burst))
 }

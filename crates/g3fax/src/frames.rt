@@ -133,7 +133,7 @@ pub extern "C" fn g3_core_deframer_counts(
 }
 
 /// The octets of a frame, and how many bits it has.
-pub(crate) fn framed(alloc: Global, content: &[u8]) -> Result<(Vec<u8>, u64), AllocError>
+fn framed(alloc: Global, content: &[u8]) -> Result<(Vec<u8>, u64), AllocError>
     requires least { 3 ≤ length content.now }
     requires most { length content.now ≤ 300 }
     ensures { IfOk result (λ written. HoldsFrame content.now written.0.items written.1) }

@@ -4,15 +4,17 @@ ghost use Rattle.g3fax.specs.declared.handle.Kept.{Kept};
 ghost use Rattle.std.specs.Prelude.{◌≡◌, ◌≢◌, ◌↔◌, ◌⊎◌, IfNone, IfSome, IsTrue, None, Some};
 ghost use Rattle.std.specs.declared.option.Option.{Option};
 
-use crate::answering::{Answering, Calling};
+use crate::answering::Answering;
 use crate::loose::Loose;
 use crate::status::{FULL_HANDLE, NO_MEMORY, OK};
 use hdlc::Deframer;
 use page_code::{RowCoder, RowReader};
 use raster::{Document, Page};
+use stations::StoppableCaller;
 use std::alloc::Global;
 use std::marker::Model;
 use std::{mem, ptr};
+use terminals::TimedTerminal;
 
 /// A value of a handle.
 // What is large is in a box of its own, so that the box of a handle is small, whatever it has.
@@ -27,7 +29,7 @@ pub enum Kept {
     /// The pages of a call; None before the first.
     Document(Option<Document>),
     /// The terminal of a caller, with its clock.
-    Caller(Box<Calling>),
+    Caller(Box<TimedTerminal<StoppableCaller>>),
     /// The terminal of an answerer, with its clock, and with pages that were taken out of it.
     Answerer(Box<Answering>),
     /// A coder of a page row by row.
@@ -209,46 +211,24 @@ macro_rules! opened_station {
 pub(crate) use opened_station;
 
 /// Works on the terminal of a handle, a caller's or an answerer's.
-macro_rules! opened_terminal {
+macro_rules! opened_both {
     ($alloc:expr, $handle:expr, $name:ident => $work:expr) => {
         crate::handle::opened_station!(
             $alloc,
             $handle,
             calling => {
-                let $name = &mut calling.terminal;
+                let $name = calling;
                 $work
             },
             answering => {
-                let $name = &mut answering.terminal;
+                let $name = &mut answering.timed;
                 $work
             }
         )
     };
 }
 
-pub(crate) use opened_terminal;
-
-/// Works on the terminal of a handle and its timing.
-macro_rules! opened_timed {
-    ($alloc:expr, $handle:expr, $name:ident, $timing:ident => $work:expr) => {
-        crate::handle::opened_station!(
-            $alloc,
-            $handle,
-            calling => {
-                let $name = &mut calling.terminal;
-                let $timing = &mut calling.timing;
-                $work
-            },
-            answering => {
-                let $name = &mut answering.terminal;
-                let $timing = &mut answering.timing;
-                $work
-            }
-        )
-    };
-}
-
-pub(crate) use opened_timed;
+pub(crate) use opened_both;
 
 /// Frees what a handle has; it is empty then.
 #[unsafe(no_mangle)]

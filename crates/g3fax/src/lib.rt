@@ -31,9 +31,8 @@ mod states;
 mod status;
 mod taking;
 mod ticking;
-mod timing;
 
-pub use crate::answering::{Answering, Calling};
+pub use crate::answering::Answering;
 pub use crate::beginning::{G3Caps, G3Wish};
 pub use crate::bursts::G3Burst;
 pub use crate::codes::G3Code;
@@ -45,4 +44,3 @@ pub use crate::progress::G3Progress;
 pub use crate::rasters::G3Raster;
 pub use crate::signal::{G3Block, G3Dis, G3Params, G3Signal, Kind};
 pub use crate::states::G3State;
-pub use crate::timing::Timing;

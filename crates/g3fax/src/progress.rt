@@ -10,7 +10,7 @@ use crate::handle::{G3Handle, Kept};
 use crate::status::{EMPTY_HANDLE, OK, OTHER_HANDLE};
 use stations::{AnswererProgress, CallerProgress, StoppableCaller};
 use std::alloc::Global;
-use terminals::{Refusal, Refused, Terminal, Watched};
+use terminals::{Refusal, Refused, TimedTerminal, Watched};
 
 /// How far a terminal is with its call; what belongs to the other station is 0.
 #[repr(C)]
@@ -147,10 +147,10 @@ fn answering_told(far: AnswererProgress, pages: u64, confirmed: u64) -> G3Progre
 }
 
 /// Tells how far a caller is.
-fn tell_calling(terminal: &Terminal<StoppableCaller>, progress: &mut G3Progress) -> u32
-    ensures { TellsCalling terminal.now progress.new result }
+fn tell_calling(timed: &TimedTerminal<StoppableCaller>, progress: &mut G3Progress) -> u32
+    ensures { TellsCalling timed.now progress.new result }
 {
-    *progress = calling_told(terminal.station().station().progress());
+    *progress = calling_told(timed.terminal().station().station().progress());
     OK
 }
 
@@ -158,10 +158,10 @@ fn tell_calling(terminal: &Terminal<StoppableCaller>, progress: &mut G3Progress)
 fn tell_answering(answering: &Answering, progress: &mut G3Progress) -> u32
     ensures { TellsAnswering answering.now progress.new result }
 {
-    let station = answering.terminal.station().station();
+    let station = answering.timed.terminal().station().station();
     let pages = in_64_bits(answering.count_left());
     let told = answering_told(station.progress(), pages, answering.tally.confirmed);
-    *progress = with_watch(told, answering.watched);
+    *progress = with_watch(told, answering.timed.watched());
     OK
 }
 
@@ -182,7 +182,7 @@ pub extern "C" fn g3_core_terminal_progress(
         None => EMPTY_HANDLE,
         Some(kept) => {
             let status = match &*kept {
-                Kept::Caller(calling) => tell_calling(&calling.terminal, progress),
+                Kept::Caller(calling) => tell_calling(&**calling, progress),
                 Kept::Answerer(answering) => tell_answering(&**answering, progress),
                 _ => OTHER_HANDLE,
             };

@@ -11,7 +11,7 @@ use crate::numbers::{end_number, listens_carrier, listens_number, wait_number};
 use crate::status::{EMPTY_HANDLE, OK, OTHER_HANDLE};
 use stations::{CallEnd, End, StoppableCaller};
 use std::alloc::Global;
-use terminals::{Shown, Terminal};
+use terminals::{Shown, TimedTerminal};
 
 /// The state of a terminal: its pages, what it listens for, its waits, and why its call ended.
 #[repr(C)]
@@ -51,11 +51,11 @@ fn told(shown: Shown, pages: u64, frames: u64) -> G3State
 }
 
 /// Tells the state of a caller.
-fn tell_caller(terminal: &Terminal<StoppableCaller>, state: &mut G3State) -> u32
-    ensures { TellsCaller terminal.now state.new result }
+fn tell_caller(timed: &TimedTerminal<StoppableCaller>, state: &mut G3State) -> u32
+    ensures { TellsCaller timed.now state.new result }
 {
-    let confirmed = terminal.station().station().confirmed();
-    *state = told(terminal.shown(), confirmed, terminal.good_frames());
+    let confirmed = timed.terminal().station().station().confirmed();
+    *state = told(timed.terminal().shown(), confirmed, timed.good_frames());
     OK
 }
 
@@ -63,14 +63,13 @@ fn tell_caller(terminal: &Terminal<StoppableCaller>, state: &mut G3State) -> u32
 fn tell_answerer(answering: &Answering, state: &mut G3State) -> u32
     ensures { TellsAnswerer answering.now state.new result }
 {
-    let terminal = &answering.terminal;
-    let shown = terminal.shown();
+    let shown = answering.timed.terminal().shown();
     let shown = Shown {
         end: known_end(answering.is_confirmed(), shown.end),
         ..shown
     };
     let pages = in_64_bits(answering.count_left());
-    *state = told(shown, pages, terminal.good_frames());
+    *state = told(shown, pages, answering.timed.good_frames());
     OK
 }
 
@@ -101,7 +100,7 @@ pub extern "C" fn g3_core_terminal_state(
         None => EMPTY_HANDLE,
         Some(kept) => {
             let status = match &*kept {
-                Kept::Caller(calling) => tell_caller(&calling.terminal, state),
+                Kept::Caller(calling) => tell_caller(&**calling, state),
                 Kept::Answerer(answering) => tell_answerer(&**answering, state),
                 _ => OTHER_HANDLE,
             };

@@ -17,7 +17,13 @@ fn has_no_page(answering: &Answering) -> bool
     if !answering.waiting.is_empty() {
         return false;
     }
-    answering.terminal.station().station().pages().is_empty()
+    answering
+        .timed
+        .terminal()
+        .station()
+        .station()
+        .pages()
+        .is_empty()
 }
 
 /// Hands out the oldest page.
@@ -26,7 +32,7 @@ fn hand_out(answering: &mut Answering) -> Page
     ensures { HandsOutPage answering.old result answering.new }
 {
     if answering.waiting.is_empty() {
-        answering.waiting = answering.terminal.take_pages();
+        answering.waiting = answering.timed.take_pages();
     }
     answering.tally = answering.tally.with_handed();
     answering.waiting.remove(0)
@@ -66,7 +72,7 @@ fn hold_page(alloc: Global, answering: &mut Answering, out: &mut G3Handle) -> u3
     let Some(mut kept) = room(alloc) else {
         return NO_MEMORY;
     };
-    if answering.terminal.set_busy(true).is_err() {
+    if answering.timed.set_busy(true).is_err() {
         return NO_MEMORY;
     }
     *kept = Kept::Page(hand_out(answering));

@@ -1,20 +1,48 @@
 //! Terminals that are told the time, for C.
 
-ghost use Rattle.g3fax.specs.Handles.{OfTimed, OnTimed};
-ghost use Rattle.g3fax.specs.Hearing.{answerer_steps, caller_steps};
-ghost use Rattle.g3fax.specs.Ticking.{AnswersTick, LimitsCall, TellsDue, line_of};
-ghost use Rattle.signals.specs.declared.signal.Side.TheVariants.{Answerer as AnswererSide, Caller as CallerSide};
+ghost use Rattle.g3fax.specs.Handles.{OfBoth, OnBoth};
+ghost use Rattle.g3fax.specs.Stations.{behaviour};
+ghost use Rattle.g3fax.specs.Ticking.{AnswersTick, LimitsCall, TellsDue, TellsNext, limit_of, line_of, of_t30};
 ghost use Rattle.std.specs.Prelude.{◌≡◌, ◌≢◌};
-ghost use Rattle.stations.specs.Limiting.{LimitedFields};
-ghost use Rattle.stations.specs.Stopping.{StoppableCallerFields};
-ghost use Rattle.terminals.specs.Stopping.{CallerShows, LimitedShows, caller_cut_off, caller_stop_says, limited_cut_off, limited_stop_says};
 
 use crate::codes::in_64_bits;
-use crate::handle::{G3Handle, Kept, opened_timed};
+use crate::handle::{G3Handle, Kept, opened_both};
 use crate::status::{BAD_CHOICE, EMPTY_HANDLE, NO_MEMORY, NOTHING, OK, OTHER_HANDLE};
-use crate::timing::{Timing, durations};
 use std::alloc::Global;
-use terminals::{LineState, Moment, Station, Stoppable, Terminal, pass};
+use terminals::{
+    Durations, Limit, LineState, Next, Stoppable, T1_MILLIS, T2_MILLIS, T4_MILLIS, T5_MILLIS,
+    TimedTerminal,
+};
+
+/// How much later than its end a call is given up whose line doesn't fall quiet, in milliseconds.
+const MORE_MILLIS: u32 = 10_000;
+
+/// The limit of a call that has so many seconds at most; 0 for no limit.
+pub(crate) fn limit_of(seconds: u32) -> Limit
+    ensures { result ≡ limit_of seconds }
+{
+    let most = if seconds == 0 {
+        None
+    } else {
+        Some(seconds as u64 * 1000)
+    };
+    Limit {
+        most,
+        more: MORE_MILLIS,
+    }
+}
+
+/// The durations of T.30.
+pub(crate) fn durations() -> Durations
+    ensures { result ≡ of_t30 }
+{
+    Durations {
+        t1: T1_MILLIS,
+        t2: T2_MILLIS,
+        t4: T4_MILLIS,
+        t5: T5_MILLIS,
+    }
+}
 
 /// What the line is, by its number.
 fn line_of(number: u32) -> Option<LineState>
@@ -23,45 +51,31 @@ fn line_of(number: u32) -> Option<LineState>
     match number {
         1 => Some(LineState::Quiet),
         2 => Some(LineState::Carrier),
+        3 => Some(LineState::Ended),
         _ => None,
     }
 }
 
 /// Tells a terminal the time, and what the line is.
-fn tick<S: Stoppable>(terminal: &mut Terminal<S>, timing: &mut Timing, now: u64, line: u32) -> u32
-    ensures { AnswersTick S S.sends S.steps S.cut_off S.stop_says S.shows (line_of line) now terminal.old timing.old terminal.new timing.new
-        result }
+fn tick<S: Stoppable>(timed: &mut TimedTerminal<S>, now: u64, line: u32) -> u32
+    ensures { AnswersTick S (behaviour S.sends S.steps S.lends S.cut_off S.stop_says S.shows) (line_of line) now timed.old timed.new result }
 {
     let Some(line) = line_of(line) else {
         return BAD_CHOICE;
     };
-    if now < timing.clock.now {
+    if now < timed.now() {
         return BAD_CHOICE;
     }
-    let frames = terminal.good_frames();
-    let moment = Moment {
-        at: now,
-        line,
-        brought: timing.checked || timing.frames < frames,
-    };
-    let mut clock = timing.clock;
-    if pass(terminal, &mut clock, moment, durations(), timing.limit).is_err() {
-        return NO_MEMORY;
+    match timed.pass(line, now) {
+        Ok(_) => OK,
+        Err(_) => NO_MEMORY,
     }
-    *timing = Timing {
-        clock,
-        line,
-        checked: false,
-        frames,
-        limit: timing.limit,
-    };
-    OK
 }
 
 /// Tells a terminal the time, in milliseconds since its call was set up, and what the line is: 1 for a quiet line, 2 for one on which a
-/// carrier of the other station is on, or has just ended. On a quiet line the wait that is over ends, or a call that has lasted as long as it
-/// may is stopped; on another line a call is given up in silence 10 s after that. Returns `G3_BAD_CHOICE` (104) for another number, or a time
-/// before that of the last tick, or `G3_NO_MEMORY` (9).
+/// carrier of the other station is on, 3 for one on which it has just ended. On a quiet line the wait that is over ends, unless a burst waits
+/// to be sent. A call that has lasted as long as it may is stopped on a quiet line and where a carrier has just ended, and given up in silence
+/// 10 s later on another one. Returns `G3_BAD_CHOICE` (104) for another number, or a time before that of the last tick, or `G3_NO_MEMORY` (9).
 #[unsafe(no_mangle)]
 pub extern "C" fn g3_core_terminal_tick(
     alloc: Global,
@@ -69,49 +83,38 @@ pub extern "C" fn g3_core_terminal_tick(
     now: u64,
     line: u32,
 ) -> u32
-    ensures { OnTimed
-        (λ old was new is. AnswersTick StoppableCallerFields CallerSide caller_steps caller_cut_off caller_stop_says CallerShows (line_of line)
-        now old was new is result)
-        (λ old was new is. AnswersTick LimitedFields AnswererSide answerer_steps limited_cut_off limited_stop_says LimitedShows (line_of line)
-        now old was new is result)
-        terminal.old.value terminal.new.value result }
+    ensures { OnBoth (λ S b old new. AnswersTick S b (line_of line) now old new result) terminal.old.value terminal.new.value result }
 {
-    opened_timed!(alloc, terminal, terminal, timing => tick(terminal, timing, now, line))
+    opened_both!(alloc, terminal, timed => tick(timed, now, line))
 }
 
 /// Limits the call of a terminal.
-fn limit_call<S: Station>(terminal: &mut Terminal<S>, timing: &mut Timing, seconds: u32) -> u32
-    ensures { LimitsCall S terminal.old timing.old seconds terminal.new timing.new result }
+fn limit_call<S: Stoppable>(timed: &mut TimedTerminal<S>, seconds: u32) -> u32
+    ensures { LimitsCall S timed.old seconds timed.new result }
 {
-    *timing = timing.with_most(seconds);
+    timed.set_limit(limit_of(seconds));
     OK
 }
 
 /// Lets the call of a terminal last so many seconds at most, from 0 ms on; 0 for no limit, as in the beginning. The first tick at which they
-/// have passed on a quiet line stops it, and the first one 10 s later on any other line gives it up.
+/// have passed on a quiet line, or where a carrier has just ended, stops it, and the first one 10 s later on any other line gives it up.
 #[unsafe(no_mangle)]
 pub extern "C" fn g3_core_terminal_most_seconds(
     alloc: Global,
     terminal: &mut G3Handle,
     seconds: u32,
 ) -> u32
-    ensures { OnTimed (λ old was new is. LimitsCall StoppableCallerFields old was seconds new is result)
-        (λ old was new is. LimitsCall LimitedFields old was seconds new is result) terminal.old.value terminal.new.value result }
+    ensures { OnBoth (λ S b old new. LimitsCall S old seconds new result) terminal.old.value terminal.new.value result }
 {
-    opened_timed!(alloc, terminal, terminal, timing => limit_call(terminal, timing, seconds))
+    opened_both!(alloc, terminal, timed => limit_call(timed, seconds))
 }
 
 /// Tells when something is to be done.
-fn tell_due<S: Stoppable>(terminal: &Terminal<S>, timing: &Timing, at: &mut u64) -> u32
-    ensures tells { TellsDue S S.sends S.shows terminal.now timing.now at.old at.new result }
+fn tell_due<S: Stoppable>(timed: &TimedTerminal<S>, at: &mut u64) -> u32
+    ensures tells { TellsDue S (behaviour S.sends S.steps S.lends S.cut_off S.stop_says S.shows) timed.now at.old at.new result }
     ensures untold { result ≢ 0 → at.new ≡ at.old }
 {
-    let side = terminal.station().side();
-    let shown = terminal.shown();
-    match timing
-        .clock
-        .timeout_due(timing.line, side, shown, durations(), timing.limit)
-    {
+    match timed.due() {
         Some(due) => {
             *at = in_64_bits(due);
             OK
@@ -121,14 +124,11 @@ fn tell_due<S: Stoppable>(terminal: &Terminal<S>, timing: &Timing, at: &mut u64)
 }
 
 /// Tells when the next tick does something, in the milliseconds of the ticks, if the line stays as it is and nothing comes: a wait is over, or
-/// the call has lasted as long as it may. Returns `G3_NOTHING` (106) if none ever does: no wait ends on a carrier, nor before the first tick,
-/// nor before the one that follows a burst.
+/// the call has lasted as long as it may. Returns `G3_NOTHING` (106) if none ever does: no wait ends on a carrier, while a burst waits to be
+/// sent, before the first tick, nor before the one that follows a burst.
 #[unsafe(no_mangle)]
 pub extern "C" fn g3_core_terminal_due(alloc: Global, terminal: &mut G3Handle, at: &mut u64) -> u32
-    ensures answers { OfTimed
-        (λ terminal timing. TellsDue StoppableCallerFields CallerSide CallerShows terminal timing at.old at.new result)
-        (λ terminal timing. TellsDue LimitedFields AnswererSide LimitedShows terminal timing at.old at.new result)
-        terminal.old.value result }
+    ensures answers { OfBoth (λ S b timed. TellsDue S b timed at.old at.new result) terminal.old.value result }
     ensures kept { terminal.new.value ≡ terminal.old.value }
     ensures untold { result ≢ 0 → at.new ≡ at.old }
 {
@@ -136,8 +136,50 @@ pub extern "C" fn g3_core_terminal_due(alloc: Global, terminal: &mut G3Handle, a
         None => EMPTY_HANDLE,
         Some(kept) => {
             let status = match &*kept {
-                Kept::Caller(calling) => tell_due(&calling.terminal, &calling.timing, at),
-                Kept::Answerer(answering) => tell_due(&answering.terminal, &answering.timing, at),
+                Kept::Caller(calling) => tell_due(&**calling, at),
+                Kept::Answerer(answering) => tell_due(&answering.timed, at),
+                _ => OTHER_HANDLE,
+            };
+            terminal.put(kept);
+            status
+        }
+    }
+}
+
+/// Tells what a program does next.
+fn tell_next<S: Stoppable>(timed: &TimedTerminal<S>, next: &mut u32, at: &mut u64) -> u32
+    ensures { TellsNext S (behaviour S.sends S.steps S.lends S.cut_off S.stop_says S.shows) timed.now at.old at.new next.new result }
+{
+    match timed.next() {
+        Next::Send => *next = 1,
+        Next::At(due) => {
+            *next = 2;
+            *at = in_64_bits(due);
+        }
+        Next::Nothing => *next = 0,
+    }
+    OK
+}
+
+/// Tells what a program does next with a terminal: 1 if a burst waits to be sent; 2 if it has to wait for a time, as `g3_core_terminal_due`
+/// tells it, or for what comes before; 0 if it has to wait for what comes.
+#[unsafe(no_mangle)]
+pub extern "C" fn g3_core_terminal_next(
+    alloc: Global,
+    terminal: &mut G3Handle,
+    next: &mut u32,
+    at: &mut u64,
+) -> u32
+    ensures answers { OfBoth (λ S b timed. TellsNext S b timed at.old at.new next.new result) terminal.old.value result }
+    ensures kept { terminal.new.value ≡ terminal.old.value }
+    ensures untold { result ≢ 0 → (at.new ≡ at.old) × (next.new ≡ next.old) }
+{
+    match terminal.take(alloc) {
+        None => EMPTY_HANDLE,
+        Some(kept) => {
+            let status = match &*kept {
+                Kept::Caller(calling) => tell_next(&**calling, next, at),
+                Kept::Answerer(answering) => tell_next(&answering.timed, next, at),
                 _ => OTHER_HANDLE,
             };
             terminal.put(kept);

@@ -1,7 +1,9 @@
 -- What the check asks of `next_burst`.
 use Rattle.std.proofs.Common.{◌≡◌, ◌∙◌, None, Some, Ok, Option, arith, false, inl, inr, refl, rules, subst, sym, true}
 use Rattle.std.specs.declared.alloc.AllocError.{AllocError}
-use Rattle.terminals.specs.Sending.{Sends}
+use Rattle.terminals.specs.Runs.{TerminalFields}
+use Rattle.terminals.specs.Sending.{HasBurst, Sends}
+use Rattle.terminals.specs.Timed.{after_given}
 use Rattle.terminals.specs.declared.sending.SentBurst.{SentBurst}
 use Rattle.g3fax.proofs.BurstLemmas.{sends_none}
 use Rattle.g3fax.proofs.bursts.next_burst.Goals as goal
@@ -11,6 +13,8 @@ returns-in-Ok-Some-clause-next g c =
     let empty : c.args.out.now.value ≡ None = search rules in
     let is : c.in-Ok-Some.field-0 ≡ Some c.in-Ok-Some.sent = search rules in
     let has : c.has_burst.result ≡ true = search rules in
+    let burst : HasBurst g.S.Station.lends c.args.timed.now.terminal.speaking c.has_burst.result =
+    subst (λ (t : TerminalFields _). HasBurst g.S.Station.lends t.speaking c.has_burst.result) c.terminal.ensures c.has_burst.ensures in
     record {
       fills = record {
         done = λ done. (
@@ -18,9 +22,11 @@ returns-in-Ok-Some-clause-next g c =
           record {
             sent = c.in-Ok-Some.sent;
             sends = subst (λ (sent : Option SentBurst). Sends {E = AllocError} g.S.Station.sends g.S.Station.lends
-                c.args.terminal.now.speaking c.next_burst.new.self.speaking (Ok sent)) is c.in-Ok-Some.ensures.sends;
+                c.args.timed.now.terminal.speaking c.next_burst.new.self.terminal.speaking (Ok sent)) is c.in-Ok-Some.ensures.sends;
             octets_are = c.give.ensures.given;
             told = c.give.ensures.told;
+            rest = subst (λ (sent : Option SentBurst). c.next_burst.new.self ≡ after_given {E = AllocError} (Ok sent)
+                (record c.args.timed.now { terminal = c.next_burst.new.self.terminal })) is c.in-Ok-Some.ensures.rest;
           },
         );
         kept = λ other. absurd (other refl);
@@ -31,7 +37,7 @@ returns-in-Ok-Some-clause-next g c =
       nothing = λ nothing. absurd (omega (arith, nothing));
       exactly = λ before. (
         c.has_burst.result,
-        c.has_burst.ensures,
+        burst,
         ((λ nothing. absurd (omega (arith, nothing))), λ none. let e : true ≡ false = sym has ∙ none in absurd cc),
       );
       only = λ before. inl refl;
@@ -41,6 +47,8 @@ pub returns-then-not-has_burst-clause-next : goal.returns-then-not-has_burst-cla
 returns-then-not-has_burst-clause-next g c =
     let empty : c.args.out.now.value ≡ None = search rules in
     let none : c.has_burst.result ≡ false = search rules in
+    let burst : HasBurst g.S.Station.lends c.args.timed.now.terminal.speaking c.has_burst.result =
+    subst (λ (t : TerminalFields _). HasBurst g.S.Station.lends t.speaking c.has_burst.result) c.terminal.ensures c.has_burst.ensures in
     record {
       fills = record {
         done = λ done. absurd (omega (arith, done));
@@ -49,7 +57,7 @@ returns-then-not-has_burst-clause-next g c =
       };
       framing = refl;
       kept = λ other. refl;
-      nothing = λ nothing. sends_none g.S.Station.sends g.S.Station.lends c.args.terminal.now.speaking c.has_burst.result c.has_burst.ensures none;
-      exactly = λ before. (c.has_burst.result, c.has_burst.ensures, ((λ nothing. none), λ is. refl));
+      nothing = λ nothing. sends_none g.S.Station.sends g.S.Station.lends c.args.timed.now.terminal.speaking c.has_burst.result burst none;
+      exactly = λ before. (c.has_burst.result, burst, ((λ nothing. none), λ is. refl));
       only = λ before. inr (inl refl);
     }
