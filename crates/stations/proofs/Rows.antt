@@ -9,6 +9,7 @@ use Rattle.stations.specs.HowFar.{block_progress}
 use Rattle.stations.specs.Limiting.{is_full}
 use Rattle.stations.specs.Listening.{answerer_params, answerer_peer, caller_params, caller_peer}
 use Rattle.stations.specs.Rows.{AnswerersKnowAlways, CallersKnowAlways, FullByRows, KeptOutByRowsAlways, ProgressByRows, StopsAreSaid}
+use Rattle.stations.specs.Rows.{has_tried}
 use Rattle.stations.specs.declared.howfar.BlockProgress.{BlockProgress}
 use Rattle.stations.specs.declared.mark.Accepted.{Accepted}
 use Rattle.stations.specs.declared.stopping.Cut.TheVariants.{Stop, Loss}
@@ -89,11 +90,21 @@ numbered t block told place is =
     let number : block.place + 1 ≡ told.number = cc in
     sym number ∙ ap (λ k. k + 1) place
 
+resent : (t : Caller) (block : Block) (told : BlockProgress) → block_progress (has_tried t) (Some block) ≡ Some told → told.resends ≡ 1
+resent t block told is =
+    let resends : 1 ≡ told.resends = cc in
+    sym resends
+
 pub progress_by_rows : ProgressByRows
 progress_by_rows = record {
   there = refl;
   closed = refl;
   number = numbered;
+  tries = λ t. refl;
+  resends = resent;
+  of_pages = λ t. refl;
+  answerer = λ s. refl;
+  accepted = λ s. refl;
   no_block = λ t. refl;
   no_page = λ params. refl;
   refused = refl;

@@ -11,7 +11,7 @@ use Rattle.stations.specs.AnswererStep.{Answerer}
 use Rattle.stations.specs.BadPages.{refused_octets}
 use Rattle.stations.specs.Blocks.{Block}
 use Rattle.stations.specs.CallerStep.{Caller}
-use Rattle.stations.specs.HowFar.{block_progress, blocks_due, open_count}
+use Rattle.stations.specs.HowFar.{answerer_progress, block_progress, blocks_due, caller_progress, open_count}
 use Rattle.stations.specs.Inputs.{is_busy, listens, t1, t2, trains}
 use Rattle.stations.specs.Limiting.{is_full, is_kept_out}
 use Rattle.stations.specs.Listening.{answerer_params, answerer_peer, caller_params, caller_peer}
@@ -93,13 +93,29 @@ pub record KeptOutByRows (s : Answerer) : Type 0 where
 abbrev pub KeptOutByRowsAlways : Type 0
 KeptOutByRowsAlways = (s : Answerer) → KeptOutByRows s
 
--- The law: open frames are counted wherever they are, and a block's number is one more than its place. Of a refused page the octets are
--- those of the open page, then those of the frames up to the first that isn't there.
+-- a caller that sent its last command twice, after one PPR
+abbrev pub has_tried : Caller → Caller
+has_tried t = record t { try = 2; pprs = 1 }
+
+-- an answerer with two pages, three octets of the open one, and one open frame
+abbrev pub has_pages : Answerer → Answerer
+has_pages s =
+    record s { pages = three_rows ∷ three_rows ∷ []; octets = 0x01 ∷ 0x02 ∷ 0x03 ∷ []; frames = None ∷ Some (0x04 ∷ 0x05 ∷ []) ∷ [] }
+
+-- The law: open frames are counted wherever they are, and a block's number is one more than its place. Tries are of the last command, and
+-- resends are PPRs. Of a refused page the octets are those of the open page, then those of the frames up to the first that isn't there.
 pub record ProgressByRows : Type 0 where
   pub there : open_count (Some (0x01 ∷ []) ∷ None ∷ Some [] ∷ []) ≡ 2
   pub closed : open_count (None ∷ None ∷ []) ≡ 0
   pub number : (t : Caller) (block : Block) (told : BlockProgress) → block.place ≡ 2 → block_progress t (Some block) ≡ Some told →
       told.number ≡ 3
+  pub tries : (t : Caller) → (caller_progress (has_tried t)).tries ≡ 2
+  pub resends : (t : Caller) (block : Block) (told : BlockProgress) → block_progress (has_tried t) (Some block) ≡ Some told →
+      told.resends ≡ 1
+  pub of_pages : (t : Caller) → (caller_progress (record t { document = three_rows ∷ three_rows ∷ [] })).pages ≡ 2
+  pub answerer : (s : Answerer) → answerer_progress (has_pages (record s { accepted = None })) ≡
+      record { pages = 2; accepted = None; octets = 3; frames = 1 }
+  pub accepted : (s : Answerer) → (answerer_progress (has_accepted s)).accepted ≡ Some (record { page = 4; block = 1 })
   pub no_block : (t : Caller) → block_progress t None ≡ None
   pub no_page : (params : Params) → blocks_due params None ≡ 0
   pub refused : refused_octets (0x09 ∷ []) (Some (0x01 ∷ 0x02 ∷ []) ∷ Some (0x03 ∷ []) ∷ None ∷ Some (0x04 ∷ []) ∷ []) ≡
