@@ -63,3 +63,4 @@ pub mod Putting
 pub mod Fronts
 pub mod SamePages
 pub mod Redialling
+pub mod RnrAsked

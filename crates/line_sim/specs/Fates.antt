@@ -3,16 +3,19 @@ use Rattle.std.specs.Prelude.{◌≡◌, ◌≢◌, ℕ, suc, ◌<◌, ◌≤◌
 use Rattle.std.specs.Prelude.{Option, Some, None, Result, Ok, Err}
 use Rattle.signals.specs.declared.params.Caps.{Caps}
 use Rattle.signals.specs.declared.params.Wish.{Wish}
+use Rattle.signals.specs.Signals.{PlainSignal}
+use Rattle.stations.specs.AnswererStep.{Answerer, answerer_step}
 use Rattle.stations.specs.CallerFields.{AreCallable}
 use Rattle.stations.specs.CallerStep.{Caller, present_block}
-use Rattle.stations.specs.Inputs.{PlainItem}
+use Rattle.stations.specs.Inputs.{PlainItem, listens, trains}
 use Rattle.stations.specs.Layers.{Document}
 use Rattle.stations.specs.declared.turn.End.{End}
+use Rattle.stations.specs.declared.turn.Turn.TheVariants.{Rnr as SendRnr}
 use Rattle.line_sim.specs.Driving.{Driven, Ends, Fate, Patience, dis_kept, drive, drives, is_over, is_over_at, most_steps, new_driven}
 use Rattle.line_sim.specs.Driving.{is_rnr_item, step_events, steps_made}
 use Rattle.line_sim.specs.Driving.Fate.{comes, lost, spoiled}
 use Rattle.line_sim.specs.BusyCalls.{sets}
-use Rattle.line_sim.specs.Entries.{entries, head_kind}
+use Rattle.line_sim.specs.Entries.{entries, head_kind, signal_kind}
 use Rattle.line_sim.specs.Line.{World, Outcome, Done, happens, run}
 use Rattle.line_sim.specs.Report.{all_done}
 use Rattle.line_sim.specs.Represents.{Acts, IsUnheard, IsWorldFault, Shows}
@@ -91,6 +94,22 @@ abbrev pub asks_ready : Option Kind → Bool
 asks_ready (Some Pps) = true
 asks_ready (Some Rr) = true
 asks_ready _ = false
+
+-- The law: a PPS and an RR ask the answerer for more, and an item of another kind doesn't.
+pub record AsksByKind : Type 0 where
+  pub pps : asks_ready (Some Pps) ≡ true
+  pub rr : asks_ready (Some Rr) ≡ true
+  pub others : (kind : Kind) → kind ≢ Pps → kind ≢ Rr → asks_ready (Some kind) ≡ false
+  pub none : asks_ready None ≡ false
+
+-- an answerer says RNR only to an item of a kind that asks it for more, and never to a training check
+pub record SaysRnrIfAsked (s : Answerer) : Type 0 where
+  pub signal : (signal : PlainSignal) → (answerer_step s (listens signal)).turn ≡ SendRnr → asks_ready (signal_kind signal) ≡ true
+  pub check : (octets : List ℕ) → (answerer_step s (trains octets)).turn ≢ SendRnr
+
+-- The law: the same, of each answerer.
+abbrev pub RnrIsAsked : Type 0
+RnrIsAsked = (s : Answerer) → SaysRnrIfAsked s
 
 -- the caller is sending a block, which an MCF would confirm: it has sent the block's first burst and hasn't ended
 abbrev pub is_sending : Caller → Bool

@@ -6,6 +6,7 @@ ghost use Rattle.line_sim.specs.Counted.{DcsBetweenGroups, RunsAreCounted};
 ghost use Rattle.line_sim.specs.Driving.{DrivenCallsAreSafe, DrivenCallsEnd, DrivenStepsAreEvents};
 ghost use Rattle.line_sim.specs.Tolerance.{AnswerersEndWell, AnyTwoLossesAreBorne, CallersEndWell, DrivenCallsBear, DrivenCallsEndFor};
 ghost use Rattle.line_sim.specs.EventsMean.{EventsMake, EventsRefuse, EventsTouch};
+ghost use Rattle.line_sim.specs.Fates.{AsksByKind, RnrIsAsked};
 ghost use Rattle.line_sim.specs.Polite.{GroupsAreAgreed, PoliteCalls, PoliteEvents};
 ghost use Rattle.line_sim.specs.Headline.{EventsMove, LineHolds, LinesCanBeWritten, RunsAreSafe, RunsMove, StationsInStep};
 ghost use Rattle.line_sim.specs.Headline.{WholeBlocksAccepted};
@@ -139,4 +140,10 @@ pub fn events_mean()
     ensures touch { EventsTouch }
     ensures make { EventsMake }
     ensures refuse { EventsRefuse }
+{}
+
+/// Which items ask the answerer for more: a PPS and an RR. It says RNR to no other item, so only before one of these is it set busy or ready.
+pub fn rnr_is_asked()
+    ensures kinds { AsksByKind }
+    ensures asked { RnrIsAsked }
 {}
