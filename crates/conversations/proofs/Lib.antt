@@ -7,6 +7,7 @@ pub mod Written
 pub mod FullAnswerer
 pub mod GivenLines
 pub mod Led
+pub mod LineEffects
 mod LineOctets
 mod ServedLines
 pub mod OneLine

@@ -6,6 +6,8 @@ ghost use Rattle.conversations.specs.Given.{AnswerersHangUp, BeginsAt, CallersHa
 ghost use Rattle.conversations.specs.Hearing.{ExpectsWhatIsHeard};
 ghost use Rattle.conversations.specs.Holding.{HeldIsNotConfirmed};
 ghost use Rattle.conversations.specs.Led.{AnswerersAreLed, CallersAreLed, caller_behaviour};
+ghost use Rattle.conversations.specs.LineEffects.{BeginsWhenNamedOf, BlocksAreInTimeOf, LinesTellOf, NamedBegins};
+ghost use Rattle.conversations.specs.LineEffects.{NamesWhatIsHeld};
 ghost use Rattle.conversations.specs.StoredLines.{LastIsSaid, LineIsSaid, RefusedIsLast, StoredIsSaid};
 ghost use Rattle.stations.specs.Limiting.{LimitedFields};
 ghost use Rattle.stations.specs.Stopping.{StoppableCallerFields};
@@ -38,6 +40,27 @@ pub fn quiet_ends_waits()
 {
     terminals::laws::passed_are_over();
 }
+
+/// What a line makes of a conversation: `busy` and `rx` say a carrier, on which T2 and T4 don't run; T1 runs anew from a line that brings a
+/// good frame or the awaited training check; and what comes by V.21 is watched.
+pub fn lines_tell()
+    ensures caller { LinesTellOf StoppableCallerFields caller_behaviour }
+    ensures answerer { LinesTellOf LimitedFields limited_behaviour }
+{}
+
+/// How long after the last line one can come: as long as a block lasts, unless both are quiet. An answerer begins at the first quiet line from
+/// the time on that `wait` names.
+pub fn lines_are_in_time()
+    ensures caller { BlocksAreInTimeOf StoppableCallerFields }
+    ensures answerer { BlocksAreInTimeOf LimitedFields }
+    ensures named { NamedBegins }
+    ensures begins { BeginsWhenNamedOf LimitedFields limited_behaviour }
+{}
+
+/// A line about a page can come only while the page in its file is held.
+pub fn lines_name_what_is_held()
+    ensures { NamesWhatIsHeld }
+{}
 
 /// A conversation that hung up, as for a page that can't be stored, gives DCN and nothing else, whatever was to be sent.
 pub fn dcn_is_given()
