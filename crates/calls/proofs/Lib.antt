@@ -15,3 +15,4 @@ pub mod BadCallsEnd
 mod DrivenCalls
 mod Rates
 mod CallRecords
+mod Fates

@@ -1,5 +1,5 @@
 -- What becomes of the items on a bad line: which rates there are, and what a generator draws by them.
-use Rattle.std.specs.Prelude.{◌≡◌, ◌≤◌, ◌+◌, ◌*◌, ◌/◌, ◌^◌, ◌⊎◌, ℕ, List, [], ◌∷◌, ◌++◌, length, nat_lt, if◌then◌else◌, Bool}
+use Rattle.std.specs.Prelude.{◌≡◌, ◌<◌, ◌≤◌, ◌+◌, ◌*◌, ◌/◌, ◌^◌, ◌⊎◌, ℕ, List, [], ◌∷◌, ◌++◌, length, nat_lt, if◌then◌else◌, Bool, true, false}
 use Rattle.std.specs.Str.Parse.{IsNumeral, digits_value}
 use Rattle.rand_pcg.specs.Lcg.{Lcg, increment_of, started}
 use Rattle.rand_pcg.specs.Pcg.{multiplier_64}
@@ -51,6 +51,19 @@ fate_of line word = if nat_lt word line.lose then lost else if nat_lt word (line
 -- a word of the generator is below the share of busy words, so it makes the answerer busy
 abbrev pub is_busy_word : BadLine → ℕ → Bool
 is_busy_word line word = nat_lt word line.busy
+
+-- The law: what each word of the generator makes of an item, and which words make the answerer busy: of all words the first ones lose an
+-- item, as many as the share of losses has, and the next ones spoil it, as many as the share of spoiled ones has.
+pub record FatesOfWords (line : BadLine) (word : ℕ) : Type 0 where
+  pub loses : word < line.lose → fate_of line word ≡ lost
+  pub spoils : line.lose ≤ word → word < line.lose + line.spoil → fate_of line word ≡ spoiled
+  pub spares : line.lose + line.spoil ≤ word → fate_of line word ≡ comes
+  pub busy : word < line.busy → is_busy_word line word ≡ true
+  pub ready : line.busy ≤ word → is_busy_word line word ≡ false
+
+-- the same, of each line and word
+abbrev pub FatesAreShared : Type 0
+FatesAreShared = (line : BadLine) (word : ℕ) → FatesOfWords line word
 
 -- the generator of a call, pcg32: its state begins with the seed, its stream is the number of the call
 abbrev pub generator_of : BadLine → ℕ → Lcg

@@ -1,6 +1,7 @@
 //! Laws of the definitions. Nothing runs.
 
 ghost use Rattle.calls.specs.BadLines.{BadCallsEnd};
+ghost use Rattle.calls.specs.Losses.{FatesAreShared};
 ghost use Rattle.calls.specs.OptionsMean.{LinesAreAsked, OptionsMean, PatienceIsT5};
 ghost use Rattle.calls.specs.Scripts.{IsLineFault, IsScript, RefusesScript};
 ghost use Rattle.calls.specs.ScriptsMean.{CountsMake, CountsMean, LinesMean, WordsDo};
@@ -51,4 +52,10 @@ pub fn options_mean()
     ensures stations { OptionsMean }
     ensures lines { LinesAreAsked }
     ensures patience { PatienceIsT5 }
+{}
+
+/// What a word of the generator makes of an item, by the shares of the line: the first words lose it, the next ones spoil it, and after the
+/// others it comes. Which words make the answerer busy.
+pub fn fates_are_shared()
+    ensures { FatesAreShared }
 {}
