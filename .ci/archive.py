@@ -10,7 +10,6 @@ python3-distributed and python3-pil is named, and nothing is run then. Ends with
 
 import json
 import os
-import shutil
 import subprocess
 import sys
 import tempfile

@@ -33,8 +33,8 @@ def function_at(text, at, module):
         kind = re.match(r"(?:pub(?:\(crate\))? )?(?:impl|trait)\b(?:<.*?>)? (.*?) \{$", line)
         if kind:
             trait, _, own = kind[1].rpartition(" for ")
-            bare = lambda it: re.sub(r"<.*|&('\w+ )?", "", it).split("::")[-1]
-            owner, name = bare(own) + bare(trait), None
+            bare = [re.sub(r"<.*|&('\w+ )?", "", it).split("::")[-1] for it in (own, trait)]
+            owner, name = "".join(bare), None
         elif line == "}":
             owner, name = module, None
         else:
@@ -62,11 +62,11 @@ def changed_function(folder, crate, pairs):
 def words_of(built, crate):
     """The words by which `rattle check` reads a crate over those that are built in this folder."""
     crates = read_crates()
-    rlib = lambda name: f"{built}/{name}/out/rlib/{name}.rlib" if name in crates else f"{KIT}/rlibs/{name}.rlib"
     root = "src/main.rt" if (TOP / "crates" / crate / "src" / "main.rt").is_file() else "src/lib.rt"
     words = ["--crate-name", crate, root, "-L", f"dependency={KIT}/rlibs"]
     for name in ["std", *crates[crate][0].split(":")[1].split()]:
-        words += ["--extern", f"{name}={rlib(name)}"]
+        rlibs = f"{built}/{name}/out/rlib" if name in crates else f"{KIT}/rlibs"
+        words += ["--extern", f"{name}={rlibs}/{name}.rlib"]
     for name in sorted(below(crates, crate) - {crate}):
         words += ["-L", f"dependency={built}/{name}/out/rlib"]
     return words + ["--antt-project", f"{KIT}/rattle/logic/antt-project.json", "--logic-built", f"{KIT}/logic_built", "--links", f"{crate}="]

@@ -1,5 +1,6 @@
 #!/usr/bin/env python3
-"""Sees each check of .ci/definitions.py, .ci/witnesses.py and docs/book.py refuse what it is there for, by a change of what it reads:
+"""Sees each check of .ci/definitions.py, .ci/witnesses.py, .ci/house.py and docs/book.py refuse what it is there for, by a change of what it
+reads:
 
     .ci/test_checks.py
 
@@ -10,6 +11,7 @@ import sys
 
 sys.dont_write_bytecode = True
 import definitions as checks
+import house
 import witnesses as given
 
 books = checks.books
@@ -141,8 +143,8 @@ def at_size():
     yield refuses("calls that no table has", check, proof, proof.replace("## Calls that take memory", "## Calls"), "no test of `run`")
     yield refuses("a test that isn't there", check, proof, proof.replace("sizes::runs_over", "sizes::run_over"), "isn't there")
     yield refuses("a function that is no test", check, proof, proof.replace("runs_over_257_blocks", "run_over"), "isn't there")
-    yield refuses("a test that makes another call", check, proof, proof.replace("rows::a_row_of_single_pixels_has_2432_runs", "rows::changes_come_back"),
-                  "doesn't call `Row::runs`")
+    other = proof.replace("rows::a_row_of_single_pixels_has_2432_runs", "rows::changes_come_back")
+    yield refuses("a test that makes another call", check, proof, other, "doesn't call `Row::runs`")
     change = "world.polite(100_000)?", "100_000"
     yield refuses("a call that a test makes no more", lambda pair: check_sources(*pair), ("", ""), change, "doesn't call `World::polite`")
     change = "told(&run(alloc, document, WISH, CAPS, events)?)", "told(&rerun(alloc, document, WISH, CAPS, events)?)"
@@ -186,8 +188,69 @@ def witnesses():
     yield refuses("a keeper of no law", lambda own: given.trait_faults(BOOK.crates, BOOK.specs, own), laws, laws - dialled, "Confirmed")
 
 
+# A function that is as it should be, and texts that break one rule of the house each: the path, the text and what is named. `BODY` are 41
+# lines, `WIDE` are 101 columns, `LONG` 201 characters.
+FINE = "/// Returns one.\nfn one(a: u8) -> u8\n    ensures { result ≡ 1 }\n{\n    1\n}\n"
+BODY, WIDE, LONG = 41 * "    1;\n", "x" * 79, "x " * 101
+OF_HOUSE = {
+    "long-functions": [("crates/hdlc/src/a.rt", f"fn one() {{\n{BODY}}}\n", "one"), ("docs/a.py", f"def one():\n{BODY}", "one")],
+    "long-files": [("crates/hdlc/specs/A.antt", 801 * "\n", "A.antt"), ("docs/a.sh", 801 * "\n", "a.sh")],
+    "many-parameters": [("crates/hdlc/src/a.rt", "fn one(&self, a: (u8, u8), b: T<u8, u8>, c: fn(u8, u8) -> u8, d: u8, e: u8) {\n}\n", "one")],
+    "wide-clauses": [("crates/hdlc/src/a.rt", f"fn one()\n    ensures given {{ {WIDE} }}\n{{\n}}\n", "one: ensures given")],
+    "long-clauses": [("crates/hdlc/src/a.rt", f"fn one()\n    ensures given {{\n{LONG.replace(' ', chr(10))} }}\n{{\n}}\n", "one: ensures given")],
+    "participle-modules": [("crates/hdlc/src/giving.rt", FINE, "giving.rt"), ("crates/hdlc/src/told.rt", FINE, "told.rt")],
+    "double-types": [("crates/hdlc/src/a.rt", "struct Kind;\n", "Kind: hdlc raster")],
+    "lone-pubs": [("crates/hdlc/src/a.rt", "impl Line {\n    pub fn two() {\n    }\n}\n", "Line::two")],
+    "verbless-comments": [
+        ("crates/hdlc/src/a.rt", "/// The one after `is`.\nfn two() {\n}\n", "two"),
+        ("crates/hdlc/src/a.rt", "/// Whether it is one.\nfn two() {\n}\n", "two"),
+        ("crates/hdlc/src/a.rt", "/// What is told of one.\nfn two() {\n}\n", "two"),
+    ],
+    "fault-wordings": [
+        ("docs/FAULTS.md", "| 10 at a bit | `show` | Nothing begins. |\n", "10: Nothing begins."),
+        ("crates/hdlc/src/fault.rt", '#[error("none")]\n    A,\n        F::A => 10,\n', "10: none"),
+        ("crates/faxtool/src/args/fault_table.rt", "  10  at a bit: nothing\n", "10: at a bit: nothing"),
+        ("crates/faults/specs/FaultKinds.antt", 'number_of A = 10\nwords_of A = codes "nothing"\n', "10: nothing"),
+    ],
+    "speed-tables": [
+        ("crates/hdlc/src/a.rt", 'fn two() {\n    ["v27-2400", "v27-4800", "V.29 7200", "v17-14400"]\n}\n', "two"),
+        ("bindings/a.c", 'const char *two(int a)\n{\n    return "v27-2400" "v27-4800" "V.29 7200" "v17-14400";\n}\n', "two"),
+    ],
+    "idle-derives": [("crates/hdlc/src/a.rt", "#[derive(Debug, PartialEq)]\nstruct Line;\n", f"Line: {kind}") for kind in ("Debug", "PartialEq")],
+    "spelled-octets": [("crates/hdlc/specs/A.antt", "  pub one : x ≡\n" + " ∷ ".join(f"0x{ord(it):X}" for it in "nothing is") + "\n", "A.antt one")],
+}
+
+
+def of_house():
+    """Each rule of the house broken once; a definition that loses who names it; a list with a count that grew, or fell; and a script."""
+    sound = {"crates/hdlc/src/one.rt": FINE, "crates/raster/src/kind.rt": "enum Kind {\n}\n"}
+    for rule, texts in OF_HOUSE.items():
+        assert not list(house.RULES[rule](house.House(sound))), rule
+        for path, text, name in texts:
+            yield refuses(f"{rule}: {path}", house.RULES[rule], house.House(sound), house.House({**sound, path: text}), name)
+    here = house.house_here()
+    tables = {path: text for path, text in here.texts.items() if path.startswith("crates/run_tables/")}
+    less = house.House({path: text for path, text in tables.items() if not path.endswith("/laws.rt")})
+    yield refuses("a definition that proofs alone name", house.definitions_of_proofs, house.House(tables), less, "run_tables")
+    least = house.House({path: text for path, text in less.texts.items() if "/proofs/" not in path})
+    yield refuses("a definition that nothing names", house.unnamed_definitions, house.House(tables), least, "run_tables")
+    assert set(OF_HOUSE) | {"unnamed-definitions", "definitions-of-proofs"} == set(house.RULES)
+    names = {"long-files": ["a.rt", "b.rt"]}
+    kept = house.written(names, {"long-files": 2})
+    assert not list(house.count_faults(names, kept))
+
+    def counted(names):
+        return house.count_faults({"long-files": names}, kept)
+
+    yield refuses("a count that grew", counted, ["a.rt", "b.rt"], ["a.rt", "b.rt", "c.rt"], "long-files: c.rt")
+    yield refuses("a count that fell", counted, ["a.rt", "b.rt"], ["a.rt"], "--write")
+    yield refuses("another name", counted, ["a.rt", "b.rt"], ["a.rt", "c.rt"], "--write")
+    assert house.grown({"long-files": ["a", "b", "c"]}, {"long-files": 2}, []) == ["long-files"]
+    assert not house.grown({"long-files": ["a", "b", "c"]}, {"long-files": 2}, ["long-files"])
+
+
 def main():
-    seen = [name for trials in (comments, clauses, documents, tables, at_size, links, witnesses) for name in trials()]
+    seen = [name for trials in (comments, clauses, documents, tables, at_size, links, witnesses, of_house) for name in trials()]
     print(f"test_checks: {len(seen)} changes are refused: {', '.join(seen)}")
 
 

@@ -79,7 +79,10 @@ def tries_records():
         if not any(part in fault for fault in found):
             sys.exit(f"test_refusals: a record isn't refused: {part}: {found}")
     table = "| Wrong body | Bug | Function | Clause |\n|---|---|---|---|\n| one | `hdlc/y` | `Z::z` | `ok` |\n| two | `hdlc/x` | `z` | `ok` |\n"
-    named = lambda text: list(plants.named_faults(text, lambda bug: bug == "hdlc/y"))
+
+    def named(text):
+        return list(plants.named_faults(text, lambda bug: bug == "hdlc/y"))
+
     assert named(table[:table.index("| two")]) == [] and len(named(table)) == 1 and len(named(table.replace("`hdlc/x`", ""))) == 1 and named("")
     assert plants.untried(PAGE, {"hdlc": 9, "stations": 9}) == ["stations"]
     row = plants.Row("calls", "89abcde", "2026-02-01", 2, 2, 3, 3, plants.goals_told(["ok", "ok", "returns"]))

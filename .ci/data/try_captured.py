@@ -254,7 +254,12 @@ with open(f"{folder}/captured.bits", "wb") as file:
     file.write(line(many))
 shutil.rmtree(f"{folder}/captured")
 os.mkdir(f"{folder}/captured")
-limit = lambda: resource.setrlimit(resource.RLIMIT_AS, (24 << 20, 24 << 20))
+
+
+def limit():
+    resource.setrlimit(resource.RLIMIT_AS, (24 << 20, 24 << 20))
+
+
 words = [program, "frames", "--pages", f"{folder}/captured", f"{folder}/captured.bits"]
 done = subprocess.run(words, stdout=subprocess.DEVNULL, stderr=subprocess.PIPE, preexec_fn=limit)
 if done.returncode or done.stderr:

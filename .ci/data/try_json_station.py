@@ -27,7 +27,8 @@ def made(words, lines, *more):
         os.remove(os.path.join(folder, name))
     trace = os.path.join(folder, "trace")
     with open(lines, "rb") as given:
-        done = subprocess.run([program, "station", *more, "--trace", trace, "--trace-frames", *words], stdin=given, capture_output=True, timeout=60, check=False)
+        command = [program, "station", *more, "--trace", trace, "--trace-frames", *words]
+        done = subprocess.run(command, stdin=given, capture_output=True, timeout=60, check=False)
     if done.returncode not in (0, 1):
         sys.exit(f"{lines.stem}: status {done.returncode}")
     traced = Path(trace).read_bytes() if os.path.exists(trace) else b""

@@ -13,6 +13,7 @@ try_call() {
     fi
     if [ -f "$case.status" ]; then wanted=$(cat "$case.status"); elif [ -f "$case.fault" ]; then wanted=1; else wanted=0; fi
     rm -f "$work/pages"
+    # shellcheck disable=SC2046 # its options are words
     gives "$wanted" call --script "$1" $(cat "$case.options" 2> /dev/null) --out "$work/pages" "$input"
     if [ -f "$case.fault" ]; then
         is_same "$work/error" "$case.fault" "the fault of call ${case##*/}"

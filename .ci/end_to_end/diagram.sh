@@ -63,6 +63,7 @@ try_captures() {
     for script in "$top"/.ci/calls/*.script; do
         case=${script%.script}
         [ -f "$case.expected" ] && [ -f "$case.pbm" ] || continue
+        # shellcheck disable=SC2046 # its options are words
         captures --script "$script" $(cat "$case.options" 2> /dev/null) "$case.pbm"
     done
     for seed in 1 2 3 4; do
@@ -100,6 +101,7 @@ try_diagrams() {
     for script in "$top"/.ci/calls/*.script; do
         case=${script%.script}
         [ -f "$case.expected" ] && [ -f "$case.pbm" ] || continue
+        # shellcheck disable=SC2046 # its options are words
         draws --script "$script" $(cat "$case.options" 2> /dev/null) "$case.pbm"
     done
     input=$(octets "$white")

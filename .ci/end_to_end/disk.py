@@ -10,7 +10,8 @@ page is ever cut short, and MCF is never written for a page that isn't there. Al
 process that is killed, and no other one, may leave an empty file. A call that fails before the first line is in the words of the fault, and
 leaves nothing. Calls that signals interrupt are tried again. And two answerers in one folder without links, each of whose renames takes a
 while, leave both their pages. And where 50 numbers are taken, the second page of a call is tried under the number after the first one's
-alone; the names of part files are by chance. Prints how many runs there were; ends with status 1, and with what was wrong, at the first one that is."""
+alone; the names of part files are by chance. Prints how many runs there were; ends with status 1, and with what was wrong, at the first
+one that is."""
 import errno
 import os
 import re

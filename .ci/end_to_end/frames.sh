@@ -135,7 +135,7 @@ try_lost_page() {
     for salvage in "" --salvage; do
         rm -f "$work/two_pages"/*
         gives 1 frames --pages "$work/two_pages" $salvage "$lost"
-        [ "$(ls "$work/two_pages" | xargs)" = "page-1.pbm page-2.pbm" ] || fails "frames --pages $salvage doesn't write two pages of three"
+        [ "$(cd "$work/two_pages" && echo *)" = "page-1.pbm page-2.pbm" ] || fails "frames --pages $salvage doesn't write two pages of three"
         [ "$(cat "$work/error")" = "page 3 is missing: the page before it ended with MPS" ] ||
             fails "frames --pages $salvage doesn't name a last page that is missing"
     done

@@ -108,7 +108,7 @@ answers_so() {
     mkdir "$work/stored"
     "$program" station --answer --out "$work/stored" "$@" < "$kept.lines" > "$work/output" 2> "$work/error" || status=$?
     [ "$status" = 1 ] && [ "$(sed '/^[0-9]* page /d' "$work/error")" = "$wanted" ] || fails "$* ended with status $status"
-    [ "$(tail -n 1 "$work/output")" = done ] || fails "$* doesn't end with done"
+    [ "$(tail -n 1 "$work/output")" = "done" ] || fails "$* doesn't end with done"
     count=$((count + 1))
 }
 

@@ -294,7 +294,7 @@ completed() {
 completes() {
     wanted=$(printf '%s\n' $1 | sort)
     shift
-    [ "$(completed "$@" | sort)" = "$wanted" ] || fails "faxtool $* is completed to: $(echo $(completed "$@"))"
+    [ "$(completed "$@" | sort)" = "$wanted" ] || fails "faxtool $* is completed to: $(completed "$@" | tr '\n' ' ')"
 }
 
 # The version is that of the file at the top, and the kit that of docs/PROOF.md. `rt version` may call it by another name: what counts

@@ -59,7 +59,8 @@ ENTRY = re.compile(rf"(\d+) ({'|'.join(WORDS)}) ({ITEMS}) ({TURNS})( !)?")
 ENDS = "normal|no-answer|not-compatible|training|no-reply|unreadable|still-busy|peer-left|bad-page|page-too-long|running"
 CALLER = re.compile(rf"caller ({ENDS}) confirmed (\d+)")
 ANSWERER = re.compile(rf"answerer ({ENDS}) pages (\d+)")
-NO_LINES = ["to-caller  2", "to-caller 0", "to-caller 1000001", "to-caller +1", "polite", "polite 0", " polite 1", "ready\r", "call", "busy 1 ", "spoil -1", "# \udcff"]
+NO_LINES = ["to-caller  2", "to-caller 0", "to-caller 1000001", "to-caller +1", "polite", "polite 0", " polite 1", "ready\r", "call", "busy 1 ",
+            "spoil -1", "# \udcff"]
 
 
 class Failed(Exception):

@@ -88,7 +88,8 @@ def differs_repaired(rand, folder, words, kinds):
     Path(folder, name).write_bytes(broken.translate(TURNED) if "lsb" in words else broken)
     said, stored, status = each(folder, words, [name])
     lines, images, statuses = [], {}, []
-    count = max([int(file.split("-")[1].split(".")[0]) for file in stored] + [int(number) for number in re.findall(r"page (\d+)", said[0])], default=1)
+    numbers = [file.split("-")[1].split(".")[0] for file in stored] + re.findall(r"page (\d+)", said[0])
+    count = max(map(int, numbers), default=1)
     for number in range(1, count + 1):
         told, ended, image = alone(folder, words, name, number)
         lines += told

@@ -28,7 +28,7 @@ sys.dont_write_bytecode = True
 sys.path.insert(0, str(Path(__file__).resolve().parent))
 from fuzz_calls import PROGRAM, Failed, need, random_image  # noqa: E402
 from fuzz_stream import Stranger, bits_of, changed, octets_of  # noqa: E402
-from reference_station import CARRIERS, RATES, Ear, arguments, end_of, frame, hdlc, serve  # noqa: E402
+from reference_station import CARRIERS, RATES, arguments, end_of, frame, hdlc, serve  # noqa: E402
 
 # How often a burst is lost, spoiled in some bits, cut short, late, cut at its front, by another carrier, or in two parts.
 FATES = ["lost", "spoiled", "short", "late", "front", "elsewhere", "parts"]

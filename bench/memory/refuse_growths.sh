@@ -126,6 +126,7 @@ try_words() {
     try_command frames --data 8 "$examples/line.bits"
 }
 
+# shellcheck disable=SC2048 # what is named without a word is a list
 for name in ${*:-$(sed -n 's/^\([a-z_]*_tests\):.*/\1/p' "$root/crates.txt") words}; do
     if [ "$name" = words ]; then
         try_words

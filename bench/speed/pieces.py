@@ -5,8 +5,9 @@
 
 Pieces have PIECE octets, 256 if no number is given. Of only 0 bits in T.6, and in T.4 runs of no pixels, fill, fill after an EOL, and fill
 after a row and three EOLs, read by a `PageReader`, as a station does, and by a `RowReader`, prints the instructions for each octet of 16, 32
-and 64 KiB, counted by valgrind's callgrind. Ends with status 1 if one takes more than 1.1 times as many an octet. Builds bench/speed/pieces without proof, so the figures are
-above those of proved crates, or LIBRARY names its libpieces.a. Needs cc and valgrind."""
+and 64 KiB, counted by valgrind's callgrind. Ends with status 1 if one takes more than 1.1 times as many an octet. Builds
+bench/speed/pieces without proof, so the figures are above those of proved crates, or LIBRARY names its libpieces.a. Needs cc and
+valgrind."""
 
 import os
 import re

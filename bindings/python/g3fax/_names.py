@@ -182,10 +182,10 @@ class Refusal(_Choice):
 class Progress(NamedTuple):
     """How far a call is; what belongs to the other station is 0. Of a caller: the `pages` of its document, how many are `confirmed`, the
     `block` of the next one that it sends, from 1, of so many `blocks`, its `resends`, and the `tries` of the last command. Of an answerer:
-    the `pages` that it has stored and that weren't taken, how many of all are `confirmed`, the `octets` of the page under way, the `frames` of the block under way, and the
-    page and block that it has `accepted` last, by their numbers modulo 256, or None; how often it had a DCS that it doesn't allow, `refused`,
-    0 to 2 for twice or more, and why the call is refused, `refused_why`, or None; and the first page number modulo 256, from 0, that was neither
-    the last one nor the next, `gap`, or None."""
+    the `pages` that it has stored and that weren't taken, how many of all are `confirmed`, the `octets` of the page under way, the `frames`
+    of the block under way, and the page and block that it has `accepted` last, by their numbers modulo 256, or None; how often it had a DCS
+    that it doesn't allow, `refused`, 0 to 2 for twice or more, and why the call is refused, `refused_why`, or None; and the first page
+    number modulo 256, from 0, that was neither the last one nor the next, `gap`, or None."""
 
     pages: int
     confirmed: int
