@@ -1,6 +1,6 @@
 #!/usr/bin/env python3
-"""Sees each check of .ci/definitions.py, .ci/witnesses.py, .ci/house.py and docs/book.py refuse what it is there for, by a change of what it
-reads:
+"""Sees each check of .ci/definitions.py, .ci/witnesses.py, .ci/house.py, .ci/cited.py and docs/book.py refuse what it is there for, by a
+change of what it reads:
 
     .ci/test_checks.py
 
@@ -10,6 +10,7 @@ import copy
 import sys
 
 sys.dont_write_bytecode = True
+import cited
 import definitions as checks
 import house
 import witnesses as given
@@ -249,8 +250,37 @@ def of_house():
     assert not house.grown({"long-files": ["a", "b", "c"]}, {"long-files": 2}, ["long-files"])
 
 
+def guarantees():
+    """Rows that cite what no product calls, a law that does something, a clause of another function, and a definition of another row."""
+    texts = house.house_here().texts
+    made, reached = cited.read(texts)
+    readme = texts["README.md"]
+
+    def check(text):
+        return cited.cited_faults(text, BOOK, made, reached)
+
+    assert not list(check(readme))
+    for row, name, place, other in [
+        ("G10", "answer", "conversations/src/talking.rt", "[`answer_line`](crates/conversations/src/answering.rt)"),
+        ("G9", "run_request", "faxtool/src/dispatch.rt", "[`answer_stream`](crates/line_sim/src/stream.rt)"),
+        ("G3", "LiveCall::event", "line_sim/src/live.rt", "[`World::event`](crates/line_sim/src/world.rt)"),
+    ]:
+        line = next(line for line in readme.splitlines() if line.startswith(f"| {row} "))
+        wrong = readme.replace(line, line.replace(f"[`{name}`](crates/{place})", other, 1))
+        yield refuses(f"a guarantee of {row} by what nothing calls", check, readme, wrong, f"{row}: neither")
+    called = readme.replace("[`driven_calls_end`](crates/line_sim/src/laws.rt): `driven`", "[`World::polite`](crates/line_sim/src/polite.rt)")
+    yield refuses("a guarantee by what tests alone call", check, readme, called, "`World::polite` of line_sim")
+    yield refuses("a clause of another function", check, readme, readme.replace("): `driven` |", "): `two` |"), "`two` is no clause")
+    other = readme.replace("[`IsLimited`](crates/stations/specs/Limits.antt)", "[`HoldsLive`](crates/line_sim/specs/Live.antt)")
+    yield refuses("a definition of another row", check, readme, other, "G8: no contract of the row rests on `HoldsLive`")
+    yield refuses("a README without the table", check, readme, readme.replace("| Guarantee |", "| Promise |"), "no table")
+    dropped = {**texts, "crates/faxtool/src/main.rt": texts["crates/faxtool/src/main.rt"].replace("run_request", "run_other")}
+    yield refuses("a program that calls it no more", lambda own: cited.cited_faults(readme, BOOK, *cited.read(own)), texts, dropped, "run_request")
+
+
 def main():
-    seen = [name for trials in (comments, clauses, documents, tables, at_size, links, witnesses, of_house) for name in trials()]
+    trials = (comments, clauses, documents, tables, at_size, links, witnesses, of_house, guarantees)
+    seen = [name for trial in trials for name in trial()]
     print(f"test_checks: {len(seen)} changes are refused: {', '.join(seen)}")
 
 
