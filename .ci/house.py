@@ -61,6 +61,7 @@ SHELL_KINDS = {
 # What flake8 says that isn't a fault here, and why.
 PYTHON_KINDS = {
     "E203": "a slice has spaces around its colon, as formatters write it",
+    "E731": "a short function has a name where it is used",
     "E402": "what a script imports of its neighbours comes after their folder is named",
 }
 PACKAGE_KINDS = "F401"  # of an `__init__.py`: what it imports it gives on

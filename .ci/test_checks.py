@@ -1,6 +1,6 @@
 #!/usr/bin/env python3
-"""Sees each check of .ci/definitions.py, .ci/witnesses.py, .ci/house.py, .ci/cited.py and docs/book.py refuse what it is there for, by a
-change of what it reads:
+"""Sees each check of .ci/definitions.py, .ci/witnesses.py, .ci/house.py, .ci/cited.py, .ci/told.py and docs/book.py refuse what it is there
+for, by a change of what it reads:
 
     .ci/test_checks.py
 
@@ -13,6 +13,7 @@ sys.dont_write_bytecode = True
 import cited
 import definitions as checks
 import house
+import told
 import witnesses as given
 
 books = checks.books
@@ -278,8 +279,50 @@ def guarantees():
     yield refuses("a program that calls it no more", lambda own: cited.cited_faults(readme, BOOK, *cited.read(own)), texts, dropped, "run_request")
 
 
+def words():
+    """A word of a fault changed in each place that tells it, in code and definition both, and in what quotes it; and the files to touch."""
+    texts, here = told.read()
+
+    def wordings(own):
+        return [*told.wording_faults(own), *told.quote_faults(own)]
+
+    def changed_in(*paths, old="past the row's width", new="past its width"):
+        assert all(old in texts[path] for path in paths)
+        return {**texts, **{path: texts[path].replace(old, new) for path in paths}}
+
+    assert not [*wordings(texts), *told.touch_faults(texts, here)]
+    for path in (told.FAULT_KINDS, told.FAULT_SPECS, told.HELP, told.PAGE, told.TABLE, "README.md", ".ci/end_to_end/words.sh"):
+        yield refuses(f"a changed word of a fault in {path}", wordings, texts, changed_in(path), "past its width")
+    both = changed_in(told.FAULT_KINDS, told.FAULT_SPECS)
+    yield refuses("a changed word of a fault in code and definition", wordings, texts, both, ".ci/end_to_end/decode.sh quotes")
+    for path in ("crates/run_tables/src/fault.rt", told.C_TEXTS):
+        yield refuses(f"a changed word of a fault in {path}", wordings, texts, changed_in(path, old="the run passes", new="a run passes"), "fault 12")
+    for paths in ((told.EXPLAIN,), (told.EXPLAIN_SPECS,), (told.EXPLAIN, told.EXPLAIN_SPECS)):
+        other = changed_in(*paths, old="no such file or folder", new="no such file")
+        yield refuses(f"a changed reason in {' and '.join(paths)}", wordings, texts, other, "no such file")
+    other = changed_in("crates/commands/src/words/told.rt", old="and a call carries", new="and calls carry")
+    yield refuses("changed words of a page", wordings, texts, other, "fault 26")
+    same = changed_in(told.HELP, old="an image's file is empty", new="the file is empty")
+    yield refuses("words that are listed as others, and are the same", wordings, texts, same, "fault 7")
+    for name, path, old, new, said in [
+        ("a file to touch that isn't there", "CONTRIBUTING.md", "`control.rt`", "`controls.rt`", "there is no crates/signals/src/controls.rt"),
+        ("no row for an option", "CONTRIBUTING.md", "| an option |", "| one more |", "no row for an option"),
+        ("a signal that a file hasn't", "crates/signals/src/control.rt", "Rnr", "Busy", "Rnr isn't in crates/signals/src/control.rt"),
+        ("a kind of fault that a file hasn't", told.FAULT_KINDS, "Backwards", "Wayward", "Backwards isn't in crates/faults/src/fault_kind.rt"),
+        ("a fault that the man page hasn't", told.PAGE, "\n16\n", "\n160\n", "16 isn't in docs/man/faxtool.1"),
+        ("a fault that no case has", told.HELP, "\n  32  ", "\n  33  ", "33 isn't in .ci/end_to_end"),
+        ("a status without a text", told.C_TEXTS, "case G3_BACKWARDS: return", "case 0: return", "G3_BACKWARDS isn't in bindings/g3fax.c"),
+        ("a command that doesn't run", "crates/faxtool/src/dispatch.rt", "Several", "Severed", "Several isn't in crates/faxtool/src/dispatch.rt"),
+        ("a command without a case", "crates/faxtool/src/args/table.rt", 'name: "show"', 'name: "exhibit"', "exhibit isn't in .ci/end_to_end"),
+        ("an option without a case", "crates/faxtool/src/args/table.rt", '"no-refuse"', '"no-refusing"', "no-refusing isn't in .ci/end_to_end"),
+        ("an option without a completion", "docs/completion/faxtool.fish", "-l whole", "-l entire", "whole isn't in docs/completion/faxtool.fish"),
+        ("a code that a file hasn't", "crates/page_code/specs/Codings.antt", "OneDim", "OneWay", "OneDim isn't in crates/page_code/specs"),
+    ]:
+        yield refuses(name, lambda own: told.touch_faults(own, here), texts, changed_in(path, old=old, new=new), said)
+
+
 def main():
-    trials = (comments, clauses, documents, tables, at_size, links, witnesses, of_house, guarantees)
+    trials = (comments, clauses, documents, tables, at_size, links, witnesses, of_house, guarantees, words)
     seen = [name for trial in trials for name in trial()]
     print(f"test_checks: {len(seen)} changes are refused: {', '.join(seen)}")
 
