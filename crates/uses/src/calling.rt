@@ -2,7 +2,9 @@
 //! script, its picture, and many calls over a bad line; a command of the program.
 
 ghost use Rattle.joined_terminals.specs.Calls.{TakesOut};
+ghost use Rattle.judged_calls.specs.SaidCalls.{RuleIsKeptOfPages};
 ghost use Rattle.line_sim.specs.Report.{Keeps};
+ghost use Rattle.referee.specs.declared.rule.Rule.TheVariants.{NotCome};
 ghost use Rattle.std.specs.Prelude.{IfOk};
 
 use call_pictures::{Ladder, WithDiagram, write_picture};
@@ -186,4 +188,11 @@ pub fn answer_call(
 /// What `faxtool version` does.
 pub fn print_version(context: &mut Context<'_>) -> Result<Completeness, ToolFault> {
     VersionCommand { proof: false }.run(context)
+}
+
+/// Returns nothing: no answerer here says by a PPR that a frame has come which can't have, whatever the line loses.
+pub fn told_frames_have_come()
+    ensures { RuleIsKeptOfPages NotCome }
+{
+    judged_calls::frames_come();
 }
