@@ -132,8 +132,9 @@ class Tester:
         return frames + [b"\xff\x03\x86"] * 3, self.signal(["PPS", *words[2:5], self.last], True)
 
     def say(self, words):
+        """Says what a step says: a block's frames and its PPS, or a signal; after DCS a training check too."""
         if words[0] in self.pages:
-            frames, pps = self.block(words)
+            frames, _pps = self.block(words)
             bad = int(words[6]) if words[5:6] == ["but"] else None
             self.burst(self.carrier, "hdlc", FLAG * 100 + "".join(frame(one, at != bad) for at, one in enumerate(frames)) + FLAG * 2)
             words = ["PPS", *words[2:5], self.last]
@@ -144,6 +145,7 @@ class Tester:
             self.burst(self.carrier, "raw", "0" * (int(self.carrier.split("-")[1]) * 3 // 2))
 
     def wants(self, words):
+        """Hears what a step says, or raises `Wrong`."""
         carrier, heard = self.hear()
         if words[0] in self.pages:
             frames, pps = self.block(words)

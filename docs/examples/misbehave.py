@@ -70,8 +70,8 @@ def with_speed(said, bits):
     return said
 
 
-# What a word with a count does to that many frames of a signal, or of any: the signals, the contents in place of one, and what is said of it.
 def replaces(names, made, words):
+    """What a word with a count does to that many frames: the signals that it is for, the contents in place of one, and the word's line of help."""
     return names, lambda said: [made(said)], words
 
 
