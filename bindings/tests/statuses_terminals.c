@@ -185,8 +185,8 @@ static void nexts(void)
     uint32_t next = 99;
     IS(G3_EMPTY_HANDLE, g3_terminal_next(&t, &next, &at));
     IS(G3_OK, g3_answerer_new(&t, &caps));
-    IS(G3_BAD_LENGTH, g3_terminal_next(&t, NULL, &at));
-    IS(G3_BAD_LENGTH, g3_terminal_next(&t, &next, NULL));
+    IS(G3_NO_ADDRESS, g3_terminal_next(&t, NULL, &at));
+    IS(G3_NO_ADDRESS, g3_terminal_next(&t, &next, NULL));
     IS(1, next == 99 && at == 77);
     IS(G3_OK, g3_terminal_next(&t, &next, &at));
     IS(1, next == G3_NEXT_SEND && at == 77); /* the first DIS */

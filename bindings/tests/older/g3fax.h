@@ -164,12 +164,15 @@ G3_CHECK g3_status g3_caller_new(g3_terminal *out, g3_document *document, const 
 G3_CHECK g3_status g3_terminal_hear(g3_terminal *terminal, const uint8_t *octets, size_t length);
 G3_CHECK g3_status g3_terminal_hear_frame(g3_terminal *terminal, const uint8_t *content, size_t length);
 G3_CHECK g3_status g3_terminal_hear_training(g3_terminal *terminal, const uint8_t *octets, size_t length);
+G3_CHECK g3_status g3_terminal_missed(g3_terminal *terminal);
 enum g3_wait { G3_T1 = 1, G3_T2 = 2, G3_T4 = 4, G3_T5 = 5 };
 G3_CHECK g3_status g3_terminal_wait_over(g3_terminal *terminal, uint32_t wait);
 uint32_t g3_wait_millis(uint32_t wait);
-enum g3_line { G3_QUIET = 1, G3_CARRIER = 2 };
+enum g3_line { G3_QUIET = 1, G3_CARRIER = 2, G3_ENDED = 3 };
 G3_CHECK g3_status g3_terminal_tick(g3_terminal *terminal, uint64_t now, uint32_t line);
 G3_CHECK g3_status g3_terminal_due(const g3_terminal *terminal, uint64_t *at);
+enum g3_next { G3_NEXT_NOTHING = 0, G3_NEXT_SEND = 1, G3_NEXT_AT = 2 };
+G3_CHECK g3_status g3_terminal_next(const g3_terminal *terminal, uint32_t *next, uint64_t *at);
 G3_CHECK g3_status g3_terminal_most_seconds(g3_terminal *terminal, uint32_t seconds);
 G3_CHECK g3_status g3_terminal_set_busy(g3_terminal *terminal, uint32_t is);
 g3_status g3_terminal_stop(g3_terminal *terminal);
