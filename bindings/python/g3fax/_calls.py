@@ -3,11 +3,11 @@
 from __future__ import annotations
 
 import ctypes
-from typing import TYPE_CHECKING, Any, Iterable, Iterator, List, NamedTuple, Optional, Union
+from typing import TYPE_CHECKING, Any, Iterable, Iterator, List, NamedTuple, Optional, Tuple, Union
 
 from ._frames import _dis, _params, _wish, frames
-from ._native import _NOTHING, _Burst, _Caps, _Handle, _library, _Params, _Progress, _Signal, _State, _u64
-from ._names import Carrier, Coding, Dis, End, Kind, Listens, Modems, Params, Progress, Refusal, State, Wait
+from ._native import _NOTHING, _Burst, _Caps, _Handle, _library, _Params, _Progress, _Signal, _State, _u32, _u64
+from ._names import Carrier, Coding, Dis, End, Kind, Listens, Modems, Next, Params, Progress, Refusal, State, Wait
 from ._owning import _done, _flag, _is, _number, _octets, _Owner, _taken
 from ._pages import Page
 
@@ -88,16 +88,22 @@ class Terminal(_Owner):
         with self._lock:
             _done(_library.g3_terminal_hear_training(self._at, address, length))
 
+    def missed(self) -> None:
+        """What it listens for didn't come. An awaited training check counts as a bad one then; else nothing changes."""
+        with self._lock:
+            _done(_library.g3_terminal_missed(self._at))
+
     def wait_over(self, wait: Wait) -> None:
         """A wait is over; one that doesn't run changes nothing."""
         with self._lock:
             _done(_library.g3_terminal_wait_over(self._at, _number(wait, "wait")))
 
-    def tick(self, now: int, carrier: bool = False) -> None:
-        """Tells the time, in milliseconds since the call was set up, and whether a carrier of either station is on, or has just ended. A
-        wait that is over on a quiet line ends: wait_over isn't called then."""
+    def tick(self, now: int, carrier: bool = False, *, ended: bool = False) -> None:
+        """Tells the time, in milliseconds since the call was set up, and whether a carrier of either station is on; `ended`: that of the
+        other station has just ended, so that it is this one's turn. A wait that is over on a quiet line ends: wait_over isn't called then."""
+        line = 3 if _flag(ended, "ended") else 2 if _flag(carrier, "carrier") else 1
         with self._lock:
-            _done(_library.g3_terminal_tick(self._at, _number(now, "now", 64), 2 if _flag(carrier, "carrier") else 1))
+            _done(_library.g3_terminal_tick(self._at, _number(now, "now", 64), line))
 
     @property
     def due(self) -> Optional[int]:
@@ -111,6 +117,14 @@ class Terminal(_Owner):
             return None
         _done(status)
         return at.value
+
+    @property
+    def next(self) -> Tuple[Next, Optional[int]]:
+        """What a program does next, and of Next.AT the time, as `due` has it."""
+        what, at = _u32(), _u64()
+        with self._lock:
+            _done(_library.g3_terminal_next(self._at, ctypes.byref(what), ctypes.byref(at)))
+        return Next(what.value), at.value if what.value == Next.AT else None
 
     def most_seconds(self, seconds: int) -> None:
         """How many seconds the call may last, by the time of the ticks; 0 for no limit. The first tick of a quiet line from then on stops it;

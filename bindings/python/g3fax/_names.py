@@ -126,6 +126,14 @@ class Wait(_Choice):
         return int(_library.g3_wait_millis(self))
 
 
+class Next(_Choice):
+    """What a program does next with a terminal: it waits for what comes; it sends the burst that waits; or it waits until a time."""
+
+    NOTHING = 0
+    SEND = 1
+    AT = 2
+
+
 class Listens(_Choice):
     """What a station listens for: V.21 alone; a training check; V.21, and the frames of a page; or these with V.21 first."""
 
