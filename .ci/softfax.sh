@@ -45,13 +45,13 @@ builds() {
 # the headers of POSIX, in a few lines
 mkdir -p "$work/posix/sys"
 cp "$top/.ci/posix.h" "$work/posix/"
-for name in errno fcntl poll sched signal stdarg strings termios time unistd sys/ioctl sys/stat; do
+for name in errno fcntl poll sched signal stdarg strings termios time unistd sys/file sys/ioctl sys/stat; do
     echo '#include <posix.h>' > "$work/posix/$name.h"
 done
 for name in stdio stdlib string; do printf '#include_next <%s.h>\n#include <posix.h>\n' $name > "$work/posix/$name.h"; done
 
 objects=
-compiles behind t31 class1 class1_words stopped trial line paper terminal identity bits
+compiles behind t31 class1 class1_setup class1_frame class1_words stopped trial line paper terminal identity bits
 shared=$objects
 builds bits-test
 timeout 600 "$work/bits-test" > "$work/output" || fails bits-test
@@ -60,11 +60,18 @@ builds memory-test --wrap=malloc --wrap=realloc --wrap=free
 timeout 600 "$work/memory-test" 40 > "$work/output" || fails memory-test
 sed 's/^/softfax: /' "$work/output"
 objects=$shared
-compiles on_pty pty call stop told record pages tty inits
+compiles on_pty pty call stop told record pages tty lock inits
 shared=$objects
 builds class1-test
 mkdir "$work/papers"
 timeout 600 "$work/class1-test" "$work/papers" > "$work/output" 2>&1 || fails class1-test
+grep '^softfax: ' "$work/output"
+
+compiles service
+shared=$objects
+builds service-test
+mkdir "$work/soak"
+timeout 900 "$work/service-test" "$work/soak" > "$work/output" 2>&1 || { tail -n 20 "$work/soak/records" >> "$work/output"; fails service-test; }
 grep '^softfax: ' "$work/output"
 
 CC=${CC:-cc}

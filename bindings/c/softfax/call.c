@@ -2,6 +2,7 @@
 #include "record.h"
 #include "stop.h"
 #include "told.h"
+#include <stdio.h>
 
 static int fails(const char *why)
 {
@@ -17,9 +18,27 @@ int call_prepare(call *it)
     g3_status status = g3_document_new(&it->document);
     if (status != G3_OK) return fails(g3_status_text(status));
     for (int i = 0; i < given->count; i++) {
-        if (!pages_add(&it->document, given->pages[i], given->fine, &it->sizes[i])) return 0;
+        it->count = pages_add(&it->document, given->pages[i], given->fine, it->sent, it->count);
+        if (it->count < 0) return 0;
     }
     return 1;
+}
+
+void call_fails(call *it, const char *name, const char *why)
+{
+    if (it->why != NULL) return;
+    snprintf(it->fault, sizeof it->fault, "%.200s: %.190s", name, why);
+    it->why = it->fault;
+}
+
+void call_rings(call *it, const char *number, const char *name)
+{
+    if (it->given->calls) return;
+    snprintf(it->caller_number, sizeof it->caller_number, "%s", number);
+    snprintf(it->caller_name, sizeof it->caller_name, "%s", name);
+    record_call record = {it->number, it->caller_number, it->caller_name};
+    if (it->given->json) record_call_json(&record);
+    else record_call_words(&record);
 }
 
 static g3_status make_station(call *it, uint32_t modems)
@@ -39,7 +58,9 @@ int call_begin(call *it, uint32_t modems, const modem_kind *kind, modem *modem)
     if (status != G3_OK) return fails(g3_status_text(status));
     it->terminal = terminal_new(&it->station, given->calls ? NULL : &pages, kind, modem);
     if (it->terminal == NULL) return fails(g3_status_text(G3_NO_MEMORY));
-    it->folder = (pages_folder){given->folder, 0, 0, given->json, given->square, terminal_peer_name(it->terminal)};
+    it->folder = (pages_folder){.name = given->folder, .is_of_calls = given->most_calls != 0, .most_pages = given->most_pages,
+        .most_octets = given->most_octets, .json = given->json, .square = given->square, .peer = terminal_peer_name(it->terminal)};
+    stop_call_begins();
     if (!given->refuses_ctc) terminal_answer_ctc(it->terminal);
     if (given->identity != NULL) terminal_identify(it->terminal, given->identity);
     if (given->tells) terminal_tell(it->terminal, given->calls ? "caller" : "answerer", told);
@@ -51,10 +72,10 @@ static void note_confirmed(call *it)
 {
     g3_state state = G3_INIT(g3_state);
     if (!it->given->calls || !it->given->json || g3_terminal_state(&it->station, &state) != G3_OK) return;
-    for (; it->confirmed < state.pages && it->confirmed < (uint64_t)it->given->count; it->confirmed++) {
-        const g3_size *size = &it->sizes[it->confirmed];
-        record_page record = {"confirmed", it->confirmed + 1, it->given->pages[it->confirmed], size->width, size->rows, size->fine,
-            0, terminal_peer_name(it->terminal)};
+    for (; it->confirmed < state.pages && it->confirmed < (uint64_t)it->count; it->confirmed++) {
+        const pages_sent *sent = &it->sent[it->confirmed];
+        record_page record = {"confirmed", it->confirmed + 1, sent->file, sent->image, sent->size.width, sent->size.rows,
+            sent->size.fine, 0, terminal_peer_name(it->terminal)};
         record_page_json(&record);
     }
 }
@@ -84,6 +105,16 @@ int call_is_over(const call *it)
     return it->terminal != NULL && terminal_is_over(it->terminal);
 }
 
+/* Why a call has ended so, in words, if that is known. A normal end has none, whatever came after it, as NO CARRIER. */
+static const char *why(const call *it, uint32_t end)
+{
+    if (end == G3_END_NORMAL) return NULL;
+    if (it->terminal != NULL && terminal_why(it->terminal) != NULL) return terminal_why(it->terminal);
+    if (it->folder.fault[0] != 0) return it->folder.fault;
+    if (it->why == NULL && (end == G3_END_STOPPED || it->stop != STOP_NOT)) return stop_why();
+    return it->why;
+}
+
 int call_end(call *it)
 {
     static const char *const ENDS[] = {
@@ -91,17 +122,18 @@ int call_end(call *it)
         "page-too-long", "stopped", "line-lost"};
     const options *given = it->given;
     g3_state state = G3_INIT(g3_state);
-    record_end record = {"no-call", given->calls ? "confirmed" : "pages", it->folder.kept, "", it->why};
+    record_end record = {"no-call", given->calls ? "confirmed" : "pages", it->folder.kept, "", NULL,
+        {it->number, it->caller_number, it->caller_name}, it->folder.own, (uint64_t)it->millis / 1000};
     if (it->terminal != NULL && g3_terminal_state(&it->station, &state) == G3_OK && state.end < sizeof ENDS / sizeof ENDS[0]) {
         record.end = ENDS[state.end];
         if (given->calls) record.pages = state.pages;
         record.peer = terminal_peer_name(it->terminal);
         if (terminal_why(it->terminal) != NULL) record.end = "refused";
-        if (record.why == NULL) record.why = terminal_why(it->terminal);
     }
-    if (state.end == G3_END_NORMAL) record.why = NULL; /* what came after it, as NO CARRIER */
+    record.why = why(it, state.end);
     if (given->json) record_end_json(&record);
     else record_end_words(&record);
+    stop_call_ends();
     return state.end == G3_END_NORMAL;
 }
 
@@ -110,4 +142,5 @@ void call_free(call *it)
     terminal_free(it->terminal);
     g3_terminal_free(&it->station);
     g3_document_free(&it->document);
+    it->terminal = NULL;
 }

@@ -7,8 +7,11 @@
 
 typedef struct call {
     const options *given;
+    uint64_t number;            /* of many, from 1; 0: it is the only one */
+    char caller_number[32], caller_name[40]; /* as the modem has told them */
     g3_document document;       /* of a caller, until its station has it */
-    g3_size sizes[MOST_FILES];  /* of its pages */
+    pages_sent sent[MOST_IMAGES]; /* its pages */
+    int count;
     g3_terminal station;
     terminal *terminal;         /* NULL before the call is on */
     pages_folder folder;
@@ -16,11 +19,15 @@ typedef struct call {
     int stop;                   /* how it has been stopped */
     uint64_t confirmed;         /* pages of a caller that were told of */
     const char *why;            /* why there was no call, or why it was lost; NULL: nothing is known */
-    char fault[200];            /* the text of that, if the modem says why */
+    char fault[400];            /* the text of that */
 } call;
 
 /* Reads the pages, or looks at the folder; returns whether all is there. Every fault is told. */
 int call_prepare(call *it);
+/* The first fault is kept: why there is no call, or why it was lost. */
+void call_fails(call *it, const char *name, const char *why);
+/* A call has come that is answered now, from this number and name, as the modem says; "": it doesn't. */
+void call_rings(call *it, const char *number, const char *name);
 /* Begins the call over a modem that has no more than these, G3_V27TER, G3_V29 or G3_V17; returns whether it could. The modem stays the
  * program's. */
 int call_begin(call *it, uint32_t modems, const modem_kind *kind, modem *modem);

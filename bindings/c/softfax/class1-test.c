@@ -22,7 +22,7 @@ static const line_kind LINES[] = {
 };
 enum { LINES_COUNT = sizeof LINES / sizeof LINES[0] };
 
-static const soft_ways WAYS[] = {{0}, {.echoes = 1, .fixed = 1}, {.silent = 1, .fixed = 1}, {.xoff = 1}};
+static const soft_ways WAYS[] = {{0}, {.echoes = 1, .fixed = 1}, {.silent = 1, .fixed = 1}, {.xoff = 1}, {.repeats = 1}, {.chatty = 1}};
 enum { WAYS_COUNT = sizeof WAYS / sizeof WAYS[0] };
 
 static const char *folder;

@@ -1,22 +1,9 @@
-#include "class1.h"
+#include "class1_inner.h"
 #include "carriers.h"
-#include "class1_words.h"
-#include "waiting.h"
 #include <stdlib.h>
 #include <string.h>
 
-enum { ETX = 3, DLE = 16, XON = 17, XOFF = 19, CAN = 24, SUB = 26, LAST_FRAME = 0x10 };
-
-/* What the modem is doing. Each op but FREE, FRH and the data that come is bounded by LONGEST; FRH is ended by what the terminal says. */
-enum op {
-    FREE,                                                /* it takes a command */
-    SETS_UP, ASKS, DIALS, ANSWERS, AWAITS_SILENCE, ABORTS, GOES_ON_HOOK, /* a command with one result */
-    FRH, FRH_DATA, FRH_END,                              /* +FRH: until CONNECT, a frame, and the result after it */
-    FRM, FRM_DATA, FRM_END,
-    FTH, FTH_HELD, FTH_END,                              /* held: CONNECT has come, and there is no frame yet */
-    FTM, FTM_DATA, FTM_END,
-    OPS
-};
+enum { ETX = 3, DLE = 16, XON = 17, XOFF = 19, CAN = 24, SUB = 26 };
 
 /* Durations in milliseconds. */
 static const int LONGEST[OPS] = {
@@ -31,50 +18,12 @@ enum {
     LATEST_LONG = 4700,  /* the same with the long training */
     LONGEST_UNSURE = 8000, /* +FRH of a modem that has had no result for the last command: is it still there? */
     AFTER_ERROR = 100,
-    AFTER_CAN = 3000,    /* in this time a NO CARRIER is its result, late, and the call goes on */
-    NEXT_RING = 10000,   /* a ring that comes later is another call's */
-    BETWEEN_ASKS = 30000, /* while nobody calls: whether the modem is still there */
+    AFTER_CAN = 3000,    /* in this time an OK is its result, late */
+    AFTER_ABORT = 25,    /* without an octet: whatever a modem says behind a CAN isn't taken for a result of the next command */
     LET_SPEAK = 200      /* after a signal that is answered the terminal speaks in 75 ms: +FRH isn't begun, or it would be broken off */
 };
 enum { MOST_ERRORS = 5 };     /* of +FRH, one after the other: the modem is on hook */
 enum { MOST_UNANSWERED = 4 }; /* ops with no result, one after the other: the modem has fallen silent */
-struct modem {
-    port port;
-    class1_setup setup;
-    int64_t now, since, moved;  /* since: when the op began; moved: the last octet of data that came or went */
-    int64_t aborted, rang, asked;
-    int stage, op, step;        /* step: of the set-up */
-    int tries;                  /* how often the command of this step was given again */
-    int init;                   /* how many of the program's commands were given */
-    int lists;                  /* it has listed what it sends or receives by */
-    int rings, hangs_up, is_gone, is_lost;
-    char why[160];
-    char command[80], line[80]; /* the last command; a result as it comes */
-    int filled, echoes;         /* echoes: the command came back, and no result yet */
-    int unanswered;
-    uint32_t speeds;            /* the set of its list */
-    ring out;
-    /* what is said */
-    int says, in_turn, wants_silence;
-    uint32_t carrier;
-    int brief;
-    frames contents;            /* by V.21 */
-    const uint8_t *octets;      /* of a page or a check */
-    uint64_t count, at;
-    int stopped, ended_again;   /* stopped: by XOFF; ended_again: DLE ETX was written once more */
-    int64_t connected;
-    /* what is heard */
-    uint8_t frame[MOST_FRAME];  /* the frame that comes, with its check sequence */
-    int length, escaped;        /* escaped: DLE has come */
-    frames heard;
-    ring page;
-    int is_listening, is_brief, page_next, answers_next;
-    uint32_t listens;
-    int64_t not_before;
-    int in_signal, more;        /* more: frames of this signal are still to come */
-    int begins, trains, ends, errors;
-};
-
 /* Octets and commands */
 
 static void trace(const modem *it, char way, const char *text, int count)
@@ -99,14 +48,14 @@ static void flush(modem *it)
     }
 }
 
-static void begin(modem *it, int op)
+void class1_begin(modem *it, int op)
 {
     it->op = op;
     it->since = it->moved = it->now;
 }
 
-/* Gives a command; what a modem has left unread for long is dropped, so that there is room. */
-static void command(modem *it, int op, const char *text)
+/* What a modem has left unread for long is dropped, so that there is room. */
+void class1_command(modem *it, int op, const char *text)
 {
     static const uint8_t END = '\r';
     snprintf(it->command, sizeof it->command, "%s", text);
@@ -114,7 +63,7 @@ static void command(modem *it, int op, const char *text)
     if (!ring_put(&it->out, (const uint8_t *)it->command, (int)strlen(it->command)) || !ring_put(&it->out, &END, 1)) it->out.count = 0;
     flush(it);
     trace(it, '>', it->command, 0);
-    begin(it, op);
+    class1_begin(it, op);
 }
 
 /* Writes octets of data, with each DLE doubled. */
@@ -127,7 +76,7 @@ static void put_data(modem *it, const uint8_t *octets, int count)
     }
 }
 
-static void put_end(modem *it)
+void class1_put_end(modem *it)
 {
     static const uint8_t END[] = {DLE, ETX};
     ring_put(&it->out, END, 2);
@@ -140,8 +89,7 @@ static void mind_xoff(modem *it, int is)
     if (it->port.mind_xoff != NULL) it->port.mind_xoff(it->port.user, is);
 }
 
-/* The first reason is kept: what follows is its consequence. */
-static void fail(modem *it, const char *why, const char *what)
+void class1_fail(modem *it, const char *why, const char *what)
 {
     if (it->why[0] == 0) snprintf(it->why, sizeof it->why, "%s%s", why, what);
     it->is_lost = it->stage == CLASS1_IS_ON;
@@ -155,9 +103,9 @@ static void abort_op(modem *it)
     ring_put(&it->out, &END, 1);
     flush(it);
     trace(it, '>', "CAN", 0);
-    it->filled = 0;
+    it->filled = it->is_aborted = 0;
     it->aborted = it->now;
-    begin(it, ABORTS);
+    class1_begin(it, ABORTS);
 }
 
 /* What is heard */
@@ -183,10 +131,10 @@ static void end_signal(modem *it, int is_answered)
  * after a bad one there may be another. */
 static void end_frame(modem *it, int is_well, int is_end)
 {
-    int is_good = is_well && it->length >= 5;
-    int is_last = it->length >= 2 && (it->frame[1] & LAST_FRAME) != 0;
-    if (is_good) put_frame(&it->heard, it->frame, it->length - 2);
-    trace(it, '<', is_good ? "frame of octets" : "bad frame of octets", it->length);
+    int is_good = is_well && class1_frame_is_whole(&it->frame);
+    int is_last = class1_frame_is_last(&it->frame);
+    if (is_good) put_frame(&it->heard, it->frame.octets, it->frame.length - 2);
+    trace(it, '<', is_good ? "frame of octets" : "bad frame of octets", it->frame.length);
     it->op = FREE;
     if (is_end || (is_good && is_last)) end_signal(it, 1);
     else it->more = 1;
@@ -225,10 +173,10 @@ static void say_frame(modem *it)
         return;
     }
     put_data(it, content, length);
-    put_end(it);
+    class1_put_end(it);
     trace(it, '>', "frame of octets", length);
     it->ended_again = 0;
-    begin(it, FTH_END);
+    class1_begin(it, FTH_END);
 }
 
 /* Hands over octets of a page: a second's worth before the line has carried it, and a quarter more than it carries, so that no modem runs
@@ -247,65 +195,9 @@ static void say_page(modem *it)
         flush(it);
     }
     if (it->at < it->count || it->out.count > 0) return;
-    put_end(it);
+    class1_put_end(it);
     trace(it, '>', "octets", (int)it->count);
-    begin(it, FTM_END);
-}
-
-/* Set-up */
-
-static const char *const STEPS[] = {
-    "ATZ", "ATE0V1Q0", "ATX4S7=60" /* BUSY is told, and a carrier awaited for 60 s */, NULL /* the program's */, "AT+FCLASS=1",
-    "AT+FAR=1", NULL /* what it sends or receives by */};
-enum { FIRST, ANSWERS_IN_WORDS, DIALS_WELL, INIT, CLASS, ADAPTS, SPEEDS, STEPS_COUNT };
-
-static void set_up(modem *it)
-{
-    if (it->step == INIT && it->init == it->setup.init_count) it->step++;
-    if (it->step == INIT) command(it, SETS_UP, it->setup.inits[it->init]);
-    else if (it->step == SPEEDS) command(it, SETS_UP, it->setup.number != NULL ? "AT+FTM=?" : "AT+FRM=?");
-    else if (it->step < STEPS_COUNT) command(it, SETS_UP, STEPS[it->step]);
-    else {
-        it->stage = CLASS1_WAITS;
-        it->asked = it->now;
-        if (it->setup.number == NULL) return;
-        char text[80];
-        snprintf(text, sizeof text, "ATDT%s", it->setup.number);
-        command(it, DIALS, text);
-    }
-}
-
-/* A step of the set-up has its result. What a modem needn't have may be an error: how it dials, adaptive reception, and the list of its
- * speeds. One that has a list, and not the slowest modem of all on it, can't make a call. */
-static void end_step(modem *it, int is_well)
-{
-    if (!is_well && it->step == CLASS && it->tries == 0) {
-        it->tries++;
-        command(it, SETS_UP, "AT+FCLASS=1.0"); /* the later text of T.31, with the same commands */
-        return;
-    }
-    if (!is_well && (it->step == ANSWERS_IN_WORDS || it->step == CLASS || it->step == INIT)) {
-        fail(it, it->step == CLASS ? "it has no Class 1: it says ERROR to " : "it says ERROR to ", it->command);
-        return;
-    }
-    if (it->step == SPEEDS && it->lists && class1_modems(it->speeds) == 0) {
-        fail(it, "it has no V.27 ter by ", it->command);
-        return;
-    }
-    it->op = FREE;
-    it->tries = 0;
-    if (it->step == INIT && ++it->init < it->setup.init_count) return;
-    it->step++;
-}
-
-/* A step of the set-up has no result. The first command is given twice: it may have ended what an earlier program left. */
-static void miss_step(modem *it)
-{
-    if (it->step == FIRST && it->tries++ == 0) {
-        put_end(it);
-        command(it, SETS_UP, STEPS[FIRST]);
-    } else if (it->echoes) fail(it, "it echoes, but has no result for ", it->command);
-    else fail(it, "it doesn't answer to ", it->command);
+    class1_begin(it, FTM_END);
 }
 
 /* Commands */
@@ -316,23 +208,23 @@ static void say(modem *it)
     char text[24];
     if (it->wants_silence) {
         it->wants_silence = 0;
-        command(it, AWAITS_SILENCE, "AT+FRS=7");
+        class1_command(it, AWAITS_SILENCE, "AT+FRS=7");
         return;
     }
     snprintf(text, sizeof text, it->carrier == G3_V21 ? "AT+FTH=%d" : "AT+FTM=%d", class1_number(it->carrier, it->brief));
-    command(it, it->carrier == G3_V21 ? FTH : FTM, text);
+    class1_command(it, it->carrier == G3_V21 ? FTH : FTM, text);
 }
 
 static void listen(modem *it)
 {
     char text[24];
-    it->length = it->escaped = 0;
+    it->escaped = 0;
     if (!it->page_next || it->more) {
-        command(it, FRH, "AT+FRH=3");
+        class1_command(it, FRH, "AT+FRH=3");
         return;
     }
     snprintf(text, sizeof text, "AT+FRM=%d", class1_number(it->listens, it->is_brief));
-    command(it, FRM, text);
+    class1_command(it, FRM, text);
 }
 
 static int is_receiving(int op)
@@ -348,20 +240,11 @@ static void make_way(modem *it)
     else if (it->hangs_up && it->op >= FTH) {
         it->out.count = 0;
         mind_xoff(it, 0);
-        put_end(it);
-        put_end(it); /* the first one may follow a single DLE */
-        begin(it, ABORTS);
+        class1_put_end(it);
+        class1_put_end(it); /* the first one may follow a single DLE */
+        it->is_aborted = 0;
+        class1_begin(it, ABORTS);
     } else if (it->says && is_receiving(it->op)) abort_op(it);
-}
-
-/* Waits for a call: answers it once it has rung so often. */
-static void await_ring(modem *it)
-{
-    if (it->setup.number != NULL) return;
-    if (it->rings <= 0) {
-        it->stage = CLASS1_IS_ON;
-        command(it, ANSWERS, "ATA");
-    } else if (it->now - it->asked >= BETWEEN_ASKS) command(it, ASKS, "AT");
 }
 
 /* Gives the next command, if one is due. */
@@ -372,9 +255,9 @@ static void advance(modem *it)
     if (it->hangs_up) {
         it->hangs_up = 0;
         it->stage = CLASS1_HANGS_UP;
-        command(it, GOES_ON_HOOK, "ATH0");
-    } else if (it->stage == CLASS1_SETS_UP) set_up(it);
-    else if (it->stage == CLASS1_WAITS) await_ring(it);
+        class1_command(it, GOES_ON_HOOK, "ATH0");
+    } else if (it->stage == CLASS1_SETS_UP) class1_set_up(it);
+    else if (it->stage == CLASS1_WAITS) class1_await_ring(it);
     else if (it->stage != CLASS1_IS_ON) return;
     else if (it->says) say(it);
     else if (it->more || (it->is_listening && it->now >= it->not_before)) listen(it);
@@ -382,85 +265,44 @@ static void advance(modem *it)
 
 /* Results */
 
-/* A frame begins. */
-static void connect_frame(modem *it)
+void class1_connect_frame(modem *it)
 {
-    it->errors = it->length = it->escaped = 0;
-    begin(it, FRH_DATA);
+    it->errors = 0;
+    class1_frame_begin(&it->frame);
+    class1_begin(it, FRH_DATA);
     begin_signal(it);
 }
 
-static void take_ring(modem *it)
-{
-    if (it->now - it->rang > NEXT_RING) it->rings = it->setup.rings;
-    it->rang = it->asked = it->now;
-    it->rings--;
-}
-
-/* A result of what makes or ends the call. */
-static void take_call_result(modem *it, int is, const char *line)
-{
-    switch (it->op) {
-    case SETS_UP:
-        if (is != RING) end_step(it, is == OK);
-        return;
-    case ASKS:
-        if (is == RING) {
-            take_ring(it);
-            return;
-        }
-        it->op = FREE;
-        it->asked = it->now;
-        return;
-    case DIALS:
-        if (is == CONNECT) {
-            it->stage = CLASS1_IS_ON;
-            connect_frame(it);
-        } else if (is != RING) fail(it, "the modem says ", line);
-        return;
-    case ANSWERS:
-        if (is == CONNECT) begin(it, FTH_HELD);
-        else if (is != RING) fail(it, "the modem says ", line);
-        return;
-    case GOES_ON_HOOK:
-        it->op = FREE;
-        it->stage = CLASS1_IS_OVER;
-        return;
-    default: /* FREE */
-        if (is == RING && it->stage == CLASS1_WAITS) take_ring(it);
-        if (is == NO_CARRIER && it->stage == CLASS1_IS_ON && it->now - it->aborted > AFTER_CAN) fail(it, "the modem says ", line);
-    }
-}
-
-/* A result of +FRH. */
+/* A result of +FRH. OK can't be one before CONNECT: it is that of a CAN, late. */
 static void take_frh_result(modem *it, int is)
 {
-    if (is == CONNECT) connect_frame(it);
-    if (is == CONNECT || is == ADAPTS_TO_V21) return;
+    if (is == CONNECT) class1_connect_frame(it);
+    if (is == CONNECT || is == ADAPTS_TO_V21 || (is == OK && it->now - it->aborted < AFTER_CAN)) return;
     end_signal(it, 0);
     it->op = FREE;
     it->not_before = it->now + AFTER_ERROR;
-    if (is == ERROR && ++it->errors == MOST_ERRORS) fail(it, "the modem has hung up", "");
+    if (is == ERROR && ++it->errors == MOST_ERRORS) class1_fail(it, "the modem has hung up", "");
 }
 
 /* A result of +FRM. */
 static void take_frm_result(modem *it, int is)
 {
     if (is == CONNECT) {
-        begin(it, FRM_DATA);
+        class1_begin(it, FRM_DATA);
         begin_signal(it);
         it->trains = 1;
         return;
     }
+    if (is == OK && it->now - it->aborted < AFTER_CAN) return; /* late, as of +FRH */
     it->page_next = 0; /* another carrier, which is V.21 */
     it->op = is == ADAPTS_TO_V21 ? FRH : FREE;
 }
 
-/* A result of +FTH or +FTM. OK can't be one before CONNECT: it is that of a CAN, late. */
+/* A result of +FTH or +FTM. Before CONNECT it can't be OK, and after a CAN what isn't ERROR is the CAN's, late. */
 static void take_said_result(modem *it, int is)
 {
-    int is_late = (it->op == FTH || it->op == FTM) && is == OK;
-    if (is_late) return;
+    int is_first = it->op == FTH || it->op == FTM, is_late = it->now - it->aborted < AFTER_CAN && is != CONNECT && is != ERROR;
+    if (is_first && (is == OK || is_late)) return;
     if (is != CONNECT) end_said(it);
     else if (it->op == FTH || it->op == FTH_END) say_frame(it);
     else if (it->op == FTM) {
@@ -468,7 +310,7 @@ static void take_said_result(modem *it, int is)
         it->connected = it->now;
         it->ended_again = 0;
         mind_xoff(it, 1);
-        begin(it, FTM_DATA);
+        class1_begin(it, FTM_DATA);
     }
 }
 
@@ -477,17 +319,18 @@ static void take_result(modem *it, const char *line)
     int is = class1_result(line);
     if (is == NO_RESULT) {
         if (strcmp(line, it->command) == 0) it->echoes = 1;
-        else if (it->op == SETS_UP && it->step == SPEEDS) it->lists |= class1_add_list(&it->speeds, line);
+        else class1_note_line(it, line);
         return;
     }
     it->unanswered = it->echoes = 0;
     switch (it->op) {
     case AWAITS_SILENCE: it->op = FREE; return;
-    case ABORTS:
-        if (is != CONNECT && is != RING) it->op = FREE;
-        return;
+    case ABORTS: it->is_aborted |= is != CONNECT && is != RING; return;
     case FRH: take_frh_result(it, is); return;
-    case FRH_END: end_frame(it, is == OK, is == NO_CARRIER); return;
+    case FRH_END:
+        if (is == CONNECT) class1_connect_frame(it); /* and the frame before it had no result */
+        else end_frame(it, is == OK, is == NO_CARRIER);
+        return;
     case FRM: take_frm_result(it, is); return;
     case FRM_END:
         it->page_next = 0;
@@ -495,7 +338,7 @@ static void take_result(modem *it, const char *line)
         it->op = FREE;
         return;
     case FTH: case FTH_HELD: case FTH_END: case FTM: case FTM_DATA: case FTM_END: take_said_result(it, is); return;
-    default: take_call_result(it, is, line);
+    default: class1_call_result(it, is, line);
     }
 }
 
@@ -517,36 +360,50 @@ static void take_text(modem *it, uint8_t octet)
     take_result(it, it->line);
 }
 
-/* An octet of a frame or a page. */
-static void take_data(modem *it, uint8_t octet)
+/* An octet of a page. */
+static void take_page(modem *it, uint8_t octet)
 {
-    if (it->op == FRM_DATA) ring_put(&it->page, &octet, 1);
-    else if (it->length < MOST_FRAME) it->frame[it->length++] = octet;
+    static const uint8_t TWO[] = {DLE, DLE};
+    if (!it->escaped && octet != DLE) ring_put(&it->page, &octet, 1);
+    else if (it->escaped && octet == DLE) ring_put(&it->page, TWO, 1);
+    else if (it->escaped && octet == SUB) ring_put(&it->page, TWO, 2);
+    if (it->escaped && octet == ETX) {
+        it->filled = 0;
+        class1_begin(it, FRM_END);
+    }
+    it->escaped = !it->escaped && octet == DLE;
 }
 
-static void end_data(modem *it)
+/* An octet of a frame. */
+static void take_frame_octet(modem *it, uint8_t octet)
 {
+    int is = class1_frame_take(&it->frame, octet);
+    if (is == NO_RESULT && !it->frame.is_ended) return;
+    if (is != NO_RESULT) trace(it, '<', it->frame.line, 0);
     it->filled = 0;
-    begin(it, it->op == FRH_DATA ? FRH_END : FRM_END);
+    if (is == CONNECT) {
+        class1_begin(it, FRH_DATA);
+        return;
+    }
+    class1_begin(it, FRH_END);
+    if (is != NO_RESULT) take_result(it, it->frame.line);
+}
+
+/* XON and XOFF mean something while data are given to the modem. */
+static int minds_xoff(int op)
+{
+    return op == FTH_END || op == FTM_DATA || op == FTM_END;
 }
 
 static void take_octet(modem *it, uint8_t octet)
 {
-    if (it->op != FRH_DATA && it->op != FRM_DATA) {
-        if (octet == XON || octet == XOFF) it->stopped = octet == XOFF && it->op >= FTH;
-        else take_text(it, octet);
-        return;
-    }
-    it->moved = it->now;
-    if (!it->escaped) {
-        it->escaped = octet == DLE;
-        if (!it->escaped) take_data(it, octet);
-        return;
-    }
-    it->escaped = 0;
-    if (octet == DLE || octet == SUB) take_data(it, DLE);
-    if (octet == SUB) take_data(it, DLE);
-    if (octet == ETX) end_data(it);
+    if (it->op == ABORTS) it->moved = it->now;
+    if (it->op == FRH_DATA || it->op == FRM_DATA) {
+        it->moved = it->now;
+        if (it->op == FRM_DATA) take_page(it, octet);
+        else take_frame_octet(it, octet);
+    } else if (octet == XON || octet == XOFF) it->stopped = octet == XOFF && minds_xoff(it->op);
+    else take_text(it, octet);
 }
 
 /* Reads as much as there is room for, but for no longer than a while: what isn't read waits in the tty. */
@@ -569,7 +426,7 @@ static void read_port(modem *it)
 static int is_mute(modem *it)
 {
     if (++it->unanswered < MOST_UNANSWERED) return 0;
-    fail(it, "the modem has fallen silent", "");
+    class1_fail(it, "the modem has fallen silent", "");
     return 1;
 }
 
@@ -577,12 +434,12 @@ static int is_mute(modem *it)
 static void end_late_op(modem *it)
 {
     switch (it->op) {
-    case SETS_UP: miss_step(it); return;
+    case SETS_UP: class1_miss_step(it); return;
     case DIALS:
-        fail(it, "nobody answers with a fax's signal", "");
-        begin(it, DIALS); /* it is still to be aborted */
+        class1_fail(it, "nobody answers with a fax's signal", "");
+        class1_begin(it, DIALS); /* it is still to be aborted */
         return;
-    case ANSWERS: fail(it, "the modem doesn't answer the call", ""); return;
+    case ANSWERS: class1_fail(it, "the modem doesn't answer the call", ""); return;
     case ASKS:
         if (!is_mute(it)) it->op = FREE; /* and it is asked again */
         return;
@@ -599,15 +456,15 @@ static void end_late_op(modem *it)
     case FTM_DATA: /* it takes no more: what is left isn't said */
         it->out.count = 0;
         mind_xoff(it, 0);
-        put_end(it);
-        begin(it, FTM_END);
+        class1_put_end(it);
+        class1_begin(it, FTM_END);
         return;
     case FTH_END: case FTM_END:
         if (!it->ended_again) { /* octets may have been lost, and it still waits for the end */
             it->ended_again = 1;
             mind_xoff(it, 0);
-            put_end(it);
-            begin(it, it->op);
+            class1_put_end(it);
+            class1_begin(it, it->op);
             return;
         }
         break;
@@ -633,6 +490,9 @@ static void end_op(modem *it)
         it->page_next = 0;
         abort_op(it);
         return;
+    case ABORTS:
+        if (it->is_aborted && still >= AFTER_ABORT) it->op = FREE;
+        return;
     case FRH_DATA: case FRH_END: case FRM_DATA: case FRM_END:
         if (still <= LONGEST_GAP) return;
         it->page_next = 0;
@@ -656,7 +516,7 @@ int class1_step(modem *it, int64_t now)
     advance(it);
     flush(it);
     if (it->is_gone && it->stage < CLASS1_IS_OVER) {
-        fail(it, "the tty is gone", "");
+        class1_fail(it, "the tty is gone", "");
         it->stage = CLASS1_IS_OVER;
     }
     return it->stage;
@@ -752,19 +612,6 @@ static void class1_forget(modem *it)
 
 const modem_kind modem_of_class1 = {class1_free, class1_begin_tone, class1_begin_carrier, class1_say, class1_cut, class1_listen,
     class1_hear, class1_is_noisy, class1_hush, class1_forget, 1, 1};
-
-modem *class1_new(const port *port, const class1_setup *setup)
-{
-    static const modem fresh;
-    modem *it = malloc(sizeof *it);
-    if (it == NULL) return NULL;
-    *it = fresh;
-    it->port = *port;
-    it->setup = *setup;
-    it->rings = setup->rings;
-    it->aborted = -AFTER_CAN - 1;
-    return it;
-}
 
 void class1_hang_up(modem *it)
 {

@@ -27,6 +27,11 @@ enum { CLASS1_SETS_UP, CLASS1_WAITS, CLASS1_IS_ON, CLASS1_HANGS_UP, CLASS1_IS_OV
 int class1_step(modem *it, int64_t now);
 /* The fastest modems that it has said it sends by, of a caller, or receives by: G3_V27TER, G3_V29 or G3_V17. 0: it hasn't said, or none. */
 uint32_t class1_speeds(const modem *it);
+/* After the call's end: waits for another ring, with no set-up. Returns whether it does: the modem must have said that it is on hook. */
+int class1_again(modem *it);
+/* Who calls, as the modem has told it (Caller-ID, NMBR and NAME); "": it hasn't. */
+const char *class1_caller_number(const modem *it);
+const char *class1_caller_name(const modem *it);
 /* Why there was no call, or why it was lost, in words; NULL: nothing went wrong. */
 const char *class1_why(const modem *it);
 /* Returns whether the call is lost: the modem is gone, has said so, or has fallen silent. */

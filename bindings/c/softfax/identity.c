@@ -1,5 +1,6 @@
 #include "identity.h"
 #include "carriers.h"
+#include "names.h"
 #include <stdlib.h>
 #include <string.h>
 
@@ -27,7 +28,7 @@ void identity_write(const char *text, int calls, uint8_t *content)
 int identity_read(const uint8_t *content, uint64_t length, char text[IDENTITY_MOST + 1])
 {
     size_t filled = 0;
-    if (length < 3 || (content[2] != CSI && (content[2] & ~OF_CALLER) != TSI)) return 0;
+    if (!is_frame(content, length) || (content[2] != CSI && (content[2] & ~OF_CALLER) != TSI)) return 0;
     size_t count = length < IDENTITY_CONTENT ? (size_t)length - 3 : IDENTITY_MOST;
     for (size_t i = count; i > 0; i--) {
         uint8_t is = content[2 + i];

@@ -32,6 +32,8 @@ class Call:
         self.kills_at = more.get("kills_at")     # SIGTERM comes half a second after this is told
         self.must_say = more.get("must_say", b"")
         self.floods = more.get("floods", False)  # it says octets without end
+        self.kills_by = more.get("kills_by", signal.SIGTERM)
+        self.status = more.get("status", 1)
         self.told = b""
 
     def serve(self, master, slave, program):
@@ -39,7 +41,7 @@ class Call:
         ends, kill = time.monotonic() + self.within, None
         while program.poll() is None and time.monotonic() < ends:
             if kill is not None and time.monotonic() > kill:
-                program.send_signal(signal.SIGTERM)
+                program.send_signal(self.kills_by)
                 self.kills_at = kill = None
             if self.floods and select.select([], [master], [], 0)[1]:
                 os.write(master, b"~" * 1000)
@@ -74,7 +76,7 @@ class Call:
             if is_late:
                 program.kill()
             said = program.stderr.read()
-        if is_late or program.returncode != 1 or self.wanted not in said or self.must_say not in self.told:
+        if is_late or program.returncode != self.status or self.wanted not in said or self.must_say not in self.told:
             late = "too late" if is_late else f"with status {program.returncode}"
             FAULTS.append(f"{self.name}: softfax ended {late} after {time.monotonic() - began:.1f} s, was heard to say {self.told!r}, "
                           f"and told: {said}")
@@ -106,6 +108,13 @@ def dials(told):
     return b"" if told.startswith(b"ATD") else OK
 
 
+def rings(told):
+    """Two rings with the caller's number between them, and then nobody is there."""
+    if told == b"AT+FRM=?":
+        return OK + b"\r\nRING\r\n\r\nDATE = 1129\r\n\r\nNMBR = 5551234\r\n\r\nNAME = A \"NAME\"\r\n\r\nRING\r\n"
+    return b"\r\nNO CARRIER\r\n" if told == b"ATA" else OK
+
+
 ANSWER = ["--answer", sys.argv[3]]
 CALL = ["--call", "5551234", sys.argv[2]]
 BUSY = replies(D=b"\r\nBUSY\r\n")
@@ -128,6 +137,12 @@ CALLS = [
     Call("a modem that falls silent while nobody calls", "the modem has fallen silent", until(b"=?", OK, OK), words=ANSWER, within=120),
     Call("SIGTERM while it dials", "end no-call confirmed 0", dials, kills_at=b"ATD", must_say=b"ATH0\r"),
     Call("SIGTERM while it waits for a ring", "end no-call pages 0", lambda told: OK, words=ANSWER, kills_at=b"=?", must_say=b"ATH0\r"),
+    Call("Caller-ID", '{"call":1,"number":"5551234","name":"A \\u0022NAME\\u0022"}', rings,
+         words=[*ANSWER, "--calls", "1", "--rings", "2", "--json"], must_say=b"ATA\rATH0\r", status=0),
+    Call("SIGUSR1 while it waits for a ring", "", lambda told: OK, words=[*ANSWER, "--calls", "forever"], kills_at=b"=?",
+         kills_by=signal.SIGUSR1, must_say=b"ATH0\r", status=0),
+    Call("a modem that fails while many calls are awaited", "the modem has fallen silent", until(b"=?", OK, OK),
+         words=[*ANSWER, "--calls", "forever"], within=120),
     Call("no ring in time", "end no-call pages 0", lambda told: OK, words=[*ANSWER, "--most-seconds", "2"], must_say=b"ATH0\r"),
 ]
 

@@ -1,20 +1,22 @@
 #include "options.h"
 #include "g3fax.h"
 #include "identity.h"
+#include "told.h"
 #include <stdio.h>
 #include <stdlib.h>
 #include <string.h>
 
+#define MOST_LIMIT UINT64_C(1000000000000)
 enum { MOST_TEXT = 60 }; /* characters of a number that is dialled, or a command of the set-up */
 
 void options_usage(void)
 {
     fprintf(stderr,
         "usage: softfax --call PAGE.pbm.. | --answer DIR   --rx IN --tx OUT [--wav FILE]\n"
-        "       softfax --tty DEVICE --call NUMBER PAGE.pbm.. | --answer DIR [--rings N]\n"
-        "       [--init COMMAND|NAME].. [--xon] [--trace-at FILE]\n"
-        "  both [--modems v17|v29|v27ter] [--code mmr|mh] [--fine] [--square] [--no-ctc] [--id NAME] [--most-seconds N] [--json]\n"
-        "       [--tell]\n");
+        "       softfax --tty DEVICE --call NUMBER PAGE.pbm.. | --answer DIR [--rings N] [--calls N|forever]\n"
+        "       [--wait-tty] [--init COMMAND|NAME].. [--xon] [--trace-at FILE]\n"
+        "  both [--modems v17|v29|v27ter] [--code mmr|mh] [--fine] [--square] [--no-ctc] [--id NAME] [--json] [--tell]\n"
+        "       [--most-seconds N] (14400 if not given, four hours; 0: none) [--most-pages N] [--most-octets N]\n");
 }
 
 /* The place of a word in a list that ends with NULL, from 1; 0 if it isn't there. */
@@ -26,12 +28,37 @@ static uint32_t place_of(const char *word, const char *const *list)
     return 0;
 }
 
+/* Reads a number up to `most`; returns whether it is one. */
+static int read_number(const char *word, uint64_t most, uint64_t *out)
+{
+    size_t length = strlen(word);
+    if (length == 0 || length > 18 || strspn(word, "0123456789") != length) return 0;
+    *out = strtoull(word, NULL, 10);
+    return *out <= most;
+}
+
 /* Reads a number from 1 to `most`; 0 if it is none. */
 static int number_of(const char *word, int most)
 {
-    char *end = NULL;
-    unsigned long number = strtoul(word, &end, 10);
-    return *word >= '0' && *word <= '9' && *end == 0 && number <= (unsigned long)most ? (int)number : 0;
+    uint64_t number = 0;
+    return read_number(word, (uint64_t)most, &number) ? (int)number : 0;
+}
+
+/* Reads the longest time of a call. Where one call is awaited, one that is given limits the wait too. */
+static int read_seconds(options *out, const char *value)
+{
+    uint64_t seconds = 0;
+    if (!read_number(value, 1000000, &seconds)) return 0;
+    out->most_seconds = (int)seconds;
+    out->limits_wait = seconds > 0;
+    return 1;
+}
+
+/* Reads how many calls are answered. */
+static int read_calls(options *out, const char *value)
+{
+    out->most_calls = strcmp(value, "forever") == 0 ? FOREVER : number_of(value, 1000000000);
+    return out->most_calls != 0;
 }
 
 /* Returns whether a text can be written to a modem as it is. */
@@ -42,6 +69,16 @@ static int is_command(const char *text)
         if (text[i] < ' ' || text[i] > '~') return 0;
     }
     return length > 0 && length <= MOST_TEXT;
+}
+
+/* Returns whether a text is a number to dial, and not a command beside it (V.250, 6.3.1). That it isn't is told. */
+static int is_number(const char *text)
+{
+    static const char ALPHABET[] = "0123456789*#+ABCD,W@!()- ";
+    size_t length = strlen(text);
+    if (length > 0 && length <= MOST_TEXT && strspn(text, ALPHABET) == length) return 1;
+    told_fault("the number", "it is not of 1 to 60 digits, spaces and * # + A B C D , W @ ! ( ) -");
+    return 0;
 }
 
 /* Reads an option that is a text. */
@@ -72,7 +109,10 @@ static int read_value(options *out, const char *name, const char *value)
     if (strcmp(name, "--modems") == 0) return (out->modems = place_of(value, MODEMS)) != 0;
     if (strcmp(name, "--code") == 0) return (out->coding = place_of(value, CODES)) != 0;
     if (strcmp(name, "--rings") == 0) return (out->rings = number_of(value, 100)) != 0;
-    if (strcmp(name, "--most-seconds") == 0) return (out->most_seconds = number_of(value, 1000000)) != 0;
+    if (strcmp(name, "--calls") == 0) return read_calls(out, value);
+    if (strcmp(name, "--most-seconds") == 0) return read_seconds(out, value);
+    if (strcmp(name, "--most-pages") == 0) return read_number(value, MOST_LIMIT, &out->most_pages) && out->most_pages > 0;
+    if (strcmp(name, "--most-octets") == 0) return read_number(value, MOST_LIMIT, &out->most_octets) && out->most_octets > 0;
     if (strcmp(name, "--init") == 0) return add_init(out, value);
     return read_text(out, name, value);
 }
@@ -82,7 +122,7 @@ static int read_flag(options *out, const char *name)
 {
     const struct { const char *name; int *to; } FLAGS[] = {
         {"--call", &out->calls}, {"--fine", &out->fine}, {"--square", &out->square}, {"--no-ctc", &out->refuses_ctc},
-        {"--json", &out->json}, {"--tell", &out->tells}, {"--xon", &out->xon}};
+        {"--json", &out->json}, {"--tell", &out->tells}, {"--xon", &out->xon}, {"--wait-tty", &out->waits_for_tty}};
     for (size_t i = 0; i < sizeof FLAGS / sizeof FLAGS[0]; i++) {
         if (strcmp(name, FLAGS[i].name) == 0) return *FLAGS[i].to = 1;
     }
@@ -102,11 +142,12 @@ static void take_number(options *out)
 static int is_command_line(const options *it)
 {
     int has_streams = it->rx != NULL && it->tx != NULL, has_stream = it->rx != NULL || it->tx != NULL || it->wav != NULL;
-    int is_of_tty = it->init_count > 0 || it->trace != NULL || it->xon;
+    int is_of_tty = it->init_count > 0 || it->trace != NULL || it->xon || it->most_calls != 0 || it->waits_for_tty;
     if (it->calls == it->answers || it->calls != (it->count > 0)) return 0;
+    if (it->calls && (it->most_calls != 0 || it->most_pages > 0 || it->most_octets > 0)) return 0;
     if (it->identity != NULL && !identity_is(it->identity)) return 0;
     if (it->tty == NULL) return has_streams && !is_of_tty;
-    if (it->calls && (it->number == NULL || !is_command(it->number))) return 0;
+    if (it->calls && (it->number == NULL || !is_number(it->number))) return 0;
     return !has_stream;
 }
 
@@ -121,6 +162,7 @@ int options_read(options *out, int argc, char **argv)
         else i++;
     }
     out->answers = out->folder != NULL;
+    if (out->most_calls != 0) out->limits_wait = 0;
     take_number(out);
     return is_command_line(out);
 }

@@ -6,6 +6,7 @@
 #include <fcntl.h>
 #include <string.h>
 #include <sys/stat.h>
+#include <time.h>
 #include <unistd.h>
 
 static int fails(const char *name, const char *why)
@@ -14,35 +15,66 @@ static int fails(const char *name, const char *why)
     return 0;
 }
 
-static g3_status add(g3_document *document, const uint8_t *octets, size_t length, int fine, g3_size *size, uint64_t *images)
+/* How long the header of a raw PBM image is: P4, a width and a height, with white space and comments before each, and one octet. The library
+ * has read it before. */
+static size_t header_of(const uint8_t *octets, size_t length)
+{
+    size_t at = 2;
+    for (int number = 0; number < 2; number++) {
+        int is_comment = 0;
+        for (; at < length && (is_comment || octets[at] < '0' || octets[at] > '9'); at++) {
+            if (octets[at] == '#') is_comment = 1;
+            if (octets[at] == '\n' || octets[at] == '\r') is_comment = 0;
+        }
+        while (at < length && octets[at] >= '0' && octets[at] <= '9') at++;
+    }
+    return at + 1;
+}
+
+/* Adds the first image of octets to a document, and fills `size`; returns why it can't. */
+static const char *add(g3_document *document, const uint8_t *octets, size_t length, int fine, g3_size *size, uint64_t *images)
 {
     g3_page page = G3_EMPTY;
     g3_status status = g3_page_read_pbm(octets, length, (uint32_t)fine, &page, images);
     size->size = sizeof *size;
     if (status == G3_OK) status = g3_page_size(&page, size);
+    int is_wide_enough = status != G3_OK || size->width == 1728 || size->width == 2048 || size->width == 2432;
+    if (status == G3_OK && !is_wide_enough) status = G3_NOT_CALLABLE;
     if (status == G3_OK) status = g3_document_push(document, &page);
     g3_page_free(&page);
-    return status;
+    return status == G3_OK ? NULL : g3_status_text(status);
 }
 
-/* Returns whether a call can have a page of this width. */
-static int is_wide_enough(const char *name, uint32_t width)
+/* Adds each image of octets; returns why it can't. */
+static const char *add_all(
+    g3_document *document, const char *name, const uint8_t *octets, size_t length, int fine, pages_sent sent[MOST_IMAGES], int *count)
 {
-    return width == 1728 || width == 2048 || width == 2432 || fails(name, g3_status_text(G3_NOT_CALLABLE));
+    uint64_t images = 1, left = 0;
+    size_t at = 0;
+    for (unsigned image = 1; image <= images; image++) {
+        if (*count == MOST_IMAGES) return "a call has 1000 pages at most";
+        pages_sent *it = &sent[*count];
+        const char *why = add(document, octets + at, length - at, fine, &it->size, &left);
+        if (why != NULL) return why;
+        if (image == 1) images = left;
+        if (left != images + 1 - image) return "its images can't be told apart";
+        at += header_of(octets + at, length - at) + (size_t)((it->size.width + 7) / 8) * it->size.rows;
+        it->file = name;
+        it->image = images > 1 ? image : 0;
+        ++*count;
+    }
+    return NULL;
 }
 
-int pages_add(g3_document *document, const char *name, int fine, g3_size *size)
+int pages_add(g3_document *document, const char *name, int fine, pages_sent sent[MOST_IMAGES], int count)
 {
     size_t length = 0;
-    uint64_t images = 0;
     errno = 0;
     uint8_t *octets = read_file(name, &length);
-    if (octets == NULL) return fails(name, errno != 0 ? strerror(errno) : "it is too long for a page");
-    g3_status status = add(document, octets, length, fine, size, &images);
+    if (octets == NULL) return fails(name, errno != 0 ? strerror(errno) : "it is too long for a page"), -1;
+    const char *why = add_all(document, name, octets, length, fine, sent, &count);
     free(octets);
-    if (status != G3_OK) return fails(name, g3_status_text(status));
-    if (images != 1) return fails(name, "it has more than one image: only files with one are sent");
-    return is_wide_enough(name, size->width);
+    return why == NULL ? count : (fails(name, why), -1);
 }
 
 int pages_is_folder(const char *name)
@@ -61,6 +93,19 @@ static int sync_file(int file)
     return 1;
 }
 
+/* Notes why a page isn't kept. */
+static int refuses(pages_folder *folder, const char *name, const char *why)
+{
+    snprintf(folder->fault, sizeof folder->fault, "%.4000s: %.90s", name, why);
+    return 0;
+}
+
+/* The folder that pages go to. */
+static const char *place(const pages_folder *folder)
+{
+    return folder->is_of_calls ? folder->own : folder->name;
+}
+
 /* Opens a new file with a name that no page has: what a crash leaves isn't taken for one. -1 if none can be made. */
 static int open_part(const pages_folder *folder, char *name, size_t room)
 {
@@ -68,7 +113,7 @@ static int open_part(const pages_folder *folder, char *name, size_t room)
     int file = -1;
     errno = EEXIST;
     for (int i = 1; i <= MOST_PARTS && file < 0 && errno == EEXIST; i++) {
-        int length = snprintf(name, room, "%s/.softfax-%ld-%d.part", folder->name, (long)getpid(), i);
+        int length = snprintf(name, room, "%s/.softfax-%ld-%d.part", place(folder), (long)getpid(), i);
         if (length < 0 || (size_t)length >= room) return errno = ENAMETOOLONG, -1;
         file = open(name, O_WRONLY | O_CREAT | O_EXCL, S_IRUSR | S_IWUSR);
     }
@@ -80,7 +125,7 @@ static int name_part(pages_folder *folder, const char *part, char *name, size_t 
 {
     int linked;
     do {
-        int length = snprintf(name, room, "%s/page-%u.pbm", folder->name, ++folder->last);
+        int length = snprintf(name, room, "%s/page-%u.pbm", place(folder), ++folder->last);
         if (length < 0 || (size_t)length >= room) return errno = ENAMETOOLONG, 0;
         linked = link(part, name);
     } while (linked != 0 && errno == EEXIST);
@@ -112,18 +157,50 @@ static int write_all(int file, const uint8_t *octets, size_t length)
     return close(file) == 0 && is_whole;
 }
 
+/* Makes a folder for this call, named by the time and a number that no folder has: 2026-11-29T101500-1. */
+static int make_folder(pages_folder *folder)
+{
+    enum { MOST_FOLDERS = 10000 };
+    char when[32] = "";
+    time_t now = time(NULL);
+    struct tm is;
+    int made = -1;
+    if (localtime_r(&now, &is) == NULL || strftime(when, sizeof when, "%Y-%m-%dT%H%M%S", &is) == 0) return 0;
+    errno = EEXIST;
+    for (int i = 1; i <= MOST_FOLDERS && made != 0 && errno == EEXIST; i++) {
+        int length = snprintf(folder->own, sizeof folder->own, "%s/%s-%d", folder->name, when, i);
+        if (length < 0 || (size_t)length >= sizeof folder->own) errno = ENAMETOOLONG;
+        else made = mkdir(folder->own, S_IRUSR | S_IWUSR | S_IXUSR);
+    }
+    if (made == 0 && sync_folder(folder->name)) return 1;
+    int why = errno;
+    if (made == 0) rmdir(folder->own);
+    folder->own[0] = 0;
+    errno = why;
+    return 0;
+}
+
 /* Writes a new page of the folder: whole under a part's name, then under its own. */
 static int write_new(pages_folder *folder, const uint8_t *octets, size_t length, char *name, size_t room)
 {
-    char part[4096];
+    char part[PAGES_NAME + 100];
+    if (folder->is_of_calls && folder->own[0] == 0 && !make_folder(folder)) return refuses(folder, folder->name, strerror(errno));
     int file = open_part(folder, part, sizeof part), is_kept = 0;
-    if (file < 0) return fails(folder->name, strerror(errno));
-    if (!write_all(file, octets, length)) fails(part, strerror(errno));
-    else if (!name_part(folder, part, name, room)) fails(name, strerror(errno));
-    else if (!sync_folder(folder->name)) fails(folder->name, strerror(errno)), unlink(name);
+    if (file < 0) return refuses(folder, place(folder), strerror(errno));
+    if (!write_all(file, octets, length)) refuses(folder, part, strerror(errno));
+    else if (!name_part(folder, part, name, room)) refuses(folder, name, strerror(errno));
+    else if (!sync_folder(place(folder))) refuses(folder, place(folder), strerror(errno)), unlink(name);
     else is_kept = 1;
     unlink(part);
     return is_kept;
+}
+
+/* Returns whether a page of so many octets is within the limits. */
+static int is_within(pages_folder *folder, uint64_t octets)
+{
+    if (folder->most_pages > 0 && folder->kept >= folder->most_pages) return refuses(folder, place(folder), "a page past --most-pages");
+    if (folder->most_octets == 0 || octets <= folder->most_octets - folder->octets) return 1;
+    return refuses(folder, place(folder), "a page past --most-octets");
 }
 
 /* A page with each row twice. One that is too long for that stays as it is. */
@@ -154,6 +231,14 @@ static g3_status write_image(g3_page *page, uint8_t **octets, uint64_t *length)
     return status;
 }
 
+/* Tells of a page that is kept. */
+static void note(const pages_folder *folder, const char *name, const g3_size *size, int is_doubled)
+{
+    record_page record = {"stored", folder->kept, name, 0, size->width, size->rows, size->fine, is_doubled,
+        folder->peer != NULL ? folder->peer : ""};
+    if (folder->json) record_page_json(&record);
+}
+
 int pages_keep(void *user, g3_page *page)
 {
     pages_folder *folder = user;
@@ -161,17 +246,18 @@ int pages_keep(void *user, g3_page *page)
     g3_size size = G3_INIT(g3_size);
     uint8_t *octets = NULL;
     uint64_t length = 0;
-    char name[4096];
+    char name[PAGES_NAME + 100];
     g3_status status = g3_page_size(page, &size);
     if (status == G3_OK && folder->square) status = make_square(page, &size, &square);
     if (status == G3_OK) status = write_image(square.at != NULL ? &square : page, &octets, &length);
-    int is_doubled = square.at != NULL;
-    int is_kept = status == G3_OK ? write_new(folder, octets, length, name, sizeof name) : fails(folder->name, g3_status_text(status));
-    folder->kept += (unsigned)is_kept;
+    int is_doubled = square.at != NULL, is_kept = 0;
+    if (status != G3_OK) refuses(folder, place(folder), g3_status_text(status));
+    else is_kept = is_within(folder, length) && write_new(folder, octets, length, name, sizeof name);
     free(octets);
     g3_page_free(&square);
-    record_page record = {"stored", folder->kept, name, size.width, size.rows, size.fine, is_doubled,
-        folder->peer != NULL ? folder->peer : ""};
-    if (is_kept && folder->json) record_page_json(&record);
-    return is_kept;
+    if (!is_kept) return 0;
+    folder->kept++;
+    folder->octets += length;
+    note(folder, name, &size, is_doubled);
+    return 1;
 }

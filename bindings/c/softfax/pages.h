@@ -1,21 +1,36 @@
-/* Pages in files for softfax. Every fault is told on standard error. */
+/* Pages in files for softfax. */
 #ifndef PAGES_H
 #define PAGES_H
 #include "g3fax.h"
 
-/* Adds the page of a raw PBM file to a document, and fills `size`; returns whether it could. */
-int pages_add(g3_document *document, const char *name, int fine, g3_size *size);
+enum { MOST_IMAGES = 1000, PAGES_NAME = 4096 };
+
+/* A page of a document, and where it is from. */
+typedef struct pages_sent {
+    const char *file;
+    unsigned image;   /* which image of the file it is, from 1; 0: the only one */
+    g3_size size;
+} pages_sent;
+
+/* Adds the pages of a raw PBM file, an image each, to a document that has `count` pages, and fills `sent` from there on. Returns how many it
+ * has then; -1: it can't, and that is told on standard error. */
+int pages_add(g3_document *document, const char *name, int fine, pages_sent sent[MOST_IMAGES], int count);
 
 /* Where an answerer keeps its pages. */
 typedef struct pages_folder {
-    const char *name;
-    unsigned last;    /* the number of the last file */
-    unsigned kept;    /* how many pages are there */
-    int json;         /* a record is written of each */
-    int square;       /* a page of 3.85 lines a millimeter has each row twice, so that its pixels are about square */
-    const char *peer; /* how the other station has named itself, for the records */
+    const char *name;      /* the folder, or that of the folders */
+    int is_of_calls;       /* each call has a folder of its own in it, which is made for the first page */
+    char own[PAGES_NAME];  /* that folder; "": there is none yet */
+    unsigned last;         /* the number of the last file */
+    unsigned kept;         /* how many pages are there */
+    uint64_t octets;       /* of their files */
+    uint64_t most_pages, most_octets; /* 0: no limit */
+    int json;              /* a record is written of each */
+    int square;            /* a page of 3.85 lines a millimeter has each row twice, so that its pixels are about square */
+    const char *peer;      /* how the other station has named itself, for the records */
+    char fault[PAGES_NAME + 100]; /* why the last page wasn't kept; "": it was */
 } pages_folder;
-/* Returns whether there is such a folder. */
+/* Returns whether there is such a folder; if not, that is told. */
 int pages_is_folder(const char *name);
 /* Keeps a page as a new file of the folder, page-1.pbm and so on, which its owner alone can read; returns whether it is there whole, and on
  * the disk. Fits terminal_pages. */

@@ -14,10 +14,36 @@ static void put_text(const char *name, const char *text)
     told_add("\"");
 }
 
+/* The members that say which call it is. */
+static void put_call(const record_call *it, char first)
+{
+    if (it->call > 0) told_add("%c\"call\":%llu", first, (unsigned long long)it->call);
+    if (it->number[0] != 0) put_text("number", it->number);
+    if (it->name[0] != 0) put_text("name", it->name);
+}
+
+void record_call_json(const record_call *it)
+{
+    if (it->call == 0) return;
+    put_call(it, '{');
+    told_add("}");
+    told_end();
+}
+
+void record_call_words(const record_call *it)
+{
+    if (it->call == 0) return;
+    told_add("softfax: call %llu", (unsigned long long)it->call);
+    if (it->number[0] != 0) told_add(" from %s", it->number);
+    if (it->name[0] != 0) told_add(" (%s)", it->name);
+    told_end();
+}
+
 void record_page_json(const record_page *it)
 {
     told_add("{\"%s\":%llu", it->what, (unsigned long long)it->number);
     put_text("file", it->file);
+    if (it->image > 0) told_add(",\"image\":%u", it->image);
     told_add(",\"width\":%u,\"rows\":%u,\"fine\":%s", it->width, it->rows, it->fine ? "true" : "false");
     if (it->square) told_add(",\"square\":true");
     if (it->peer[0] != 0) put_text("peer", it->peer);
@@ -30,6 +56,9 @@ void record_end_json(const record_end *it)
     told_add("{\"end\":\"%s\",\"%s\":%llu", it->end, it->what, (unsigned long long)it->pages);
     if (it->peer[0] != 0) put_text("peer", it->peer);
     if (it->why != NULL) put_text("why", it->why);
+    put_call(&it->of, ',');
+    if (it->folder[0] != 0) put_text("folder", it->folder);
+    if (it->seconds > 0) told_add(",\"seconds\":%llu", (unsigned long long)it->seconds);
     told_add("}");
     told_end();
 }
@@ -38,5 +67,6 @@ void record_end_words(const record_end *it)
 {
     if (it->why != NULL) told_add("softfax: %s\n", it->why);
     told_add("end %s %s %llu", it->end, it->what, (unsigned long long)it->pages);
+    if (it->folder[0] != 0) told_add(" in %s", it->folder);
     told_end();
 }

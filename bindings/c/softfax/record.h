@@ -3,11 +3,21 @@
 #define RECORD_H
 #include <stdint.h>
 
+/* A call that begins. */
+typedef struct record_call {
+    uint64_t call;            /* its number, from 1; 0: it is the only one */
+    const char *number, *name; /* who calls, as the modem says; "": it doesn't */
+} record_call;
+/* Tells of it, if there is anything to tell. */
+void record_call_json(const record_call *it);
+void record_call_words(const record_call *it);
+
 /* A page that an answerer has stored, or that a caller has had confirmed. */
 typedef struct record_page {
     const char *what;   /* "stored" or "confirmed" */
     uint64_t number;    /* from 1 */
     const char *file;
+    unsigned image;     /* of the file, from 1; 0: its only one */
     uint32_t width, rows, fine;
     int square;         /* the file has each row twice */
     const char *peer;   /* how the other station has named itself; "": not */
@@ -19,6 +29,9 @@ typedef struct record_end {
     const char *what;   /* "confirmed" or "pages" */
     uint64_t pages;
     const char *peer, *why; /* why: in words; NULL: nothing more is known */
+    record_call of;
+    const char *folder; /* of its pages; "": it has none of its own */
+    uint64_t seconds;
 } record_end;
 void record_end_json(const record_end *it);
 void record_end_words(const record_end *it);

@@ -97,11 +97,21 @@ echo taken > "$work/got/page-3.pbm"
 joins 0 0 "$work/records" -- "$work/1.pbm" --json --id "+49 30 1234"
 has() { grep -qF "$2" "$work/$1" || fails "the $1 recorded: $(cat "$work/$1")"; }
 has answerer '{"stored":1,"file":"'"$work"'/got/page-4.pbm","width":1728,"rows":200,"fine":false,"square":true,"peer":"+49 30 1234"}'
-has answerer '{"end":"normal","pages":1,"peer":"+49 30 1234"}'
+has answerer '{"end":"normal","pages":1,"peer":"+49 30 1234","seconds":'
 has caller '{"confirmed":1,"file":"'"$work"'/1.pbm","width":1728,"rows":200,"fine":false,"peer":"0 1"}'
-has caller '{"end":"normal","confirmed":1,"peer":"0 1"}'
+has caller '{"end":"normal","confirmed":1,"peer":"0 1","seconds":'
 [ "$(cat "$work/got/page-3.pbm")" = taken ] || fails "page-3.pbm was overwritten"
 [ "$(head -n 2 "$work/got/page-4.pbm" | tail -n 1)" = "1728 400" ] || fails "page-4.pbm isn't square"
+
+# files of several images are one call; a page past a limit isn't confirmed
+{ printf 'P4\n# two images\n1728\n#1 2\n200 '; tail -c 43200 "$work/1.pbm"; cat "$work/2.pbm"; } > "$work/both.pbm"
+printf '#!/bin/sh\nexec "%s" "$@" --json --most-pages 2 --most-octets 90000\n' "$softfax" > "$work/limits"
+chmod +x "$work/limits"
+joins 1 1 "$work/limits" -- "$work/both.pbm" "$work/1.pbm" --json
+for page in 1 2; do cmp "$work/$page.pbm" "$work/got/page-$((4 + page)).pbm" || fails "page $page of two images is another"; done
+has caller '{"confirmed":2,"file":"'"$work"'/both.pbm","image":2,"width":1728'
+has answerer '{"end":"stopped","pages":2,"why":"'"$work"'/got: a page past --most-pages","seconds":'
+rm "$work/got/page-5.pbm" "$work/got/page-6.pbm"
 
 # a caller without error correction
 mkfifo "$work/up" "$work/down"
@@ -110,7 +120,7 @@ answerer=$! status=0
 timeout 60 "$OUT/softfax-test" "$work" --refused "$work/down" "$work/up" || fails "a caller without error correction ended with status $?"
 wait "$answerer" || status=$?
 [ "$status" = 1 ] || fails "the answerer of a caller without error correction ended with status $status"
-has answerer '{"end":"refused","pages":0,"why":"the caller sends without error correction"}'
+has answerer '{"end":"refused","pages":0,"why":"the caller sends without error correction","seconds":'
 
 refuses 2 usage
 refuses 2 usage --call --rx /dev/null --tx /dev/null
@@ -119,14 +129,16 @@ refuses 2 usage --call "$work/1.pbm" --rx /dev/null --tx /dev/null --modems v8
 refuses 1 "no.pbm: No such file" --call "$work/no.pbm" --rx /dev/null --tx /dev/null
 refuses 1 "/dev/zero: it is too long" --call /dev/zero --rx /dev/null --tx /dev/null
 refuses 1 "call.wav: the header is no raw PBM header" --call "$work/call.wav" --rx /dev/null --tx /dev/null
+printf 'abc' > "$work/odd.raw"
 printf 'P4\n8 1\n.' > "$work/narrow.pbm"
 refuses 1 "1728, 2048 or 2432" --call "$work/narrow.pbm" --rx /dev/null --tx /dev/null
-cat "$work/narrow.pbm" "$work/narrow.pbm" > "$work/two.pbm"
-refuses 1 "two.pbm: it has more than one image" --call "$work/two.pbm" --rx /dev/null --tx /dev/null
+cat "$work/1.pbm" "$work/narrow.pbm" > "$work/two.pbm"
+refuses 1 "two.pbm: .*1728, 2048 or 2432" --call "$work/two.pbm" --rx /dev/null --tx /dev/null
+cat "$work/1.pbm" "$work/odd.raw" > "$work/two.pbm"
+refuses 1 "two.pbm: " --call "$work/two.pbm" --rx /dev/null --tx /dev/null
 refuses 1 "nowhere: No such file" --answer "$work/nowhere" --rx /dev/null --tx /dev/null
 refuses 1 "1.pbm: Not a directory" --answer "$work/1.pbm" --rx /dev/null --tx /dev/null
 refuses 1 "none.raw: No such file" --answer "$work" --rx "$work/none.raw" --tx /dev/null
-printf 'abc' > "$work/odd.raw"
 refuses 1 "odd.raw: it ends in the middle of a sample" --answer "$work" --rx "$work/odd.raw" --tx /dev/null
 refuses 1 "odd.raw: File exists" --answer "$work" --rx /dev/null --tx "$work/odd.raw"
 refuses 1 "call.wav: File exists" --answer "$work" --rx /dev/null --tx /dev/null --wav "$work/call.wav"
@@ -184,53 +196,81 @@ fi
 # modems that fail
 refuses 2 usage --tty /dev/null --call 1
 refuses 2 usage --tty /dev/null --call 1 "$work/1.pbm" --rx /dev/zero
+refuses 2 usage --tty /dev/null --call 1 "$work/1.pbm" --calls 2
+refuses 2 usage --tty /dev/null --answer "$work" --calls 0
+refuses 2 usage --answer "$work" --rx /dev/null --tx /dev/null --calls 2
+refuses 2 usage --answer "$work" --rx /dev/null --tx /dev/null --most-pages 0
+# who gives a number gives no commands: before the tty is opened
+for number in '5;+FCLASS=0' '555;H0' '' 'T5' '5"' "5$(printf '\r')ATH0" 5551234567890123456789012345678901234567890123456789012345678901; do
+    refuses 2 "the number: it is not of 1 to 60 digits" --tty "$work/none" --call "$number" "$work/1.pbm"
+done
+refuses 1 "none: No such file" --tty "$work/none" --call '+49 (30) 12-34,W@!*#ABCD' "$work/1.pbm"
 refuses 2 usage --tty /dev/null --call 1 "$work/1.pbm" --id "a name"
 refuses 2 usage --tty /dev/null --answer "$work" --init AT1 --init AT2 --init AT3 --init AT4 --init AT5
 refuses 1 "inits.txt: it doesn't have that modem" --tty /dev/null --call 1 "$work/1.pbm" --init another
 refuses 1 "none: No such file" --tty "$work/none" --call 1 "$work/1.pbm"
 refuses 1 "/dev/null: Inappropriate ioctl" --tty /dev/null --call 1 "$work/1.pbm"
 
+mkdir "$work/locks"
+timeout 300 python3 "$here/locks.py" "$softfax" "$work/locks"
+
 # two processes over two ttys, in real time
 "$OUT/bench" --ptys "$work/tty0" "$work/tty1" &
 exchange=$!
 while [ ! -e "$work/tty1" ]; do sleep 0.1; done
 
-# ttys CALLER_STATUS ANSWERER_STATUS PAGE SIGNALS: a call; its caller gets so many SIGINTs once its page goes out
+# ttys STATUS PAGE SIGNALS: a call; its caller gets so many SIGINTs once its page goes out
 ttys() {
     rm -f "$work/caller.at" # of the call before
-    timeout 120 "$softfax" --tty "$work/tty1" --answer "$work/got" --trace-at "$work/answerer.at" 2> "$work/answerer" &
-    answerer=$! status=0
-    timeout --foreground 120 "$softfax" --tty "$work/tty0" --call 5551234 "$3" --trace-at "$work/caller.at" 2> "$work/caller" &
+    status=0
+    timeout --foreground 120 "$softfax" --tty "$work/tty0" --call 5551234 "$2" --trace-at "$work/caller.at" 2> "$work/caller" &
     caller=$!
-    for number in $(seq "$4"); do
+    for number in $(seq "$3"); do
         until grep -q "AT+FTM=146" "$work/caller.at" 2> /dev/null || ! kill -0 "$caller" 2> /dev/null; do sleep 0.1; done
         sleep 0.5
         kill -INT "$caller" 2> /dev/null || fails "the caller had ended before signal $number"
     done
     wait "$caller" || status=$?
     [ "$status" = "$1" ] || { cat "$work/caller" "$work/caller.at" >&2; fails "the caller on a tty ended with status $status"; }
-    status=0
-    wait "$answerer" || status=$?
-    [ "$status" = "$2" ] || { cat "$work/answerer" "$work/answerer.at" >&2; fails "the answerer on a tty ended with status $status"; }
 }
 
-lock=/var/lock/LCK..$(basename "$(readlink "$work/tty0")")
-if (echo $$ > "$lock") 2> /dev/null; then
-    refuses 1 "process $$ has it" --tty "$work/tty0" --call 1 "$work/short.pbm"
-    echo 99999999 > "$lock" # a process that is gone
-fi
-ttys 0 0 "$work/short.pbm" 0
-cmp "$work/short.pbm" "$work/got/page-5.pbm" || fails "the page over two ttys is another"
+# a lock by the name that is given, or by that of the device; later what a process that is gone has left is taken over
+device=$(basename "$(readlink "$work/tty0")")
+for name in "$device" tty0; do
+    lock=/var/lock/LCK..$name
+    if (echo $$ > "$lock") 2> /dev/null; then
+        refuses 1 "process $$ has it" --tty "$work/tty0" --call 1 "$work/short.pbm"
+        [ "$(cat "$lock")" = $$ ] || fails "$lock was changed"
+        for other in "$device" tty0; do [ "$other" = "$name" ] || [ ! -e "/var/lock/LCK..$other" ] || fails "one of two locks is left"; done
+        rm "$lock"
+    fi
+done
+for name in "$device" tty0; do (echo 99999999 > "/var/lock/LCK..$name") 2> /dev/null || true; done
+# one process answers both calls, with a folder for each
+mkdir "$work/calls"
+timeout 240 "$softfax" --tty "$work/tty1" --answer "$work/calls" --calls 2 --trace-at "$work/answerer.at" 2> "$work/answerer" &
+answerer=$!
+ttys 0 "$work/short.pbm" 0
+cmp "$work/short.pbm" "$work/calls"/*/page-1.pbm || fails "the page over two ttys is another"
 grep -q "> AT+FCLASS=1" "$work/caller.at" || fails "the trace is $(cat "$work/caller.at")"
-[ ! -e "$lock" ] || fails "$lock is left"
+for name in "$device" tty0; do [ ! -e "/var/lock/LCK..$name" ] || fails "/var/lock/LCK..$name is left"; done
 # two signals amid a block of half a minute: it is cut, and DCN goes out
 { printf 'P4\n1728 200\n'; seq 200000 | gzip -n | head -c 43200; } > "$work/dense.pbm"
-ttys 1 1 "$work/dense.pbm" 2
+ttys 1 "$work/dense.pbm" 2
+status=0
+wait "$answerer" || status=$?
+[ "$status" = 0 ] || { cat "$work/answerer" "$work/answerer.at" >&2; fails "the answerer of two calls ended with status $status"; }
 grep -q "end stopped confirmed 0" "$work/caller" || fails "after two signals the caller said: $(cat "$work/caller")"
-grep -q "end peer-left pages 0" "$work/answerer" || fails "after two signals to the caller the answerer said: $(cat "$work/answerer")"
+said=$(tr '\n' ' ' < "$work/answerer")
+case $said in
+"softfax: call 1 end normal pages 1 in $work/calls/"*"-1 softfax: call 2 end peer-left pages 0 ") ;;
+*) fails "the answerer of two calls said: $said" ;;
+esac
+[ "$(grep -c "> ATZ" "$work/answerer.at")" = 1 ] || fails "the modem was set up twice"
+[ "$(find "$work/calls" -mindepth 1 -maxdepth 1 | wc -l)" = 1 ] || fails "a call without a page has a folder"
 kill "$exchange"
 exchange=
-echo "softfax: two processes carry a page over two ttys, and two signals end a call by DCN"
+echo "softfax: two processes carry a page over two ttys, and two signals end a call by DCN; one answers both calls"
 
 if command -v valgrind > /dev/null; then
     make -s -C "$here" LIB="$LIB" OUT="$OUT" memory-test class1-test

@@ -12,6 +12,8 @@ typedef struct soft_ways {
     int silent;  /* it doesn't say +FCERROR: +FRM goes on if V.21 comes */
     int fixed;   /* it has no adaptive reception: +FAR is an error */
     int late;    /* milliseconds until octets come to the host, as over USB */
+    int repeats; /* it says CONNECT twice before a frame */
+    int chatty;  /* it says other things too after CAN */
     int mute;    /* after so many milliseconds it says nothing more; 0: never */
 } soft_ways;
 

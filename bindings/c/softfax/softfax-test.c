@@ -8,11 +8,13 @@
  * PAIR is the caller and the answerer, as it:ours, where "it" is libspandsp's. Noise is in dBm0, the carriers are at -14. FOLDER is for
  * files of libspandsp's terminal, and for one process at a time. Status 1: a page is stored that isn't the document's, or a confirmed one
  * is missing; or a call fails on a clean line. */
+#include "names.h"
 #include "theirs.h"
 #include <signal.h>
 #include <stdio.h>
 #include <stdlib.h>
 #include <string.h>
+#include <spandsp.h>
 
 static const line_kind LINES[] = {
     {.name = "clean"},
@@ -178,6 +180,20 @@ static int call_over_pipes(char **names, const paper *papers, const char *folder
     return is_begun;
 }
 
+/* Whether frames have the names that libspandsp gives them, and no others do, but with the bit that says which side has sent it. */
+static int try_names(void)
+{
+    int wrong = 0;
+    for (unsigned control = 1; control < 256; control++) {
+        const char *name = frame_name((uint8_t)control), *wanted = t30_frametype((uint8_t)control);
+        if (strcmp(wanted, "???") == 0) wanted = control % 2 == 1 ? frame_name((uint8_t)(control - 1)) : "frame";
+        if (strcmp(name, wanted) == 0) continue;
+        fprintf(stderr, "softfax: the frame %02x is named %s and not %s\n", control, name, wanted);
+        wrong++;
+    }
+    return wrong == 0;
+}
+
 int main(int argc, char **argv)
 {
     static const uint32_t WIDTHS[MOST_PAGES] = {1728, 2432, 1728};
@@ -186,7 +202,7 @@ int main(int argc, char **argv)
     for (uint32_t i = 0; i < MOST_PAGES; i++) {
         if (!paper_new(&papers[i], WIDTHS[i], ROWS, i + 1)) return fprintf(stderr, "softfax-test: no memory\n"), 1;
     }
-    if (argc == 2) is_right = try_few(papers, argv[1]) && try_without_correction(papers, argv[1]);
+    if (argc == 2) is_right = try_names() && try_few(papers, argv[1]) && try_without_correction(papers, argv[1]);
     else if (argc >= 4 && strcmp(argv[2], "--table") == 0) is_right = try_table(argc - 3, argv + 3, papers, argv[1]);
     else if (argc == 9 && strcmp(argv[2], "--call") == 0) is_right = try_one(argv + 3, papers, argv[1]);
     else if (argc == 5 && strcmp(argv[2], "--refused") == 0) is_right = call_over_pipes(argv + 3, papers, argv[1]);

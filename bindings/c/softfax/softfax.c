@@ -9,10 +9,10 @@
  * time of a call over sound, and the machine's clock that of one over a modem. SIGINT and SIGTERM end it in order. Status 0: the call ended
  * normally; 1: it didn't, or a file is at fault; 2: the words are no command. */
 #include "call.h"
+#include "service.h"
 #include "sound.h"
 #include "stop.h"
 #include "told.h"
-#include "tty.h"
 #include <string.h>
 
 enum { PIECE = 4 * SLICE };
@@ -110,14 +110,15 @@ static int run_sound(call *it)
 
 int main(int argc, char **argv)
 {
-    options given = {.modems = G3_V17, .coding = G3_MMR, .rings = 1};
+    options given = {.modems = G3_V17, .coding = G3_MMR, .rings = 1, .most_seconds = MOST_SECONDS};
     static call it;
     if (!options_read(&given, argc, argv)) return options_usage(), 2;
     it.given = &given;
-    stop_watch(given.most_seconds);
+    stop_watch(given.most_seconds, given.limits_wait);
     int is_well = call_prepare(&it);
-    if (is_well) {
-        is_well = given.tty != NULL ? tty_run(&it) : run_sound(&it);
+    if (is_well && given.tty != NULL) is_well = service_run(&it);
+    else if (is_well) {
+        is_well = run_sound(&it);
         is_well &= call_end(&it);
     }
     call_free(&it);

@@ -34,6 +34,8 @@ struct soft {
     uint8_t frames[MOST_FRAMES][MOST_CONTENT]; /* that came, and that the host hasn't asked for */
     uint64_t lengths[MOST_FRAMES];
     int count;
+    int cans;                     /* how many CANs have come */
+    int64_t says_at;              /* when what follows a CAN is said; 0: nothing is */
 };
 
 /* What is said to the host is lost once the modem is mute. */
@@ -168,11 +170,32 @@ static void hold_back(soft *it)
     it->after = 0;
 }
 
+/* Ends what it does, and says one thing after the other, a CAN each; what it says behind its OK comes a little later. */
+static void obey_can(soft *it)
+{
+    static const char *const BEFORE[] = {"NO CARRIER", "CONNECT\r\n\xff\x13\x80\x10\x03\r\nOK", "+FCERROR", "~\x13?\x18", "OK", ""};
+    it->cans++;
+    if (it->ways.chatty) result(it, BEFORE[it->cans % 6], IDLE);
+    if (it->ways.chatty) it->says_at = it->now + 10;
+    result(it, "OK", IDLE);
+}
+
+/* What a modem says behind the result of a CAN. */
+static void say_more(soft *it)
+{
+    static const char *const AFTER[] = {
+        "\r\nOK\r\n", "\r\nNO CARRIER\r\n", "\x13", "\r\nCONNECT\r\n\xff\xc8\xfa\x10\x03\r\nOK\r\n", "\r\nERROR\r\n"};
+    const char *text = AFTER[it->cans % 5];
+    if (it->says_at == 0 || it->now < it->says_at) return;
+    it->says_at = 0;
+    put(it, (const uint8_t *)text, (int)strlen(text));
+}
+
 static void take_host_octet(soft *it, uint8_t octet)
 {
     if (it->doing == FTM && it->is_full && ++it->after > AFTER_XOFF) return; /* lost */
     if (it->doing == FTH || it->doing == FTM) take_host_data(it, octet);
-    else if (octet == CAN && it->doing != IDLE) result(it, "OK", IDLE);
+    else if (octet == CAN && it->doing != IDLE) obey_can(it);
     else if (octet == '\r') {
         it->line[it->filled] = 0;
         it->filled = 0;
@@ -190,6 +213,7 @@ static void give_frame(soft *it)
     int is_first_of_call = it->doing == DIALS;
     if (it->count == 0) return;
     result(it, "CONNECT", IDLE);
+    if (it->ways.repeats) result(it, "CONNECT", IDLE);
     put_data(it, it->frames[0], it->lengths[0]);
     put_data(it, SEQUENCE, 2);
     put_end(it, "OK");
@@ -250,6 +274,7 @@ static void t31_step(soft *it, const int16_t *in, int16_t *out)
         for (int i = 0; i < count; i++) take_host_octet(it, octets[i]);
     }
     hold_back(it);
+    say_more(it);
     if (it->doing != SENDS && it->doing != FTM && it->doing != IN_CED) hear(it, in);
     go_on(it, out);
 }

@@ -225,10 +225,12 @@ static void note_used_number(terminal *it)
 /* Hears the content of a good frame. */
 static void hear_content(terminal *it, int receiver, const uint8_t *content, uint64_t length)
 {
-    tell(it, "hears", frame_name(content[2]), 0);
+    int is_ours = is_frame(content, length); /* with the address and the control field of T.30 */
+    if (is_ours) tell(it, "hears", frame_name(content[2]), 0);
+    else tell(it, "hears what is no frame of a fax, octets", NULL, length);
     it->heard = it->now;
     it->reads = 1;
-    if (receiver == BY_V21) {
+    if (is_ours && receiver == BY_V21) {
         if (it->answers_ctc) note_ctc(it, content, length);
         identity_read(content, length, it->peer);
         note_correction(it, content, length);

@@ -1,12 +1,11 @@
 #include "tty.h"
 #include "class1.h"
 #include "inits.h"
+#include "lock.h"
 #include "stop.h"
 #include "told.h"
 #include <errno.h>
 #include <fcntl.h>
-#include <poll.h>
-#include <signal.h>
 #include <stdio.h>
 #include <stdlib.h>
 #include <string.h>
@@ -22,71 +21,10 @@ enum { MOST_LATE = 200 };
 typedef struct tty {
     const char *name;
     int fd;
-    int is_locked;
-    char lock[80];          /* the lock file; "": none */
+    lock lock;
     struct termios found;   /* how the tty was */
     uint64_t written;       /* octets that it has taken */
 } tty;
-
-static int fails(const char *name, const char *why)
-{
-    told_fault(name, why);
-    return 0;
-}
-
-/* The lock file */
-
-/* Whether a lock file is of a process that is gone. */
-static int is_stale(const char *lock, long *process)
-{
-    FILE *file = fopen(lock, "r");
-    *process = 0;
-    if (file == NULL) return 0;
-    int is_read = fscanf(file, "%ld", process) == 1 && *process > 0;
-    fclose(file);
-    if (!is_read) *process = 0;
-    return is_read && kill((pid_t)*process, 0) != 0 && errno == ESRCH;
-}
-
-/* Writes this process's number into a new file, whole before it has the lock's name; returns whether it could. */
-static int write_number(const char *name)
-{
-    unlink(name); /* of a process of this number that is gone */
-    int file = open(name, O_WRONLY | O_CREAT | O_EXCL, S_IRUSR | S_IWUSR | S_IRGRP | S_IROTH);
-    if (file < 0) return 0;
-    int is_written = dprintf(file, "%10ld\n", (long)getpid()) > 0;
-    is_written &= close(file) == 0;
-    if (!is_written) unlink(name);
-    return is_written;
-}
-
-/* Sets the name of the tty's lock file: of the device itself, whatever link names it. 0 if it is too long. */
-static int name_lock(tty *it)
-{
-    char *device = realpath(it->name, NULL);
-    const char *name = device != NULL ? device : it->name, *slash = strrchr(name, '/');
-    int length = snprintf(it->lock, sizeof it->lock, "/var/lock/LCK..%s", slash != NULL ? slash + 1 : name);
-    free(device);
-    return length > 0 && (size_t)length < sizeof it->lock;
-}
-
-/* Makes the lock file that programs with modems use, if this one may write there; returns whether no other program has the tty. */
-static int lock(tty *it)
-{
-    char own[40], why[60];
-    long process = 0;
-    snprintf(own, sizeof own, "/var/lock/LTMP.%ld", (long)getpid());
-    if (!name_lock(it) || !write_number(own)) return 1; /* TIOCEXCL has to do */
-    for (int tries = 0; tries < 2 && !it->is_locked; tries++) {
-        it->is_locked = link(own, it->lock) == 0;
-        if (it->is_locked || errno != EEXIST || !is_stale(it->lock, &process)) break;
-        unlink(it->lock);
-    }
-    unlink(own);
-    if (it->is_locked || process == 0) return 1; /* 0: it can't be read, and TIOCEXCL has to do */
-    snprintf(why, sizeof why, "process %ld has it", process);
-    return fails(it->name, why);
-}
 
 /* The tty */
 
@@ -98,18 +36,19 @@ static void close_tty(tty *it)
         ioctl(it->fd, TIOCNXCL);
         close(it->fd);
     }
-    if (it->is_locked) unlink(it->lock);
+    lock_leave(&it->lock);
 }
 
-/* Opens the tty for this process alone, in raw mode. */
+/* Opens the tty for this process alone, in raw mode; returns whether it could, else errno says why. */
 static int open_tty(tty *it, int has_rts)
 {
     it->fd = open(it->name, O_RDWR | O_NOCTTY | O_NONBLOCK);
-    if (it->fd < 0) return fails(it->name, strerror(errno));
+    if (it->fd < 0) return 0;
     if (tcgetattr(it->fd, &it->found) != 0 || ioctl(it->fd, TIOCEXCL) != 0) {
-        fails(it->name, strerror(errno));
+        int why = errno;
         close(it->fd);
         it->fd = -1;
+        errno = why;
         return 0;
     }
     struct termios raw = it->found;
@@ -121,7 +60,7 @@ static int open_tty(tty *it, int has_rts)
     raw.c_cc[VTIME] = 0;
     cfsetispeed(&raw, B115200);
     cfsetospeed(&raw, B115200);
-    if (tcsetattr(it->fd, TCSANOW, &raw) != 0) return fails(it->name, strerror(errno));
+    if (tcsetattr(it->fd, TCSANOW, &raw) != 0) return 0;
     tcflush(it->fd, TCIOFLUSH);
     return 1;
 }
@@ -168,7 +107,7 @@ struct tty_call {
     const char *inits[MOST_INITS];
     char found[MOST_INITS][INITS_ROOM]; /* those that were given by name */
     int64_t now, next, skipped;
-    int stage, stopped, has_failed; /* has_failed: the terminal couldn't be made */
+    int stage, stopped, is_finished, has_failed; /* has_failed: the terminal couldn't be made */
 };
 
 /* The time of the call: the clock's, less its pauses. */
@@ -186,6 +125,7 @@ static void read_clock(tty_call *it)
 static void heed(tty_call *it)
 {
     int level = call_heed(it->call);
+    if (it->call->terminal == NULL && level == STOP_NOT && stop_takes_no_more()) level = STOP_IN_ORDER;
     if (level == it->stopped) return;
     it->stopped = level;
     if (it->call->terminal == NULL || level == STOP_AT_ONCE) class1_hang_up(it->modem);
@@ -198,6 +138,7 @@ static void slice(tty_call *it)
     uint32_t speeds = class1_speeds(it->modem);
     if (it->stage != CLASS1_IS_ON || it->has_failed) return;
     if (it->call->terminal == NULL) {
+        call_rings(it->call, class1_caller_number(it->modem), class1_caller_name(it->modem));
         it->has_failed = !call_begin(it->call, speeds != 0 ? speeds : G3_V17, &modem_of_class1, it->modem);
         if (it->has_failed) class1_hang_up(it->modem);
         if (it->has_failed) return;
@@ -235,23 +176,40 @@ static int find_inits(tty_call *it)
     return 1;
 }
 
+/* Why there is no call is told at its end. */
+static int fails(tty_call *it, const char *why)
+{
+    call_fails(it->call, it->on.name, why);
+    return 0;
+}
+
+/* Locks the tty and opens it. */
+static int open_locked(tty_call *it)
+{
+    char why[60];
+    long process = lock_take(&it->on.lock, it->on.name);
+    snprintf(why, sizeof why, "process %ld has it", process);
+    if (process != 0) return fails(it, why);
+    return open_tty(&it->on, !it->call->given->xon) || fails(it, strerror(errno));
+}
+
 /* Opens the tty, and makes the modem on it. */
 static int begin(tty_call *it, FILE *trace)
 {
     const options *given = it->call->given;
     class1_setup setup = {it->inits, given->init_count, given->number, given->rings, trace};
     port port = {&it->on, port_read, port_write, port_waiting, port_mind_xoff};
-    if (!find_inits(it) || !lock(&it->on) || !open_tty(&it->on, !given->xon)) return 0;
+    if (!find_inits(it) || !open_locked(it)) return 0;
     it->modem = class1_new(&port, &setup);
     it->now = it->next = it->clock.now(it->clock.user);
-    return it->modem != NULL || fails(it->on.name, "no memory");
+    return it->modem != NULL || fails(it, "no memory");
 }
 
 tty_call *tty_begin(call *call, const tty_clock *clock, FILE *trace)
 {
     static const tty_call fresh;
     tty_call *it = malloc(sizeof *it);
-    if (it == NULL) return fails(call->given->tty, "no memory"), NULL;
+    if (it == NULL) return call_fails(call, call->given->tty, "no memory"), NULL;
     *it = fresh;
     it->call = call;
     it->clock = *clock;
@@ -262,58 +220,30 @@ tty_call *tty_begin(call *call, const tty_clock *clock, FILE *trace)
     return NULL;
 }
 
-int tty_end(tty_call *it)
+void tty_finish(tty_call *it)
 {
     call *call = it->call;
-    int is_well = !it->has_failed;
+    if (it->is_finished) return;
+    it->is_finished = 1;
     if (call->terminal != NULL && !call_is_over(call)) terminal_lose(call->terminal);
-    if (it->modem != NULL && class1_why(it->modem) != NULL) {
-        snprintf(call->fault, sizeof call->fault, "%.30s: %s", it->on.name, class1_why(it->modem));
-        call->why = call->fault;
-    }
+    if (it->modem != NULL && class1_why(it->modem) != NULL) call_fails(call, it->on.name, class1_why(it->modem));
+}
+
+int tty_next(tty_call *it, call *next)
+{
+    if (it->has_failed || !class1_again(it->modem)) return 0;
+    it->call = next;
+    it->is_finished = it->stopped = 0;
+    it->stage = CLASS1_WAITS;
+    return 1;
+}
+
+int tty_end(tty_call *it)
+{
+    int is_well = !it->has_failed;
+    tty_finish(it);
     modem_of_class1.free(it->modem);
     close_tty(&it->on);
     free(it);
-    return is_well;
-}
-
-/* By the machine's clock */
-
-static int64_t machine_now(void *user)
-{
-    (void)user;
-    return stop_clock();
-}
-
-static void machine_wait(void *user, int fd, int millis)
-{
-    struct pollfd ready = {fd, POLLIN, 0};
-    (void)user;
-    poll(&ready, 1, millis); /* a signal ends it early */
-}
-
-/* Opens the file of the trace. A pipe that nobody reads is none, and one that stalls loses lines: the call doesn't wait for it. */
-static FILE *open_trace(const char *name)
-{
-    int file = open(name, O_WRONLY | O_CREAT | O_TRUNC | O_NONBLOCK, S_IRUSR | S_IWUSR);
-    FILE *trace = file < 0 ? NULL : fdopen(file, "w");
-    if (trace == NULL && file >= 0) close(file);
-    if (trace == NULL) fails(name, strerror(errno));
-    return trace;
-}
-
-int tty_run(call *it)
-{
-    static const tty_clock MACHINE = {NULL, machine_now, machine_wait};
-    const options *given = it->given;
-    FILE *trace = NULL;
-    if (given->trace != NULL && (trace = open_trace(given->trace)) == NULL) return 0;
-    tty_call *on = tty_begin(it, &MACHINE, trace);
-    int is_well = on != NULL;
-    if (on != NULL) {
-        while (tty_go_on(on)) { }
-        is_well = tty_end(on);
-    }
-    if (trace != NULL && fclose(trace) != 0) is_well = fails(given->trace, "it can't be written whole");
     return is_well;
 }
