@@ -4,6 +4,7 @@
 #     make lib-try           builds the library for C without proof, in build: a minute
 #     make                   proves and builds what isn't built yet, with the Rattle kit: crates/faxtool/out/faxtool and bindings/build;
 #                            about 15 minutes on four processors
+#     make test              all tests, end to end and examples, over a build without proof: six minutes on four processors
 #     make check             the gate, .ci/run, from nothing: 44 minutes on four processors, 91 on two
 #     make install           copies what was built below $(DESTDIR)$(PREFIX), and builds nothing
 #     make uninstall         removes what was copied there
@@ -33,7 +34,11 @@ try:
 lib-try:
 	@packaging/try.sh --library
 
+test:
+	.ci/test.sh
+
 check:
+	@[ -x "$(KIT)/bin/rt" ] || { echo "make check: there is no Rattle kit in $(KIT): unpack it there, or say by KIT where it is" >&2; exit 1; }
 	.ci/run
 
 help:
@@ -60,4 +65,4 @@ book:
 plants:
 	bench/plant/try_edits.py --all
 
-.PHONY: all try lib-try check help install uninstall tarball deb wheel book plants
+.PHONY: all try lib-try test check help install uninstall tarball deb wheel book plants

@@ -91,6 +91,7 @@ for program in "$@"; do
     try_stations
     try_joins
     try_bench
+    try_drivers
     try_first
     try_reference
     try_readme

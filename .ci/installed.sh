@@ -59,6 +59,15 @@ fi
 grep -q '^prefix=/opt/g3fax$' "$work/stage/opt/g3fax/lib/pkgconfig/g3fax.pc" || fails "g3fax.pc has another prefix"
 grep -q "^Version: $(cat "$top/VERSION")\$" "$work/prefix/lib/pkgconfig/g3fax.pc" || fails "g3fax.pc has another version"
 
+# a library that was used where it was built, as `make lib-try` leaves it, is installed with the folders of any other
+mkdir "$work/tried"
+cp "$work/libg3fax.a" "$work/libg3fax.so.0" "$work/g3fax.h" "$work/tried/"
+# shellcheck disable=SC2016
+sed 's|^prefix=.*|prefix=${pcfiledir}|; s|^libdir=.*|libdir=${prefix}|; s|^includedir=.*|includedir=${prefix}|' "$work/g3fax.pc" \
+    > "$work/tried/g3fax.pc"
+"$top/bindings/install.sh" "$work/tried" /opt/g3fax "$work/again"
+cmp "$work/again/opt/g3fax/lib/pkgconfig/g3fax.pc" "$work/stage/opt/g3fax/lib/pkgconfig/g3fax.pc" || fails "g3fax.pc after make lib-try"
+
 # the version in the header is that of the library and of the file VERSION; each function of the header is exported, with the version that
 # bindings/exports has it in, and nothing below them
 python3 - "$work/prefix" "$(cat "$top/VERSION")" "$top/bindings/exports" << 'ABI' || fails "the header and the shared library differ"

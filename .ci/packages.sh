@@ -46,6 +46,11 @@ is_same() {
     difference=$(cmp "$1" "$2" 2>&1) || fails "$3: other octets: $difference"
 }
 
+# is_proved: what is installed isn't built without proof.
+. packaging/common.sh
+said=$(cat VERSION) built=
+is_proved "${FAXTOOL:-crates/faxtool/out/faxtool}" "${G3FAX:-bindings/build}" || said="$said, built without proof" built=+unproved
+
 # try_install: install, install again, uninstall; a folder that isn't the install's own stays.
 try_install() {
     mkdir -p "$to/usr/share/doc" "$to/usr/bin"
@@ -81,7 +86,7 @@ try_program() {
     cp -r "$docs/examples" "$work/try/docs/examples"
     commands=$("$work/try/.ci/sessions.py" "$to/usr/bin/faxtool" "$docs/README.md" "$docs/docs/USING.md") || fails "the installed program"
     "$to/usr/bin/faxtool" version > "$work/said" || fails "faxtool version ended with status $?"
-    is_same "$work/said" VERSION "the version of the installed program"
+    [ "$(cat "$work/said")" = "$said" ] || fails "the installed program has version $(cat "$work/said")"
     [ -s "$docs/COMMIT" ] || fails "there is no commit"
     [ -s "$docs/book/index.html" ] || fails "there is no book"
     leads "$to/usr/share/doc"
@@ -116,12 +121,19 @@ try_library() {
         || fails "the installed example isn't built"
     LD_LIBRARY_PATH=$lib "$work/encode" "$docs/faxtool/examples/page.pbm" "$work/code" mmr msb || fails "the installed example"
     is_same "$work/code" .ci/data/page.mmr.msb "the installed example"
-    # softfax over bits, which wants no modems, as it is installed
-    soft=$docs/g3fax/c/softfax
-    cc -std=c11 -D_DEFAULT_SOURCE -Wall -Wextra -Werror -O1 -o "$work/bits-test" "$soft/bits-test.c" "$soft/terminal.c" "$soft/identity.c" \
-        "$soft/trial.c" "$soft/stopped.c" "$soft/line.c" "$soft/paper.c" "$soft/bits.c" -I"$docs/g3fax/c" -I"$to/usr/include" -L"$lib" -lg3fax \
-        || fails "the installed softfax isn't built"
-    LD_LIBRARY_PATH=$lib "$work/bits-test" > "$work/said" || { cat "$work/said" >&2; fails "the installed softfax"; }
+    # softfax over bits, which wants no modems, as it is installed: by pkg-config, in a folder without spaces
+    cp -r "$to" "$work/root"
+    PKG_CONFIG_SYSROOT_DIR=$work/root PKG_CONFIG_LIBDIR=$work/root/usr/lib/pkgconfig PKG_CONFIG_ALLOW_SYSTEM_CFLAGS=1 \
+        PKG_CONFIG_ALLOW_SYSTEM_LIBS=1 make -s -C "$work/root/usr/share/doc/g3fax/c/softfax" OUT="$work/soft" CFLAGS=-O1 bits-test softfax \
+        > "$work/said" 2>&1 || { cat "$work/said" >&2; fails "the installed softfax isn't built"; }
+    LD_LIBRARY_PATH=$lib "$work/soft/bits-test" > "$work/said" || { cat "$work/said" >&2; fails "the installed softfax over bits"; }
+    LD_LIBRARY_PATH=$lib packaging/try_softfax.sh "$work/soft/softfax" > "$work/said" 2>&1 || { cat "$work/said" >&2; fails "softfax"; }
+    [ ! -f "$to/usr/bin/softfax" ] || packaging/try_softfax.sh "$to/usr/bin/softfax" > "$work/said" 2>&1 \
+        || { cat "$work/said" >&2; fails "the installed program softfax"; }
+    # each option of its usage is in its man page
+    for option in $("$work/soft/softfax" 2>&1 | grep -o -e '--[a-z-]*'); do
+        sed 's/\\//g' docs/man/softfax.1 | grep -qF -e "$option" || fails "docs/man/softfax.1 has no $option"
+    done
 }
 
 # try_packed: the tarballs and the packages are the same twice; the packages are tried.
@@ -137,7 +149,7 @@ try_packed() {
     for file in "$work/out"/*; do is_same "$work/again/${file##*/}" "$file" "packed twice: ${file##*/}"; done
     (cd "$work/out" && sha256sum --quiet -c SHA256SUMS) || fails "SHA256SUMS"
     mkdir "$work/unpacked"
-    tar -C "$work/unpacked" --strip-components=1 -xzf "$work/out/faxtool-$(cat VERSION)-x86_64-linux.tar.gz"
+    tar -C "$work/unpacked" --strip-components=1 -xzf "$work/out/faxtool-$(cat VERSION)$built-x86_64-linux.tar.gz"
     is_same "$work/unpacked/bin/faxtool" "${FAXTOOL:-crates/faxtool/out/faxtool}" "the program of the tarball"
     if command -v pkg-config > /dev/null; then
         folder=$(PKG_CONFIG_LIBDIR=$work/unpacked/lib/pkgconfig pkg-config --variable=includedir g3fax)

@@ -40,8 +40,10 @@ for out in first second; do
     G3FAX=$work "$top/bindings/python/make_wheel.py" "$to/$out" > "$to/said" 2>&1 || fails make_wheel.py
 done
 wheel=$(cd "$to/first" && ls)
+said=
+! grep -q "built without proof" "$work/g3fax.pc" || said=+unproved
 case $wheel in
-"g3fax-$(cat "$top/VERSION")-py3-none-manylinux_2_"*_x86_64.whl) ;;
+"g3fax-$(cat "$top/VERSION")$said-py3-none-manylinux_2_"*_x86_64.whl) ;;
 *) fails "the wheel is $wheel" ;;
 esac
 cmp "$to/first/$wheel" "$to/second/$wheel" || fails "two wheels of the same library differ"

@@ -16,9 +16,11 @@ program=crates/faxtool/out/faxtool
 [ $# = 0 ] || [ "$*" = --built ] || { echo "usage: build.sh [--built]" >&2; exit 2; }
 if [ $# = 0 ] && [ -f $program ] && [ -f bindings/build/libg3fax.so.0 ] && [ -f bindings/build/SOURCES ] \
     && [ "$(cat bindings/build/SOURCES)" = "$(packaging/trust.py --sources)" ]; then
+    packaging/build_softfax.sh bindings/build
     echo "$program and bindings/build are built already"
     exit 0
 fi
+[ -x "$KIT/bin/rt" ] || ends "there is no Rattle kit in $KIT: unpack it there, or say by KIT where it is"
 if [ $# = 1 ]; then
     [ -f $program ] || ends "$program is missing: .ci/run, or make, proves and builds it"
     newer=$(find crates/*/src crates/*/specs crates/*/proofs crates.txt -type f -newer $program | head -n 3 | tr '\n' ' ')
@@ -27,4 +29,5 @@ else
     (cd crates/faxtool && "$KIT/bin/rt" run -- version)
 fi
 bindings/build.sh bindings/build
+packaging/build_softfax.sh bindings/build
 packaging/trust.py --sources > bindings/build/SOURCES

@@ -37,6 +37,18 @@ commit() {
     fi
 }
 
+# is_proved PROGRAM LIBRARY: neither the program nor the library in this folder says that it was built without proof.
+is_proved() {
+    ! "$1" version | grep -q "built without proof" && ! grep -q "built without proof" "$2/g3fax.pc"
+}
+
+# marks FILE PROGRAM LIBRARY: docs/PROOF.md as it is installed says in its second paragraph if what is installed was built without proof.
+marks() {
+    is_proved "$2" "$3" || sed -i '1a\
+\
+**The program and the library that are installed here were built without proof.** What follows is of those that `make` builds.' "$1"
+}
+
 # epoch: the time that files in a package have, in seconds: SOURCE_DATE_EPOCH, else that of the commit, else that of the file VERSION.
 epoch() {
     if [ -n "$SOURCE_DATE_EPOCH" ]; then

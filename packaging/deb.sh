@@ -3,7 +3,8 @@
 #
 #     packaging/deb.sh FOLDER
 #
-# Four packages: faxtool, libg3fax0 (the shared library), libg3fax-dev and python3-g3fax. Each needs the C library that its files ask for
+# Five packages: faxtool, libg3fax0 (the shared library), libg3fax-dev, python3-g3fax and, if it was built, softfax. Programs that were built
+# without proof make packages of version VERSION+unproved that say so. Each needs the C library that its files ask for
 # by their versioned symbols; the module for Python needs its own version of the shared library. Symbols that nothing wants at run time
 # are taken out of the program and the shared library. The same sources and tools give the same octets. It needs dpkg-deb and binutils;
 # where lintian is there, its errors are refused.
@@ -14,7 +15,13 @@ top=$(cd "$(dirname "$0")/.." && pwd)
 needs dpkg-deb strip readelf gzip md5sum python3
 mkdir -p "$1"
 to=$(cd "$1" && pwd)
-version=$(cat "$top/VERSION")
+program=${FAXTOOL:-crates/faxtool/out/faxtool}
+library=${G3FAX:-bindings/build}
+cd "$top"
+version=$(cat "$top/VERSION") proved=", proved" checked="Each of its functions has a contract that a prover has checked."
+is_proved "$program" "$library" || {
+    version=$version+unproved proved=", built without proof" checked="It was built without proof: no prover has checked it."
+}
 SOURCE_DATE_EPOCH=$(epoch)
 export SOURCE_DATE_EPOCH
 who="Badrejmo maintainers <maintainers@users.noreply.badrejmo.example>"
@@ -24,12 +31,21 @@ work=$(mktemp -d)
 trap 'rm -rf "$work"' EXIT
 umask 022
 
-# wants FILE: the packages that a program or a shared library asks for: the C library, of the least version that has its symbols.
+# wants FILE: the packages that a program or a shared library asks for: the C library, of the least version that has its symbols, and
+# libspandsp.
 wants() {
-    other=$(readelf -W -d "$1" | sed -n 's/.*(NEEDED).*\[\(.*\)\]/\1/p' | grep -vx 'libc\.so\.6' || true)
+    needed=$(readelf -W -d "$1" | sed -n 's/.*(NEEDED).*\[\(.*\)\]/\1/p')
+    other=$(echo "$needed" | grep -vx -e 'libc\.so\.6' -e 'libm\.so\.6' -e 'libspandsp\.so\.2' || true)
     [ -z "$other" ] || ends "$1 asks for a library that no dependency is known of: $other"
     least=$(readelf -W -V "$1" | grep -o 'Name: GLIBC_[0-9.]*' | sed 's/.*_//' | sort -t . -k 1,1n -k 2,2n -k 3,3n | tail -n 1)
-    echo "libc6${least:+ (>= $least)}"
+    more=
+    if echo "$needed" | grep -qx 'libspandsp\.so\.2'; then
+        mkdir -p "$work/shlibs/debian"
+        printf 'Source: faxtool\n\nPackage: softfax\nArchitecture: amd64\n' > "$work/shlibs/debian/control"
+        # of the version that has its symbols, if dpkg-dev is there to say so
+        more=", $( (cd "$work/shlibs" && dpkg-shlibdeps -O "$1" 2> /dev/null) | grep -o 'libspandsp2[^,]*' || echo libspandsp2)"
+    fi
+    echo "libc6${least:+ (>= $least)}$more"
 }
 
 # takes PACKAGE PATH..: the package has these of the installed files.
@@ -89,10 +105,9 @@ control() {
 page() {
     "$top/packaging/trust.py" --package "faxtool=$program" "libg3fax.a=$library/libg3fax.a" "libg3fax.so.0=$library/libg3fax.so.0" \
         "stripped faxtool=$work/faxtool/usr/bin/faxtool" "stripped libg3fax.so.0=$work/libg3fax0$libdir/libg3fax.so.0" > "$1"
+    marks "$1" "$program" "$library"
 }
 
-program=${FAXTOOL:-crates/faxtool/out/faxtool}
-library=${G3FAX:-bindings/build}
 PREFIX=/usr LIBDIR=$libdir DESTDIR=$work/stage "$top/packaging/install.sh" > /dev/null
 share=/usr/share
 rm "$work/stage$share/doc/faxtool/INSTALLED"
@@ -105,6 +120,12 @@ module=/usr/lib/python3/dist-packages/g3fax
 mkdir -p "${work}/stage${module%/*}"
 mv "$work/stage$share/doc/libg3fax-dev/python/g3fax" "$work/stage$module"
 rmdir "$work/stage$share/doc/libg3fax-dev/python"
+packages="faxtool libg3fax0 libg3fax-dev python3-g3fax" others="libg3fax0 libg3fax-dev python3-g3fax"
+if [ -f "$work/stage/usr/bin/softfax" ]; then
+    packages="$packages softfax" others="$others softfax"
+    takes softfax /usr/bin/softfax $share/softfax $share/man/man1/softfax.1.gz /usr/lib/systemd/system/softfax@.service
+    strip --strip-all "$work/softfax/usr/bin/softfax"
+fi
 takes faxtool /usr/bin/faxtool $share/man/man1 $share/bash-completion/completions/faxtool $share/zsh/vendor-completions/_faxtool \
     $share/fish/vendor_completions.d/faxtool.fish $share/doc/faxtool
 takes libg3fax0 $libdir/libg3fax.so.0
@@ -115,10 +136,10 @@ takes python3-g3fax $module
 strip --strip-all "$work/faxtool/usr/bin/faxtool"
 strip --strip-unneeded "$work/libg3fax0$libdir/libg3fax.so.0"
 chmod 644 "$work/libg3fax0$libdir/libg3fax.so.0"
-for package in faxtool libg3fax0 libg3fax-dev python3-g3fax; do documents $package; done
+for package in $packages; do documents $package; done
 page "$work/faxtool$share/doc/faxtool/docs/PROOF.md"
 # in the other packages the page leads to the documents of the package faxtool
-for package in libg3fax0 libg3fax-dev python3-g3fax; do
+for package in $others; do
     cp "$work/faxtool$share/doc/faxtool/public_clauses.txt" "$work/$package$share/doc/$package/"
     sed -e 's,](\.\./public_clauses\.txt),](public_clauses.txt),' -e 's,](\.\./README,](../faxtool/README,g' \
         -e 's,](\([A-Z]*\.md\)),](../faxtool/docs/\1),g' "$work/faxtool$share/doc/faxtool/docs/PROOF.md" > "$work/$package$share/doc/$package/PROOF.md"
@@ -127,11 +148,12 @@ done
 rm "$work/faxtool$share/doc/faxtool"/LICENSE-*
 
 control faxtool comm "$(wants "$work/faxtool/usr/bin/faxtool")" "" << TEXT
-Description: Group 3 fax pages, frames and calls, proved
+Description: Group 3 fax pages, frames and calls$proved
  faxtool codes images as fax pages of ITU-T T.4 and T.6, shows, decodes and
  repairs such pages, lists the HDLC frames in a capture of a line, runs calls
  of T.30 over a simulated line, and is one end of a call for a program that
- has a modem. Each of its functions has a contract that a prover has checked.
+ has a modem.
+ $checked
  .
  It needs a processor of x86-64-v2, which has SSE4.2.
 TEXT
@@ -140,18 +162,20 @@ echo "activate-noawait ldconfig" > "$work/libg3fax0/DEBIAN/triggers"
 echo "libg3fax 0 libg3fax0 (>= $version)" > "$work/libg3fax0/DEBIAN/shlibs"
 control libg3fax0 libs "$(wants "$work/libg3fax0$libdir/libg3fax.so.0")" "Multi-Arch: same
 " << TEXT
-Description: Group 3 fax pages and frames for C, proved: shared library
+Description: Group 3 fax pages and frames for C$proved: shared library
  libg3fax has page codes of ITU-T T.4 and T.6, raw PBM in memory, salvage and
  repair of broken pages, and HDLC frames. It opens no file and keeps no state
- of its own. Each of its functions has a contract that a prover has checked.
+ of its own.
+ $checked
  .
  It needs a processor of x86-64-v2, which has SSE4.2.
 TEXT
 control libg3fax-dev libdevel "libg3fax0 (= $version)" "Multi-Arch: same
 " << TEXT
-Description: Group 3 fax pages and frames for C, proved: header and archive
+Description: Group 3 fax pages and frames for C$proved: header and archive
  libg3fax has page codes of ITU-T T.4 and T.6, raw PBM in memory, salvage and
  repair of broken pages, and HDLC frames.
+ $checked
  .
  This package has the header g3fax.h, the archive libg3fax.a, g3fax.pc for
  pkg-config, and examples.
@@ -162,13 +186,29 @@ mkdir -p "$work/python3-g3fax/DEBIAN"
 printf '#!/bin/sh\nset -e\nrm -rf "$DPKG_ROOT%s/__pycache__"\n' "$module" > "$work/python3-g3fax/DEBIAN/prerm"
 chmod 755 "$work/python3-g3fax/DEBIAN/prerm"
 control python3-g3fax python "python3 (>= 3.8), libg3fax0 (>= $version)" "" all << TEXT
-Description: Group 3 fax pages and frames for Python, by a proved library
+Description: Group 3 fax pages and frames for Python
  g3fax has page codes of ITU-T T.4 and T.6, raw PBM in memory, salvage and
  repair of broken pages, HDLC frames, and the stations of a call, by libg3fax.
  Pages go in and out as packed rows or pixels, and as images of PIL.
+ .
+ Of the library: $checked
 TEXT
+case $packages in
+*softfax)
+    control softfax comm "$(wants "$work/softfax/usr/bin/softfax")" "Suggests: faxtool
+" << TEXT
+Description: Group 3 fax terminal behind a Class 1 modem
+ softfax sends and answers faxes by a modem on a tty that speaks Class 1, one
+ call or all calls of a line, and over streams of sound if libspandsp was there
+ when it was built. It is a program in C over libg3fax, tested and not proved.
+ .
+ Of the library in it: $checked
+TEXT
+    ;;
+esac
 set -- "$to/faxtool_${version}_amd64.deb" "$to/libg3fax0_${version}_amd64.deb" "$to/libg3fax-dev_${version}_amd64.deb" \
     "$to/python3-g3fax_${version}_all.deb"
+[ ! -d "$work/softfax" ] || set -- "$@" "$to/softfax_${version}_amd64.deb"
 if command -v lintian > /dev/null; then
     lintian --fail-on error "$@" > "$work/said" 2>&1 || { cat "$work/said" >&2; ends "lintian refuses a package"; }
 fi

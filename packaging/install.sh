@@ -74,10 +74,23 @@ gather_library() {
     sed 's,](\.\./,](../faxtool/,' bindings/README.md > "$work/README.md"
     puts 644 "$work/README.md" "$docs"
     puts 644 bindings/c/*.[ch] "$docs/c"
-    puts 644 bindings/c/softfax/*.[ch] bindings/c/softfax/Makefile "$docs/c/softfax"
+    puts 644 bindings/c/softfax/*.[ch] bindings/c/softfax/Makefile bindings/c/softfax/inits.txt "$docs/c/softfax"
     puts 644 bindings/tests/heap.h "$docs/tests"
     puts 644 bindings/python/g3fax/*.py bindings/python/g3fax/py.typed "$docs/python/g3fax"
     puts 644 docs/man/*.3 "$prefix/share/man/man3"
+}
+
+# gather_softfax: the fax terminal, if there was a C compiler to build it.
+gather_softfax() {
+    if [ ! -f "$library/softfax" ]; then
+        rm "$stage$prefix/share/man/man1/softfax.1"
+        echo "softfax isn't installed, since $library/softfax isn't built: it wants a C compiler"
+        return
+    fi
+    puts 755 "$library/softfax" "$prefix/bin"
+    puts 644 "$library/inits.txt" "$prefix/share/softfax"
+    sed "s|@BINDIR@|$prefix/bin|" packaging/softfax@.service > "$work/softfax@.service"
+    puts 644 "$work/softfax@.service" "$prefix/lib/systemd/system"
 }
 
 # gather_documents: the documents in folders as they are here, so that each leads to the others.
@@ -95,6 +108,7 @@ gather_documents() {
     commit > "$stage$docs/COMMIT"
     packaging/trust.py --package "faxtool=$program" "libg3fax.a=$library/libg3fax.a" "libg3fax.so.0=$library/libg3fax.so.0" \
         > "$stage$docs/docs/PROOF.md"
+    marks "$stage$docs/docs/PROOF.md" "$program" "$library"
     # the sources aren't installed: the documents lead to the book in their place
     docs/book.py --install "$stage$docs" > "$work/said" || { cat "$work/said" >&2; ends "docs/book.py"; }
     chmod 644 "$stage$docs/book"/*.html
@@ -111,6 +125,7 @@ gather() {
     puts 644 docs/completion/_faxtool "$prefix/share/zsh/site-functions"
     puts 644 docs/completion/faxtool.fish "$prefix/share/fish/vendor_completions.d"
     gather_library
+    gather_softfax
     gather_documents
 }
 

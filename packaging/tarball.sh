@@ -3,7 +3,7 @@
 #
 #     packaging/tarball.sh FOLDER
 #
-# faxtool-VERSION-x86_64-linux.tar.gz has the tree that `make install` makes, and is unpacked anywhere: `tar -C /usr/local
+# faxtool-VERSION-x86_64-linux.tar.gz, with VERSION+unproved of what was built without proof, has the tree that `make install` makes, and is unpacked anywhere: `tar -C /usr/local
 # --strip-components=1 -xzf`. faxtool-VERSION-source.tar.gz has the sources, with the commit. SHA256SUMS has the sums of both, and of
 # packages and a wheel that are there. Names are in order, and times, owners and modes are the same each time, so the same sources give
 # the same octets. It needs GNU tar and gzip.
@@ -14,7 +14,9 @@ top=$(cd "$(dirname "$0")/.." && pwd)
 needs tar gzip sha256sum python3
 mkdir -p "$1"
 to=$(cd "$1" && pwd)
-version=$(cat "$top/VERSION")
+version=$(cat "$top/VERSION") built=
+cd "$top"
+is_proved "${FAXTOOL:-crates/faxtool/out/faxtool}" "${G3FAX:-bindings/build}" || built=+unproved
 time=$(epoch)
 work=$(mktemp -d)
 trap 'rm -rf "$work"' EXIT
@@ -28,7 +30,7 @@ packs() {
     echo "$to/$1.tar.gz"
 }
 
-name=faxtool-$version-x86_64-linux
+name=faxtool-$version$built-x86_64-linux
 # the prefix of g3fax.pc is found from where it lies
 PREFIX=/unpacked LIBDIR='' DESTDIR=$work "$top/packaging/install.sh" > /dev/null
 mv "$work/unpacked" "$work/$name"
@@ -43,7 +45,7 @@ sources > "$work/sources"
 (cd "$top" && tar -cf - --no-recursion --files-from="$work/sources") | tar -C "$work/$name" -xf -
 commit > "$work/$name/COMMIT"
 packs "$name"
-(cd "$to" && find . -maxdepth 1 \( -name "*_${version}_*.deb" -o -name "faxtool-$version-*.tar.gz" \
-    -o -name "g3fax-$version-*.whl" \) | sed 's,^\./,,' | LC_ALL=C sort \
+(cd "$to" && find . -maxdepth 1 \( -name "*_${version}*_*.deb" -o -name "faxtool-$version*.tar.gz" \
+    -o -name "g3fax-$version*.whl" \) | sed 's,^\./,,' | LC_ALL=C sort \
     | xargs -d '\n' sha256sum) > "$work/SHA256SUMS"
 mv "$work/SHA256SUMS" "$to/SHA256SUMS"

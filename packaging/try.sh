@@ -75,7 +75,9 @@ send_page() {
 
 if [ $# = 1 ]; then
     build_library
+    packaging/build_softfax.sh build
     echo "libg3fax.a, libg3fax.so.0, g3fax.h and g3fax.pc are in build, built without proof; \`make\` proves them"
+    [ ! -f build/softfax ] || echo "the fax terminal over them: build/softfax"
     echo "a program in C:      cc program.c -Ibuild build/libg3fax.a"
     echo "a program in Python: G3FAX_LIBRARY=build/libg3fax.so.0 PYTHONPATH=bindings/python python3 program.py"
     exit 0

@@ -15,7 +15,10 @@ top=$(cd "$(dirname "$0")/.." && pwd)
 [ $# = 1 ] || { echo "usage: try_deb.sh FOLDER" >&2; exit 2; }
 needs dpkg dpkg-query pkg-config cc python3
 from=$(cd "$1" && pwd)
-version=$(cat "$top/VERSION")
+version=$(cat "$top/VERSION") said=$(cat "$top/VERSION") pc=$(cat "$top/VERSION")
+[ ! -f "$from/faxtool_$version+unproved_amd64.deb" ] || version=$version+unproved said="$said, built without proof"
+soft=
+[ ! -f "$from/softfax_${version}_amd64.deb" ] || soft=softfax
 libdir=/usr/lib/x86_64-linux-gnu
 work=$(mktemp -d)
 trap 'rm -rf "$work"' EXIT
@@ -59,22 +62,32 @@ for package in faxtool_${version}_amd64 libg3fax0_${version}_amd64 libg3fax-dev_
     [ -f "$from/$package.deb" ] || ends "$from/$package.deb is missing: run packaging/deb.sh"
 done
 mkdir -p "$root/var/lib/dpkg/info" "$root/var/lib/dpkg/updates" "$root/var/lib/dpkg/triggers"
+stands_for() { # stands_for PACKAGE VERSION TEXT: a package of this machine that the root has
+    printf 'Package: %s\nStatus: install ok installed\nArchitecture: amd64\nMaintainer: none <none@example>\nVersion: %s\n' "$1" "$2"
+    printf 'Description: %s of this machine\n\n' "$3"
+    echo /. > "$root/var/lib/dpkg/info/$1.list"
+}
+base="libc6 python3 "
 { dpkg-query -s libc6 | sed 's/^\(Pre-\)*Depends:.*//' | sed '/^$/d'; echo
-    printf 'Package: python3\nStatus: install ok installed\nArchitecture: amd64\nMaintainer: none <none@example>\nVersion: %s\n' \
-        "$(python3 -c 'import platform; print(platform.python_version())')"
-    printf 'Description: the Python of this machine\n\n'
+    stands_for python3 "$(python3 -c 'import platform; print(platform.python_version())')" "the Python"
+    spandsp=$(dpkg-query -W -f '${Version}' libspandsp2 2> /dev/null || true)
+    [ -z "$spandsp" ] || stands_for libspandsp2 "$spandsp" "the modems"
 } > "$root/var/lib/dpkg/status"
+[ ! -f "$root/var/lib/dpkg/info/libspandsp2.list" ] || base="libc6 libspandsp2 python3 "
 echo /. > "$root/var/lib/dpkg/info/libc6:amd64.list"
-echo /. > "$root/var/lib/dpkg/info/python3.list"
 files > "$work/before"
 
 # the shared library first, since the others may need it
 dpkgs --install "$from/libg3fax0_${version}_amd64.deb" "$from/libg3fax-dev_${version}_amd64.deb" "$from/faxtool_${version}_amd64.deb" \
-    "$from/python3-g3fax_${version}_all.deb"
+    "$from/python3-g3fax_${version}_all.deb" ${soft:+"$from/softfax_${version}_amd64.deb"}
 dpkgs --verify
 files > "$work/installed"
-for package in faxtool libg3fax0 libg3fax-dev python3-g3fax; do
+for package in faxtool libg3fax0 libg3fax-dev python3-g3fax $soft; do
     [ "$(dpkg-query --root="$root" -W -f '${db:Status-Status}' $package 2> /dev/null)" = installed ] || ends "$package isn't installed"
+    case $version in
+    *+unproved) [ -n "$(dpkg-query --root="$root" -W -f '${Description}' $package | grep 'built without proof')" ] ;;
+    *) [ -z "$(dpkg-query --root="$root" -W -f '${Description}' $package | grep 'without proof')" ] ;;
+    esac || ends "$package doesn't say whether it is proved"
     [ -z "$(find "$root/usr/share/doc/$package" -name COMMIT -empty)" ] || ends "$package has no commit"
     [ -n "$(find "$root/usr/share/doc/$package" -name PROOF.md)" ] || ends "$package has no PROOF.md"
 done
@@ -102,9 +115,12 @@ commands=$("$work/try/.ci/sessions.py" "$root/usr/bin/faxtool" "$root/usr/share/
     "$root/usr/share/doc/faxtool/docs/USING.md") || ends "a command line of a document"
 [ "$commands" -gt 20 ] || ends "the documents have $commands commands alone"
 "$root/usr/bin/faxtool" version > "$work/said" || ends "faxtool version: status $?"
-[ "$(cat "$work/said")" = "$version" ] || ends "faxtool version"
+[ "$(cat "$work/said")" = "$said" ] || ends "faxtool version"
 "$root/usr/bin/faxtool" version --proof > "$work/said" || ends "faxtool version --proof: status $?"
-grep -qxF "$(cat "$work/said")" "$root/usr/share/doc/faxtool/docs/PROOF.md" || ends "faxtool version --proof"
+case $version in
+*+unproved) grep -q "built without proof" "$work/said" && grep -q "were built without proof" "$root/usr/share/doc/faxtool/docs/PROOF.md" ;;
+*) grep -qxF "$(cat "$work/said")" "$root/usr/share/doc/faxtool/docs/PROOF.md" ;;
+esac || ends "faxtool version --proof"
 
 if command -v man > /dev/null; then
     for page in "$root"/usr/share/man/man1/*.1.gz "$root"/usr/share/man/man3/*.3.gz; do
@@ -125,7 +141,7 @@ pkg() {
     PKG_CONFIG_SYSROOT_DIR=$root PKG_CONFIG_LIBDIR=$root$libdir/pkgconfig PKG_CONFIG_ALLOW_SYSTEM_CFLAGS=1 \
         PKG_CONFIG_ALLOW_SYSTEM_LIBS=1 pkg-config "$@" g3fax
 }
-[ "$(pkg --modversion)" = "$version" ] || ends "g3fax.pc has another version"
+[ "$(pkg --modversion)" = "$pc" ] || ends "g3fax.pc has another version"
 # the words of these flags have no spaces of their own, unless TMPDIR has
 # shellcheck disable=SC2046
 builds shared $(pkg --cflags --libs)
@@ -133,6 +149,22 @@ builds shared $(pkg --cflags --libs)
 builds static $(pkg --cflags --libs | sed 's/-lg3fax/-l:libg3fax.a/')
 ldd "$work/shared" | grep -q 'libg3fax\.so\.0' || ends "the example doesn't want libg3fax.so.0"
 ! ldd "$work/static" | grep -q g3fax || ends "the example wants libg3fax though it has the archive"
+
+# softfax is built by those flags too, in the folder where its sources are; the installed one says that a modem is busy, and with sound
+# two of it carry a page
+if [ -n "$soft" ]; then
+    PKG_CONFIG_SYSROOT_DIR=$root PKG_CONFIG_LIBDIR=$root$libdir/pkgconfig PKG_CONFIG_ALLOW_SYSTEM_CFLAGS=1 \
+        PKG_CONFIG_ALLOW_SYSTEM_LIBS=1 make -s -C "$root/usr/share/doc/libg3fax-dev/c/softfax" OUT="$work/soft" CFLAGS=-O1 softfax \
+        || ends "softfax isn't built from the installed library"
+    LD_LIBRARY_PATH=$root$libdir "$top/packaging/try_softfax.sh" "$work/soft/softfax" || ends "softfax of the installed sources"
+    "$top/packaging/try_softfax.sh" "$root/usr/bin/softfax" || ends "the installed softfax"
+    if command -v systemd-analyze > /dev/null; then
+        mkdir "$work/units"
+        sed "s,=/usr/bin/,=$root/usr/bin/," "$root/usr/lib/systemd/system/softfax@.service" > "$work/units/softfax@.service"
+        systemd-analyze --man=no verify "$work/units/softfax@ttyS0.service" > "$work/said" 2>&1 || { cat "$work/said" >&2; ends "the unit"; }
+        [ ! -s "$work/said" ] || { cat "$work/said" >&2; ends "the unit has a warning"; }
+    fi
+fi
 
 # the module for Python finds the installed library; what Python compiles it to goes with the package
 (cd "$work" && PYTHONPATH=$root/usr/lib/python3/dist-packages LD_LIBRARY_PATH=$root$libdir python3 -W error -c '
@@ -147,7 +179,7 @@ is_same "$work/code" "$root/usr/share/doc/faxtool/examples/page.mmr" "the module
 if command -v dpkg-shlibdeps > /dev/null; then
     mkdir -p "$work/shlibs/debian"
     printf 'Source: faxtool\n\nPackage: faxtool\nArchitecture: amd64\n' > "$work/shlibs/debian/control"
-    for pair in "faxtool /usr/bin/faxtool" "libg3fax0 $libdir/libg3fax.so.0"; do
+    for pair in "faxtool /usr/bin/faxtool" "libg3fax0 $libdir/libg3fax.so.0" ${soft:+"softfax /usr/bin/softfax"}; do
         found=$(cd "$work/shlibs" && dpkg-shlibdeps -O "$root${pair#* }" 2> "$work/error" | sed 's/^shlibs:Depends=//')
         said=$(dpkg-query --root="$root" -W -f '${Depends}' "${pair%% *}")
         [ "$found" = "$said" ] || ends "${pair%% *} needs $found and says $said"
@@ -157,9 +189,9 @@ fi
 # a second install over the first, and the end
 dpkgs --install "$from/faxtool_${version}_amd64.deb"
 files | grep -v __pycache__ | cmp - "$work/installed" || ends "a second install leaves other files"
-dpkgs --purge python3-g3fax libg3fax-dev libg3fax0 faxtool
+dpkgs --purge python3-g3fax libg3fax-dev libg3fax0 faxtool $soft
 files > "$work/after"
 is_same "$work/after" "$work/before" "what is left in the root"
 left=$(dpkg-query --root="$root" -W -f '${Package} ')
-[ "$left" = "libc6 python3 " ] || ends "dpkg still lists $left"
+[ "$left" = "$base" ] || ends "dpkg still lists $left"
 echo "try_deb: installed, $commands command lines, two C examples, the module for Python, and nothing left of $(wc -l < "$work/installed") files and folders"

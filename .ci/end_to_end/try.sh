@@ -44,7 +44,12 @@ try_first() {
     says "12 of 64 items were lost, and 7 frames of the page were sent again" "$work/output"
     says "the stored page is the page that was sent, pixel for pixel" "$work/output"
     says "answerer normal pages 1" "$work/output"
-    is_same "$first/build/call.svg" "$top/docs/call.svg" "docs/call.svg, which packaging/try.sh draws"
+    [ -s "$first/build/call.svg" ] || fails "packaging/try.sh drew no picture"
+    rm -f "$work/call.svg"
+    works decode --code mmr --width 1728 "$top/docs/examples/fax.mmr" "$work/fax.pbm"
+    works call --lose 20% --seed 7 --expect normal --diagram "$work/call.svg" "$work/fax.pbm"
+    is_same "$work/call.svg" "$top/docs/call.svg" "docs/call.svg, which a call of docs/examples/fax.mmr draws"
+    rm "$work/call.svg"
     works decode --code mmr --width 1728 --fine "$top/docs/examples/a4.mmr" "$work/a4.pbm"
     is_same "$first/build/stored.pbm" "$work/a4.pbm" "the page that packaging/try.sh stores"
     cat > "$first/build/faxtool" << WRONG
@@ -98,6 +103,16 @@ joins() {
     [ "$status" = "$end" ] || fails "join.py $* ended with status $status, and not $end"
     ! grep ', status -' "$work/output" >&2 || fails "join.py $*: a signal ended a station"
     [ "$end" = 0 ] || [ "$(wc -l < "$work/error")" = 1 ] || fails "join.py $* wrote $(wc -l < "$work/error") lines on standard error"
+    count=$((count + 1))
+}
+
+# Two of docs/examples/driver.py, in real time.
+try_drivers() {
+    rm -rf "$work/drivers"
+    mkdir "$work/drivers"
+    timeout 300 python3 -B "$top/.ci/end_to_end/drivers.py" "$program" "$top/docs/examples/driver.py" "$top/docs/examples/row.pbm" "$work/drivers" \
+        > "$work/output" 2> "$work/error" || fails "docs/examples/driver.py: $(cat "$work/error")"
+    rm -r "$work/drivers"
     count=$((count + 1))
 }
 

@@ -22,6 +22,7 @@ from pathlib import Path
 HERE = Path(__file__).resolve().parent
 TOP = HERE.parent.parent
 LIBRARY = "libg3fax.so.0"
+UNPROVED = "+unproved"  # what follows the version of a library that says that it was built without proof
 
 
 def words():
@@ -70,7 +71,10 @@ def metadata(version):
     """What an installer shows of the package."""
     about = words()
     said = re.match('"""(.*?)"""', (HERE / "g3fax" / "__init__.py").read_text(), re.S)
-    lines = ["Metadata-Version: 2.1", f"Name: {about['name']}", f"Version: {version}", f"Summary: {about['description']}",
+    summary = about["description"]
+    if version.endswith(UNPROVED):
+        summary = summary.replace("the proved library for C, libg3fax", "the library for C, libg3fax, built without proof")
+    lines = ["Metadata-Version: 2.1", f"Name: {about['name']}", f"Version: {version}", f"Summary: {summary}",
              f"License: {about['license']}", f"Requires-Python: {about['requires-python']}", "Description-Content-Type: text/plain", ""]
     return "\n".join([*lines, said[1], ""])
 
@@ -81,6 +85,8 @@ def build_wheel(wheel_directory, config_settings=None, metadata_directory=None):
     if not (folder / LIBRARY).is_file():
         sys.exit(f"no wheel was made, since {folder / LIBRARY} isn't built yet: make proves and builds it, and G3FAX names another folder")
     library, version = (folder / LIBRARY).read_bytes(), (TOP / "VERSION").read_text().strip()
+    if b"built without proof" in library:
+        version += UNPROVED
     tag, info = f"py3-none-{platform(library)}", f"g3fax-{version}.dist-info"
     files = {
         **{f"g3fax/{file.name}": file.read_bytes() for file in [*sorted(HERE.glob("g3fax/*.py")), HERE / "g3fax/py.typed"]},

@@ -395,7 +395,7 @@ def main(words):
     if len(words) not in (1, 2) or words[1:] not in ([], ["--check"]):
         sys.exit("usage: make.py PROGRAM [--check]")
     files = made(str(Path(words[0]).resolve()))
-    kept = [*TOP.glob("docs/man/*.1"), *TOP.glob("docs/completion/*")]
+    kept = [*TOP.glob("docs/man/faxtool*.1"), *TOP.glob("docs/completion/*")]
     there = {str(path.relative_to(TOP)) for path in kept}
     if words[1:]:
         other = [name for name, text in files.items() if not (TOP / name).is_file() or (TOP / name).read_text() != text]

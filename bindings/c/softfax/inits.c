@@ -5,16 +5,20 @@
 #include <string.h>
 #include <unistd.h>
 
-/* Opens the file beside this program. */
+/* Opens the file beside this program, or in share/softfax beside its folder, where it is installed; `name` is that of the last one. */
 static FILE *open_inits(char *name, size_t room)
 {
-    static const char FILE_NAME[] = "inits.txt";
-    ssize_t length = readlink("/proc/self/exe", name, room - sizeof FILE_NAME);
-    if (length < 0) length = 0;
-    name[length] = 0;
+    static const char *const PLACES[] = {"inits.txt", "../share/softfax/inits.txt"};
+    enum { LONGEST = 40 };
+    ssize_t length = readlink("/proc/self/exe", name, room - LONGEST);
+    FILE *file = NULL;
+    name[length < 0 ? 0 : length] = 0;
     char *slash = strrchr(name, '/');
-    strcpy(slash != NULL ? slash + 1 : name, FILE_NAME);
-    return fopen(name, "r");
+    for (int i = 0; i < 2 && file == NULL; i++) {
+        strcpy(slash != NULL ? slash + 1 : name, PLACES[i]);
+        file = fopen(name, "r");
+    }
+    return file;
 }
 
 int inits_find(const char *name, int xon, char out[INITS_ROOM])

@@ -122,6 +122,13 @@ wait "$answerer" || status=$?
 [ "$status" = 1 ] || fails "the answerer of a caller without error correction ended with status $status"
 has answerer '{"end":"refused","pages":0,"why":"the caller sends without error correction","seconds":'
 
+# a build without libspandsp has modems alone
+make -s -C "$here" LIB="$LIB" OUT="$work/mute" SOUND=no softfax
+status=0
+"$work/mute/softfax" --answer "$work" --rx /dev/null --tx /dev/null 2> "$work/said" || status=$?
+[ "$status" = 1 ] && grep -q "built without libspandsp, and has modems alone" "$work/said" \
+    || fails "softfax without sound ended with status $status and said: $(cat "$work/said")"
+
 refuses 2 usage
 refuses 2 usage --call --rx /dev/null --tx /dev/null
 refuses 2 usage --call "$work/1.pbm" --answer "$work" --rx /dev/null --tx /dev/null

@@ -1,0 +1,24 @@
+#!/bin/sh
+# All tests, end to end and examples, over a build without proof; `make test` calls it:
+#
+#     .ci/test.sh
+#
+# It shows what the program and the library do, and nothing of what is proved: .ci/run does. Ends with status 1 at the first difference.
+set -e
+top=$(cd "$(dirname "$0")/.." && pwd)
+cd "$top"
+KIT=${KIT:-/opt/rattle}
+PYTHONDONTWRITEBYTECODE=1 FAXTOOL=build/faxtool G3FAX=build
+export KIT PYTHONDONTWRITEBYTECODE FAXTOOL G3FAX
+[ -x "$KIT/bin/rt" ] || { echo "test: there is no Rattle kit in $KIT: unpack it there, or say by KIT where it is" >&2; exit 1; }
+work=$(mktemp -d)
+trap 'rm -rf "$work"' EXIT
+packaging/try.sh > "$work/said" 2>&1 || { cat "$work/said" >&2; exit 1; }
+packaging/try.sh --library > "$work/said" 2>&1 || { cat "$work/said" >&2; exit 1; }
+for crate in crates/*_tests; do
+    (cd "$crate" && "$KIT/bin/rt" try --test > "$work/said" 2>&1) || { cat "$work/said" >&2; echo "test: FAILED: $crate" >&2; exit 1; }
+    echo "test: $crate"
+done
+mkdir "$work/library"
+cp build/*g3fax* "$work/library/"
+.ci/beside.py ".ci/end_to_end.sh build/faxtool" ".ci/readme_programs.sh build" .ci/growths.py ".ci/softfax.sh $work/library" .ci/packages.sh

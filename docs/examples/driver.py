@@ -1,0 +1,57 @@
+#!/usr/bin/env python3
+"""One real end of a call: `faxtool station` on one side, your modem's program on the other, by a socket. Keeps the time, and drops answers
+that the other side has spoken into.
+
+    driver.py SOCKET faxtool station --answer --out DIR --late 2000
+
+To the modem's program goes a line `tx CARRIER KIND BITS HEX` for each burst, one at a time. From it come lines: `sent` once a burst is on the
+line, `busy` when a carrier of the other side begins, `rx CARRIER KIND BITS HEX` when it has ended, and `end` if the line drops. The exit
+status is the station's."""
+
+import select
+import socket
+import subprocess
+import sys
+import time
+
+PAUSE, EACH = 75, 20  # milliseconds: of silence before a burst; between two `quiet`
+
+
+def main():
+    if len(sys.argv) < 3:
+        sys.exit(__doc__)
+    modem = socket.socket(socket.AF_UNIX)
+    modem.connect(sys.argv[1])
+    station = subprocess.Popen(sys.argv[2:], stdin=subprocess.PIPE, stdout=subprocess.PIPE, text=True, bufsize=1)
+    began, free, heard, bursts = time.monotonic(), 0, b"", []
+    is_sending = is_hearing = is_over = False
+    while not is_over or is_sending or bursts:
+        line, rest, after = heard.partition(b"\n")
+        if not rest and select.select([modem], [], [], EACH / 1000)[0]:
+            octets = modem.recv(1 << 16)
+            heard += octets or b"end\n"
+            continue
+        now = int((time.monotonic() - began) * 1000)
+        word, _space, burst = line.decode().partition(" ") if rest else ("quiet", "", "")
+        heard = after if rest else heard
+        if word == "sent":
+            is_sending, free = False, now + PAUSE
+        if word in ("busy", "rx"):
+            is_hearing, free = word == "busy", now + PAUSE
+            bursts = [] if word == "busy" else bursts  # they answer what was said before
+        if word == "end":
+            bursts, is_sending = [], False
+        if word == "quiet" and bursts and not is_sending and now >= free:
+            modem.sendall(f"tx {bursts.pop(0)}\n".encode())
+            is_sending = True
+        if is_over or word == "sent" or (word == "quiet" and (is_sending or is_hearing or bursts)):
+            continue
+        station.stdin.write(f"{word} {now} {burst}".rstrip() + "\n" if burst else f"{word} {now}\n")
+        while (answer := station.stdout.readline().strip()).startswith("tx "):
+            bursts.append(answer[3:])
+        is_over = answer != "wait"
+    return station.wait()
+
+
+if __name__ == "__main__":
+    sys.exit(main())

@@ -1,0 +1,45 @@
+#!/bin/sh
+# Tries an installed softfax: a modem on a pty that is busy, by the name of a chip of its inits.txt; and, if it has sound, a call of two of
+# them over two pipes:
+#
+#     packaging/try_softfax.sh PROGRAM
+#
+# Ends with status 1 if anything is another way.
+set -e
+top=$(cd "$(dirname "$0")/.." && pwd)
+. "$top/packaging/common.sh"
+[ $# = 1 ] || { echo "usage: try_softfax.sh PROGRAM" >&2; exit 2; }
+needs python3 mkfifo
+program=$1
+work=$(mktemp -d)
+trap 'rm -rf "$work"' EXIT
+{ printf 'P4\n1728 40\n'; seq 10000 99999 | head -c 8640; } > "$work/page.pbm"
+python3 - "$program" "$work/page.pbm" << 'MODEM' || ends "the modem that is busy"
+import os
+import pty
+import subprocess
+import sys
+import tty
+
+master, slave = pty.openpty()
+tty.setraw(slave)
+words = [sys.argv[1], "--tty", os.ttyname(slave), "--call", "555", sys.argv[2], "--init", "usr"]
+with subprocess.Popen(words, stderr=subprocess.PIPE, text=True) as program:
+    told = b""
+    while b"ATDT555\r" not in told:
+        told += os.read(master, 500)
+        os.write(master, b"\r\nBUSY\r\n" if told.endswith(b"ATDT555\r") else b"\r\nOK\r\n")
+    os.read(master, 500)
+    os.write(master, b"\r\nOK\r\n")
+    said = program.stderr.read()
+is_right = program.returncode == 1 and "the modem says BUSY" in said and b"AT&F1E0\r" in told
+sys.exit(0 if is_right else f"status {program.returncode}, {said}, {told!r}")
+MODEM
+if ldd "$program" | grep -q libspandsp; then
+    mkdir "$work/got"
+    mkfifo "$work/to" "$work/from"
+    timeout 120 "$program" --answer "$work/got" --rx "$work/to" --tx "$work/from" 2> "$work/said" &
+    timeout 120 "$program" --call "$work/page.pbm" --rx "$work/from" --tx "$work/to" || ends "a call over sound"
+    wait $! || { cat "$work/said" >&2; ends "the answerer of a call over sound"; }
+    cmp "$work/page.pbm" "$work/got/page-1.pbm" || ends "the page of a call over sound"
+fi
