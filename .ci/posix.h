@@ -8,7 +8,7 @@
 /* errno.h */
 int *__errno_location(void);
 #define errno (*__errno_location())
-enum { ENOENT = 2, ESRCH = 3, EINTR = 4, EIO = 5, ENXIO = 6, EAGAIN = 11, EEXIST = 17, ENOTDIR = 20, EPIPE = 32, ENAMETOOLONG = 36 };
+enum { EPERM = 1, ENOSYS = 38, EOPNOTSUPP = 95, ENOENT = 2, ESRCH = 3, EINTR = 4, EIO = 5, ENXIO = 6, EAGAIN = 11, EEXIST = 17, ENOTDIR = 20, EPIPE = 32, ENAMETOOLONG = 36 };
 
 /* stdarg.h */
 typedef __builtin_va_list va_list;

@@ -3,6 +3,9 @@
  * that fail: each has to be named in words. Status 1: a call fails, a page is on disk that isn't the document's, a confirmed one is
  * missing, XOFF stops no tty, or an end doesn't hang up. --tell: what happens in each call, on standard error; --few: three kinds of
  * calls on a clean line, for valgrind. FOLDER is for the pages, and empty. */
+#include "class1_frame.h"
+#include "class1_words.h"
+#include "identity.h"
 #include "on_pty.h"
 #include "stopped.h"
 #include <stdio.h>
@@ -97,6 +100,47 @@ static int try_faults(const paper *papers, const char *tells)
     return well == count;
 }
 
+/* Octets behind CONNECT, and what is made of them. */
+static int try_frames(void)
+{
+#define OCTETS(text) text, sizeof text - 1
+    static const struct { const char *octets; size_t count; int result, is_whole, length; } CASES[] = {
+        {OCTETS("\xff\x13\x80\x01\x02\x10\x03"), NO_RESULT, 1, 5},
+        {OCTETS("\r\nCONNECT\r\n\xff\x13\x80\x01\x02\x10\x03"), NO_RESULT, 1, 5},
+        {OCTETS("z\0\xff\x03\x40\x10\x10\x02\x10\x03"), NO_RESULT, 1, 5},
+        {OCTETS("\xff\x13\r\nCONNECT\r\n\xff\x03\x20\x01\x02\x10\x03"), NO_RESULT, 1, 5},
+        {OCTETS("\x13\x80\x01\x02\x03\x04\x10\x03"), NO_RESULT, 0, 0},
+        {OCTETS("\xff\x13\x80\x01\x10\x03"), NO_RESULT, 0, 4},
+        {OCTETS("\xff\x13\x80\x01\x02\r\nNO CARRIER\r\n"), NO_CARRIER, 0, 0},
+        {OCTETS("\r\nOK\r\n"), OK, 0, 0}};
+#undef OCTETS
+    int well = 0, count = sizeof CASES / sizeof CASES[0];
+    for (int i = 0; i < count; i++) {
+        class1_frame frame;
+        int is = NO_RESULT;
+        class1_frame_begin(&frame);
+        for (size_t at = 0; at < CASES[i].count; at++) {
+            int more = class1_frame_take(&frame, (uint8_t)CASES[i].octets[at]);
+            if (more != NO_RESULT && more != CONNECT) is = more;
+        }
+        well += is == CASES[i].result && class1_frame_is_whole(&frame) == CASES[i].is_whole && frame.length == CASES[i].length;
+    }
+    printf("%d of %d runs of octets behind CONNECT are read\n", well, count);
+    return well == count;
+}
+
+/* A name is that of a frame with the address and the control field of T.30 alone. */
+static int try_names(void)
+{
+    static const uint8_t OURS[] = {0xff, 0x03, 0x40, '1'};
+    static const uint8_t OTHERS[][4] = {{0xfe, 0x03, 0x40, '1'}, {0xff, 0x23, 0x40, '1'}, {0xff, 0x03, 0x80, '1'}};
+    char text[IDENTITY_MOST + 1] = "";
+    int is_right = identity_read(OURS, sizeof OURS, text) && strcmp(text, "1") == 0;
+    for (int i = 0; i < 3; i++) is_right = is_right && !identity_read(OTHERS[i], sizeof OTHERS[i], text);
+    if (!is_right) printf("a frame of another address names a station\n");
+    return is_right;
+}
+
 int main(int argc, char **argv)
 {
     static const uint32_t WIDTHS[MOST_PAGES] = {1728, 2432, 1728};
@@ -104,7 +148,7 @@ int main(int argc, char **argv)
     int is_few = argc > 2 && strcmp(argv[2], "--few") == 0;
     uint32_t lines = is_few ? 1 : LINES_COUNT, kinds = is_few ? 3 : 3 * 2 * 2;
     paper papers[MOST_PAGES];
-    int is_right = 1;
+    int is_right = try_frames() & try_names();
     if (argc < 2) return fprintf(stderr, "usage: class1-test FOLDER [--tell | --few]\n"), 2;
     folder = argv[1];
     for (uint32_t i = 0; i < MOST_PAGES; i++) {

@@ -120,6 +120,19 @@ static int open_part(const pages_folder *folder, char *name, size_t room)
     return file;
 }
 
+/* Gives a part a name that no file has where link can't, as on FAT: an empty file takes the name, and the page replaces it at once. */
+static int move_part(const char *part, const char *name)
+{
+    int file = open(name, O_WRONLY | O_CREAT | O_EXCL, S_IRUSR | S_IWUSR);
+    if (file < 0) return -1;
+    close(file);
+    if (rename(part, name) == 0) return 0;
+    int why = errno;
+    unlink(name);
+    errno = why;
+    return -1;
+}
+
 /* Gives a part the next name that no file has; the name is in a buffer. */
 static int name_part(pages_folder *folder, const char *part, char *name, size_t room)
 {
@@ -128,6 +141,7 @@ static int name_part(pages_folder *folder, const char *part, char *name, size_t 
         int length = snprintf(name, room, "%s/page-%u.pbm", place(folder), ++folder->last);
         if (length < 0 || (size_t)length >= room) return errno = ENAMETOOLONG, 0;
         linked = link(part, name);
+        if (linked != 0 && (errno == EPERM || errno == ENOSYS || errno == EOPNOTSUPP)) linked = move_part(part, name);
     } while (linked != 0 && errno == EEXIST);
     return linked == 0;
 }

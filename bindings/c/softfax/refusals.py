@@ -22,6 +22,7 @@ def begin(work, side, refused, words):
     more = {"REFUSED": str(refused), "GROWTHS": str(work / f"{side}.growths")}
     if side == "answerer":
         more |= {"FAILS": work.name.partition("fails-")[2], "KEPT": str(work / "kept")}
+        more |= {"NO_LINKS": "1"} if work.name == "no-links" else {}
     with open(work / f"{side}.said", "wb") as file:
         return subprocess.Popen([PROGRAM, *map(str, words), "--json"], stderr=file, env=dict(os.environ, **more))
 
@@ -84,6 +85,15 @@ def keep(fails):
     return ""
 
 
+def keep_without_links():
+    """Runs a call on a file system without links; returns what was wrong. A page isn't written over one that is there."""
+    _, fault = call("answerer", 0, "no-links")
+    pages = FOLDER / "no-links" / "pages"
+    if fault or sorted(os.listdir(pages)) != ["page-1.pbm", "page-2.pbm"] or {page.stat().st_mode & 0o777 for page in pages.iterdir()} != {0o600}:
+        return f"pages without links: {os.listdir(pages)} {fault}"
+    return ""
+
+
 tried, faults = 0, []
 with ThreadPoolExecutor(2) as pool:
     for one in SIDES:
@@ -91,7 +101,7 @@ with ThreadPoolExecutor(2) as pool:
         numbers = sorted({*range(1, FIRST + 1), *range(1, count + 1, max(1, count // SOME))})
         tried += len(numbers)
         faults += [fault, *(text for _, text in pool.map(call, [one] * len(numbers), numbers))]
-faults = [text for text in [*faults, *map(keep, range(4))] if text]
+faults = [text for text in [*faults, *map(keep, range(4)), keep_without_links()] if text]
 if faults:
     sys.exit("\n".join(faults[:5]))
 print(f"softfax: {tried} growths of memory of two processes were refused in turn, under the sanitizers, and pages that can't be kept "

@@ -14,9 +14,9 @@ here=$(cd "$(dirname "$0")" && pwd)
 LIB=${LIB:-$here/../../build}
 OUT=${OUT:-$here/build}
 work=$(mktemp -d)
-exchange='' modems=''
+exchange='' modems='' iaxmodems=''
 leaves() {
-    for one in $exchange $modems; do kill "$one" 2> /dev/null || true; done
+    for one in $exchange $modems $iaxmodems; do kill "$one" 2> /dev/null || true; done
     rm -rf "$work"
 }
 trap leaves EXIT
@@ -70,6 +70,9 @@ fi
 mkdir "$work/got" "$work/unused"
 timeout 300 python3 "$here/modems.py" "$softfax" "$work/short.pbm" "$work/unused" > "$work/modems" 2>&1 &
 modems=$!
+mkdir "$work/iax"
+timeout 600 python3 "$here/iax.py" "$softfax" "$work/short.pbm" "$work/iax" > "$work/iaxmodems" 2>&1 &
+iaxmodems=$!
 "$OUT/softfax-test" "$work"
 "$OUT/bench" "$work"
 
@@ -297,6 +300,9 @@ else
     echo "softfax: valgrind isn't installed"
 fi
 
+wait "$iaxmodems" || { cat "$work/iaxmodems" >&2; fails "iax.py"; }
+iaxmodems=
+cat "$work/iaxmodems"
 wait "$modems" || { cat "$work/modems" >&2; fails "modems.py"; }
 modems=
 cat "$work/modems"

@@ -1,6 +1,6 @@
 /* Linked into softfax for tests, with --wrap of malloc, realloc, free, fsync and link. The growth of memory whose number is in REFUSED is
  * refused, and the call of fsync or link whose number is in FAILS fails. The file that GROWTHS names gets how many growths there were; the
- * one that KEPT names gets a line for each fsync and link. */
+ * one that KEPT names gets a line for each fsync and link. With NO_LINKS each link fails as on FAT. */
 #include "../../tests/heap.h"
 #include <errno.h>
 #include <stdio.h>
@@ -33,6 +33,7 @@ int __wrap_fsync(int file)
 
 int __wrap_link(const char *from, const char *to)
 {
+    if (getenv("NO_LINKS") != NULL) return errno = EPERM, -1; /* as on FAT */
     return note("links", to) ? __real_link(from, to) : -1;
 }
 
