@@ -67,6 +67,7 @@ mkdir "$work/papers"
 timeout 600 "$work/class1-test" "$work/papers" > "$work/output" 2>&1 || fails class1-test
 grep '^softfax: ' "$work/output"
 
+objects=$shared
 compiles service
 shared=$objects
 builds service-test

@@ -106,13 +106,17 @@ int call_is_over(const call *it)
 }
 
 /* Why a call has ended so, in words, if that is known. A normal end has none, whatever came after it, as NO CARRIER. */
-static const char *why(const call *it, uint32_t end)
+static const char *why(call *it, uint32_t end)
 {
+    const char *left_out = it->terminal != NULL ? terminal_left_out(it->terminal) : NULL;
     if (end == G3_END_NORMAL) return NULL;
     if (it->terminal != NULL && terminal_why(it->terminal) != NULL) return terminal_why(it->terminal);
     if (it->folder.fault[0] != 0) return it->folder.fault;
-    if (it->why == NULL && (end == G3_END_STOPPED || it->stop != STOP_NOT)) return stop_why();
-    return it->why;
+    if (it->why != NULL) return it->why;
+    if (end == G3_END_STOPPED || it->stop != STOP_NOT) return stop_why();
+    if (left_out == NULL) return NULL;
+    snprintf(it->fault, sizeof it->fault, "%s, which isn't answered", left_out);
+    return it->fault;
 }
 
 int call_end(call *it)

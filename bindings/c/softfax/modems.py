@@ -115,6 +115,22 @@ def rings(told):
     return b"\r\nNO CARRIER\r\n" if told == b"ATA" else OK
 
 
+def says_ctc():
+    """A caller that says CTC once, and then nothing: what a fax says after the fourth PPR."""
+    frames = [b"\r\nCONNECT\r\n\xff\x13\x12\x40\x00\x10\x03" + OK]
+
+    def reply(told):
+        if told == b"AT+FRM=?":
+            return OK + b"\r\nRING\r\n"
+        if told == b"ATA" or told.startswith(b"AT+FTH"):
+            return b"\r\nCONNECT\r\n"
+        if told.startswith((b"AT+FRH", b"AT+FRM=")):
+            return frames.pop() if frames else b""
+        return OK if told.startswith((b"AT", CAN)) or told.endswith(b"\x10\x03") else b""
+
+    return reply
+
+
 ANSWER = ["--answer", sys.argv[3]]
 CALL = ["--call", "5551234", sys.argv[2]]
 BUSY = replies(D=b"\r\nBUSY\r\n")
@@ -139,6 +155,7 @@ CALLS = [
     Call("SIGTERM while it waits for a ring", "end no-call pages 0", lambda told: OK, words=ANSWER, kills_at=b"=?", must_say=b"ATH0\r"),
     Call("Caller-ID", '{"call":1,"number":"5551234","name":"A \\u0022NAME\\u0022"}', rings,
          words=[*ANSWER, "--calls", "1", "--rings", "2", "--json"], must_say=b"ATA\r", status=0),
+    Call("a frame that isn't answered", "CTC, which isn't answered", says_ctc(), words=[*ANSWER, "--no-ctc"], within=150),
     Call("SIGUSR1 while it waits for a ring", "", lambda told: OK, words=[*ANSWER, "--calls", "forever"], kills_at=b"=?",
          kills_by=signal.SIGUSR1, must_say=b"ATH0\r", status=0),
     Call("a modem that fails while many calls are awaited", "the modem has fallen silent", until(b"=?", OK, OK),

@@ -283,8 +283,10 @@ exchange=
 echo "softfax: two processes carry a page over two ttys, and two signals end a call by DCN; one answers both calls"
 
 if command -v valgrind > /dev/null; then
-    make -s -C "$here" LIB="$LIB" OUT="$OUT" memory-test class1-test
-    mkdir "$work/few"
+    make -s -C "$here" LIB="$LIB" OUT="$OUT" memory-test class1-test service-test
+    mkdir "$work/few" "$work/service"
+    valgrind -q --error-exitcode=99 --leak-check=full "$OUT/service-test" "$work/service" 3 > "$work/said" 2>&1 \
+        || { cat "$work/said" "$work/service/records" >&2; fails "valgrind of service-test"; }
     valgrind -q --error-exitcode=99 --leak-check=full --track-fds=yes "$OUT/class1-test" "$work/few" --few > "$work/said" 2>&1 \
         || { cat "$work/said" >&2; fails "valgrind of class1-test"; }
     ! grep "Open file descriptor.*: /dev/p" "$work/said" || fails "a pty is left open"

@@ -53,6 +53,7 @@ struct terminal {
     g3_burst burst;
     int answers_ctc, ctr;           /* CTC is answered; CTR is to be said */
     uint32_t ctc;                   /* the carrier that CTC has named; 0: none since the last DCS */
+    const char *left_out;           /* the last frame that was heard, if it is one that this station answers by nothing; NULL: it isn't */
     int without_correction;         /* how many DCS have come from a caller that has no error correction */
     const char *why;                /* why the terminal has ended the call; NULL: it hasn't */
     const char *identity;           /* how this station is named in what it sends; NULL: it isn't */
@@ -145,6 +146,11 @@ const char *terminal_peer_name(const terminal *it)
     return it->peer;
 }
 
+const char *terminal_left_out(const terminal *it)
+{
+    return it->left_out;
+}
+
 const char *terminal_why(const terminal *it)
 {
     return it->why;
@@ -222,6 +228,20 @@ static void note_used_number(terminal *it)
     tell(it, it->why, NULL, 0);
 }
 
+/* The name of a frame that wants an answer, and that neither the stations know nor this terminal answers; NULL: it is none. */
+static const char *left_out(const terminal *it, const uint8_t *content, uint64_t length)
+{
+    static const char *const WANT_NONE[] = {"CSI", "TSI", "NSF", "NSS", "CIG", "NSC", "PWD", "SEP", "SUB", "SID", "PSA", "CIA", "ISP", "CSA",
+        "TSA", "IRA"};
+    g3_signal signal = G3_INIT(g3_signal);
+    const char *name = frame_name(content[2]);
+    if (it->ctr || (g3_signal_read(content, length, &signal) == G3_OK && signal.kind != G3_OTHER)) return NULL;
+    for (size_t i = 0; i < sizeof WANT_NONE / sizeof WANT_NONE[0]; i++) {
+        if (strcmp(name, WANT_NONE[i]) == 0) return NULL;
+    }
+    return name;
+}
+
 /* Hears the content of a good frame. */
 static void hear_content(terminal *it, int receiver, const uint8_t *content, uint64_t length)
 {
@@ -232,6 +252,7 @@ static void hear_content(terminal *it, int receiver, const uint8_t *content, uin
     it->reads = 1;
     if (is_ours && receiver == BY_V21) {
         if (it->answers_ctc) note_ctc(it, content, length);
+        it->left_out = left_out(it, content, length);
         identity_read(content, length, it->peer);
         note_correction(it, content, length);
     }

@@ -33,6 +33,8 @@ void terminal_identify(terminal *it, const char *text);
 const char *terminal_peer_name(const terminal *it);
 /* Why the terminal itself has ended the call; NULL if it hasn't. */
 const char *terminal_why(const terminal *it);
+/* The name of the frame that was heard last, if it wants an answer that this station doesn't give; NULL: it isn't one. */
+const char *terminal_left_out(const terminal *it);
 /* Tells what happens to `line`, each with the time in milliseconds and this name. */
 void terminal_tell(terminal *it, const char *name, void (*line)(const char *text));
 #endif
