@@ -44,6 +44,7 @@ is_proved() {
 
 # marks FILE PROGRAM LIBRARY: docs/PROOF.md as it is installed says in its second paragraph if what is installed was built without proof.
 marks() {
+    # shellcheck disable=SC2016
     is_proved "$2" "$3" || sed -i '1a\
 \
 **The program and the library that are installed here were built without proof.** What follows is of those that `make` builds.' "$1"

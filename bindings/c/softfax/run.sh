@@ -129,7 +129,7 @@ has answerer '{"end":"refused","pages":0,"why":"the caller sends without error c
 make -s -C "$here" LIB="$LIB" OUT="$work/mute" SOUND=no softfax
 status=0
 "$work/mute/softfax" --answer "$work" --rx /dev/null --tx /dev/null 2> "$work/said" || status=$?
-[ "$status" = 1 ] && grep -q "built without libspandsp, and has modems alone" "$work/said" \
+{ [ "$status" = 1 ] && grep -q "built without libspandsp, and has modems alone" "$work/said"; } \
     || fails "softfax without sound ended with status $status and said: $(cat "$work/said")"
 
 refuses 2 usage
