@@ -3,19 +3,22 @@
 
     .ci/edits.py
 
-Each `old:` text of .ci/must-fail/*/*.edit, and of bench/plant/edits/*/*.edit, which the gate doesn't try, stands exactly once in the
-file that the edit names, after the pairs before it; docs/PLANTS.md names bugs that are there, and has a record of those of bench that isn't
-too old; each .rt and .antt file is as the kit's formatter writes it; and no module has the name of a library that its crate uses.
-Prints what is wrong and ends with status 1, or prints one line of counts. It needs Python's
-standard library and the kit's `rattle`."""
+Each `old:` text of .ci/must-fail/*/*.edit, and of bench/plant/edits/*/*.edit, which the gate doesn't try, stands exactly once in the file
+that the edit names, after the pairs before it. The texts of bench/plant's wrong definitions, code and bodies that answer no memory stand in
+their files too, and the laws of its tables in their crates. docs/PLANTS.md names bugs that are there, and has a record of those of bench
+that isn't too old; each .rt and .antt file is as the kit's formatter writes it; and no module has the name of a library that its crate
+uses. Prints what is wrong and ends with status 1, or prints one line of counts. It needs Python's standard library and the kit's
+`rattle`."""
 
 import os
+import re
 import shutil
 import subprocess
 import sys
 from pathlib import Path
 
 sys.dont_write_bytecode = True
+sys.path.append(str(Path(__file__).resolve().parent.parent / "bench" / "plant"))
 import plants
 
 TOP = Path(__file__).resolve().parent.parent
@@ -38,19 +41,48 @@ def pairs_of(edit):
     return found
 
 
-def faults_of(edit, crate):
-    """What is wrong with an edit."""
+def pair_faults(pairs, folder, once=True):
+    """What is wrong with pairs of texts, each of which stands once in its file; or, where that isn't asked for, at all."""
     texts = {}
-    for file, old, new in pairs_of(edit):
+    for file, old, new in pairs:
         if file is None or old is None:
             return ["a new text without a file or an old one"]
-        if not (crate / file).is_file():
+        if not (folder / file).is_file():
             return [f"no file {file}"]
-        text = texts.setdefault(file, (crate / file).read_text())
-        if text.count(old) != 1:
+        text = texts.setdefault(file, (folder / file).read_text())
+        if old not in text or once and text.count(old) != 1:
             return [f"stands {text.count(old)} times in {file}: {old}"]
         texts[file] = text.replace(old, new)
     return [] if texts else ["it changes nothing"]
+
+
+def faults_of(edit, folder):
+    """What is wrong with an edit."""
+    return pair_faults(pairs_of(edit), folder)
+
+
+def law_faults(row):
+    """Whether the law of a wrong row is a definition of its crate."""
+    file, _, law = row["law"].rpartition(".")
+    path = TOP / "crates" / row["crate"] / "specs" / f"{file.replace('.', '/')}.antt"
+    has = path.is_file() and re.search(rf"^(?:\w+ )*{re.escape(law)} ", path.read_text(), re.M)
+    return [] if has else [f"no law {row['law']}"]
+
+
+def texts_of_plants():
+    """What is wrong with the texts of bench/plant that no edit has: of wrong definitions, of tables, of wrong code, of no memory."""
+    import no_memory
+    import refuted
+    import wrong_code
+    import wrong_definitions
+
+    found = [(name, pair_faults(pairs, TOP / "crates", once=False)) for name, pairs in wrong_definitions.WRONG.items()]
+    rows = refuted.all_rows()
+    found += [(f"{row['crate']}: {row['name']}", pair_faults(row["edits"], TOP / "crates" / row["crate"]) + law_faults(row)) for row in rows]
+    found += [(body["name"], pair_faults([(body["file"], body["old"], body["new"])], TOP)) for body in wrong_code.bodies()]
+    calls = no_memory.CALLS.items()
+    found += [(call, pair_faults([(f"{crate}/src/{file}", line, "")], TOP / "crates")) for call, (crate, file, line, *_) in calls]
+    return len(found), [f"bench/plant: {name}: {fault}" for name, faults in found for fault in faults]
 
 
 def unformatted(crate):
@@ -79,10 +111,12 @@ def main():
     for line in (TOP / "crates.txt").read_text().splitlines():
         wrong += shadowed(line)
     wrong += plants.faults_here()
+    others, lacking = texts_of_plants()
+    wrong += lacking
     for fault in wrong:
         print(f"edits: {fault}")
     if not wrong:
-        print(f"edits: {len(edits)} edits can be made, and the sources of {len(crates)} crates are formatted")
+        print(f"edits: {len(edits)} edits and {others} others of bench/plant can be made, and the sources of {len(crates)} crates are formatted")
         untried = plants.untried(plants.PAGE.read_text(), plants.edits_here())
         if untried:
             print(f"edits: `make plants` has not yet tried those of {', '.join(untried)}")

@@ -12,9 +12,14 @@ import sys
 sys.dont_write_bytecode = True
 import cited
 import definitions as checks
+import edits
 import house
 import told
 import witnesses as given
+
+import no_memory
+import refuted
+import wrong_definitions
 
 books = checks.books
 BOOK = books.Book()
@@ -279,18 +284,39 @@ def guarantees():
     yield refuses("a program that calls it no more", lambda own: cited.cited_faults(readme, BOOK, *cited.read(own)), texts, dropped, "run_request")
 
 
+# What the table of files to touch is seen to refuse: the change, its file, the old and the new text, and what is said.
+TOUCHED = [
+    ("a file to touch that isn't there", "CONTRIBUTING.md", "`control.rt`", "`controls.rt`", "there is no crates/signals/src/controls.rt"),
+    ("no row for an option", "CONTRIBUTING.md", "| an option |", "| one more |", "no row for an option"),
+    ("a signal that a file hasn't", "crates/signals/src/control.rt", "Rnr", "Busy", "Rnr isn't in crates/signals/src/control.rt"),
+    ("a kind of fault that a file hasn't", told.FAULT_KINDS, "Backwards", "Wayward", "Backwards isn't in crates/faults/src/fault_kind.rt"),
+    ("a fault that the man page hasn't", told.PAGE, "\n16\n", "\n160\n", "16 isn't in docs/man/faxtool.1"),
+    ("a fault that no case has", told.HELP, "\n  32  ", "\n  33  ", "33 isn't in .ci/end_to_end"),
+    ("a status without a text", told.C_TEXTS, "case G3_BACKWARDS: return", "case 0: return", "G3_BACKWARDS isn't in bindings/g3fax.c"),
+    ("a command that doesn't run", "crates/faxtool/src/dispatch.rt", "Several", "Severed", "Several isn't in crates/faxtool/src/dispatch.rt"),
+    ("a command without a case", "crates/faxtool/src/args/table.rt", 'name: "show"', 'name: "exhibit"', "exhibit isn't in .ci/end_to_end"),
+    ("an option without a case", "crates/faxtool/src/args/table.rt", '"no-refuse"', '"no-refusing"', "no-refusing isn't in .ci/end_to_end"),
+    ("an option without a completion", "docs/completion/faxtool.fish", "-l whole", "-l entire", "whole isn't in docs/completion/faxtool.fish"),
+    ("a code that a file hasn't", "crates/page_code/specs/Codings.antt", "OneDim", "OneWay", "OneDim isn't in crates/page_code/specs"),
+]
+
+
 def words():
     """A word of a fault changed in each place that tells it, in code and definition both, and in what quotes it; and the files to touch."""
     texts, here = told.read()
+    assert not [*told.wording_faults(texts), *told.quote_faults(texts), *told.touch_faults(texts, here)]
 
+    # nothing is wrong with the texts as they are, so they aren't looked at again
     def wordings(own):
-        return [*told.wording_faults(own), *told.quote_faults(own)]
+        return [] if own is texts else [*told.wording_faults(own), *told.quote_faults(own)]
+
+    def touched(own):
+        return [] if own is texts else told.touch_faults(own, here)
 
     def changed_in(*paths, old="past the row's width", new="past its width"):
         assert all(old in texts[path] for path in paths)
         return {**texts, **{path: texts[path].replace(old, new) for path in paths}}
 
-    assert not [*wordings(texts), *told.touch_faults(texts, here)]
     for path in (told.FAULT_KINDS, told.FAULT_SPECS, told.HELP, told.PAGE, told.TABLE, "README.md", ".ci/end_to_end/words.sh"):
         yield refuses(f"a changed word of a fault in {path}", wordings, texts, changed_in(path), "past its width")
     both = changed_in(told.FAULT_KINDS, told.FAULT_SPECS)
@@ -304,25 +330,26 @@ def words():
     yield refuses("changed words of a page", wordings, texts, other, "fault 26")
     same = changed_in(told.HELP, old="an image's file is empty", new="the file is empty")
     yield refuses("words that are listed as others, and are the same", wordings, texts, same, "fault 7")
-    for name, path, old, new, said in [
-        ("a file to touch that isn't there", "CONTRIBUTING.md", "`control.rt`", "`controls.rt`", "there is no crates/signals/src/controls.rt"),
-        ("no row for an option", "CONTRIBUTING.md", "| an option |", "| one more |", "no row for an option"),
-        ("a signal that a file hasn't", "crates/signals/src/control.rt", "Rnr", "Busy", "Rnr isn't in crates/signals/src/control.rt"),
-        ("a kind of fault that a file hasn't", told.FAULT_KINDS, "Backwards", "Wayward", "Backwards isn't in crates/faults/src/fault_kind.rt"),
-        ("a fault that the man page hasn't", told.PAGE, "\n16\n", "\n160\n", "16 isn't in docs/man/faxtool.1"),
-        ("a fault that no case has", told.HELP, "\n  32  ", "\n  33  ", "33 isn't in .ci/end_to_end"),
-        ("a status without a text", told.C_TEXTS, "case G3_BACKWARDS: return", "case 0: return", "G3_BACKWARDS isn't in bindings/g3fax.c"),
-        ("a command that doesn't run", "crates/faxtool/src/dispatch.rt", "Several", "Severed", "Several isn't in crates/faxtool/src/dispatch.rt"),
-        ("a command without a case", "crates/faxtool/src/args/table.rt", 'name: "show"', 'name: "exhibit"', "exhibit isn't in .ci/end_to_end"),
-        ("an option without a case", "crates/faxtool/src/args/table.rt", '"no-refuse"', '"no-refusing"', "no-refusing isn't in .ci/end_to_end"),
-        ("an option without a completion", "docs/completion/faxtool.fish", "-l whole", "-l entire", "whole isn't in docs/completion/faxtool.fish"),
-        ("a code that a file hasn't", "crates/page_code/specs/Codings.antt", "OneDim", "OneWay", "OneDim isn't in crates/page_code/specs"),
-    ]:
-        yield refuses(name, lambda own: told.touch_faults(own, here), texts, changed_in(path, old=old, new=new), said)
+    for name, path, old, new, said in TOUCHED:
+        yield refuses(name, touched, texts, changed_in(path, old=old, new=new), said)
+
+
+def plants():
+    """Texts of bench/plant that don't stand in their files any more, a law that is gone, and a test that the page doesn't name."""
+    crates = checks.TOP / "crates"
+    assert not edits.texts_of_plants()[1]
+    pairs = wrong_definitions.WRONG["normal end after MPS"]
+    gone = [(file, f"{old} gone", new) for file, old, new in pairs]
+    yield refuses("a wrong definition of another text", lambda own: edits.pair_faults(own, crates, once=False), pairs, gone, "stands 0 times")
+    row = refuted.all_rows()[0]
+    moved = [("specs/Moved.antt", old, new) for _, old, new in row["edits"]]
+    yield refuses("a wrong row of no file", lambda own: edits.pair_faults(own, crates / row["crate"]), row["edits"], moved, "no file")
+    yield refuses("a wrong row of no law", edits.law_faults, row, {**row, "law": f"{row['law']}Gone"}, "no law")
+    assert all(no_memory.test_of(call) for call in no_memory.CALLS)
 
 
 def main():
-    trials = (comments, clauses, documents, tables, at_size, links, witnesses, of_house, guarantees, words)
+    trials = (comments, clauses, documents, tables, at_size, links, witnesses, of_house, guarantees, words, plants)
     seen = [name for trial in trials for name in trial()]
     print(f"test_checks: {len(seen)} changes are refused: {', '.join(seen)}")
 

@@ -299,12 +299,12 @@ def touch_faults(texts, here):
     yield from (f"CONTRIBUTING.md has no row for {what}" for what in sorted({*WANTED, "a function for C"} - rows.keys()))
     for what, row in rows.items():
         for path in files_of(row, here):
-            under = [name for name in here if name == path or "*" in path and Path(name).match(path)]
-            if not under:
+            if path not in here and not ("*" in path and any(Path(name).match(path) for name in here)):
                 yield f"CONTRIBUTING.md, {what}: there is no {path}"
                 continue
             folders = [".ci/end_to_end", ".ci/conversations"] if what == "an option" and path == ".ci/end_to_end" else [path]
-            own = [name for name in texts if name in folders or name.startswith(tuple(f"{it}/" for it in folders)) or Path(name).match(path)]
+            under = tuple(f"{folder}/" for folder in folders)
+            own = [name for name in texts if name in folders or name.startswith(under) or "*" in path and Path(name).match(path)]
             text = "\n".join(texts[name] for name in own)
             looked = WANTED[what](texts, path) if what in WANTED else []
             yield from (f"CONTRIBUTING.md, {what}: {name} isn't in {path}" for name, form in looked if not form.search(text))
