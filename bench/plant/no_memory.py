@@ -63,6 +63,23 @@ def test_of(call):
     return re.search(r"`(\w+ [\w:]+)` \|$", row)[1]
 
 
+def leave_only(folder, crate, modules):
+    """Leaves of a crate of tests these modules, and of the crates that it is built on those that they name: the rest needn't be built."""
+    root = folder / "crates" / crate / "src" / "lib.rt"
+    named = re.sub(r"(?:#\[[^\n]*\]\n)*^(?:pub )?mod (\w+);\n", lambda it: it[0] if it[1] in modules else "", root.read_text(), flags=re.M)
+    root.write_text(named)
+    for part in ("src", "specs", "proofs"):
+        for file in (folder / "crates" / crate / part).rglob("*.*"):
+            if file != root and file.is_file() and not modules & set(file.relative_to(root.parent.parent / part).with_suffix("").parts):
+                file.unlink()
+    texts = "".join((root.parent / f"{module}.rt").read_text() for module in modules)
+    rows = (folder / "crates.txt").read_text().splitlines()
+    for number, row in enumerate(rows):
+        if row.startswith(f"{crate}:"):
+            rows[number] = f"{crate}: " + " ".join(name for name in row.split(":")[1].split() if re.search(rf"\b{name}::", texts))
+    (folder / "crates.txt").write_text("".join(f"{row}\n" for row in rows))
+
+
 def outcomes(tests, call=None, when=None):
     """Of tests of one crate whether each passes, and what it says, over the right sources or with a wrong body of a call."""
     with tempfile.TemporaryDirectory(prefix="no-memory-") as name:
@@ -73,6 +90,7 @@ def outcomes(tests, call=None, when=None):
             path = folder / "crates" / crate / "src" / file
             path.write_text(planted(path.read_text(), line, answer, when))
         program, crate = folder / "tests.program", tests[0].split()[0]
+        leave_only(folder, crate, {test.split()[1].partition("::")[0] for test in tests})
         built, said = wrong_code.output_of(folder / "packaging/build_unproved.sh", folder / "crates" / crate, program, "--test")
         if not built:
             sys.exit(f"{call or 'the right sources'}: {crate} isn't built: {said[-2000:]}")
