@@ -4,7 +4,7 @@
     .ci/cited.py
 
 Each function that a row of the table cites is called by the products: it is reached from faxtool's `main`, or from a function of g3fax that
-bindings/g3fax.c calls. Or it is a law: a public function of a `laws.rt` that is empty, but for laws that it
+one of bindings/g3fax.h is made of. Or it is a law: a public function of a `laws.rt` that is empty, but for laws that it
 calls. A clause that is named after a function is one of its
 contract. Each definition of the row is one that the contracts of its functions name, or rest on.
 What is reached is read from the sources. A method is reached if its type is, and something that is reached calls a method of that name;
@@ -150,12 +150,12 @@ class Bare(house.Code):
 
 
 def beginnings(made, glue):
-    """Faxtool's `main`, and each function that the library exports and its C names."""
+    """Faxtool's `main`, and each function that the library exports: its C names it, or its header the function that is made of it alone."""
     found = [("faxtool", (), "main")]
     for (crate, path), module in made.modules.items():
         if crate == "g3fax":
             exported = re.findall(r'\bextern\s+"?\s*"?\s*fn (\w+)', re.sub(r'"C"', '"  "', module.code.text))
-            found += [(crate, path, name) for name in exported if re.search(rf"\b{name}\(", glue)]
+            found += [(crate, path, name) for name in exported if re.search(rf"\b(?:{name}|{name.replace('_core_', '_')})\(", glue)]
     return found
 
 
@@ -200,7 +200,7 @@ def cited_faults(readme, book, made, reached):
 def read(texts):
     """The products by the texts of the sources, and what they reach."""
     made = Products(texts, products((TOP / "crates.txt").read_text().splitlines()))
-    return made, made.reached_from(beginnings(made, texts["bindings/g3fax.c"]))
+    return made, made.reached_from(beginnings(made, texts["bindings/g3fax.c"] + texts["bindings/g3fax.h"]))
 
 
 def main():
