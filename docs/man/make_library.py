@@ -156,8 +156,9 @@ def page(group, about, found, version, date):
     chosen = [item for item in found if item.group() == group]
     functions = [item.function for item in chosen if item.function]
     others = [f"\\fBg3fax_{name}\\fP(3)" for name, _, _ in GROUPS if name != group]
+    named = f"{', '.join([f'g3fax_{group}', *functions])} \\- {about}"
     lines = ['.\\" Written by docs/man/make_library.py from bindings/g3fax.h.', f'.TH G3FAX_{group.upper()} 3 {date} "libg3fax {version}"',
-             ".nh", ".ad l", ".SH NAME", "\n".join(textwrap.wrap(f"{', '.join([f'g3fax_{group}', *functions])} \\- {about}", 72, break_on_hyphens=False)),
+             ".nh", ".ad l", ".SH NAME", "\n".join(textwrap.wrap(named, 72, break_on_hyphens=False)),
              ".SH LIBRARY", ".nf", "cc program.c $(pkg\\-config \\-\\-cflags \\-\\-libs g3fax), or \\-lg3fax", ".fi",
              ".SH SYNOPSIS", ".nf", "\\fB#include <g3fax.h>\\fP", ""]
     lines += [escaped(broken(re.sub(r"^G3_CHECK ", "", item.text), 72)) for item in chosen if item.function]

@@ -3,7 +3,7 @@
 from __future__ import annotations
 
 import ctypes
-from typing import TYPE_CHECKING, Any, Iterable, Iterator, List, Optional, Tuple
+from typing import TYPE_CHECKING, Iterable, Iterator, List, Optional, Tuple
 
 from ._native import _NOT_COMPATIBLE, _NOTHING, _Counts, _Dcs, _Dis, _Handle, _library, _Params, _Block, _Signal, _u32, _u64, _Wish
 from ._names import Carrier, Coding, Counts, Dis, Frame, Kind, Modems, PageEnd, Params, Pps, Side, Signal

@@ -85,7 +85,8 @@ class Page(_Owner):
         """The page that octets begin with; what follows is ignored. `bits` of it are the bits used. Raises CodeFault with the bit."""
         page, place, (address, length) = cls._empty(), _u64(), _octets(octets)
         code = _code(coding, order, width, fine)
-        _done(_library.g3_page_decode(address, length, ctypes.byref(code), page._at, ctypes.byref(place)), place.value, lambda: _library.g3_code_wrong(ctypes.byref(code)))
+        status = _library.g3_page_decode(address, length, ctypes.byref(code), page._at, ctypes.byref(place))
+        _done(status, place.value, lambda: _library.g3_code_wrong(ctypes.byref(code)))
         page.bits = place.value
         return cast("_DecodedPage", page)
 
