@@ -13,8 +13,8 @@ misbehaves() {
 contents_are() {
     grep -v '^#' "$work/output" | cut -d ' ' -f 1 | sort -nc || fails "times of a log run back"
     printf '%s\n' "$@" > "$work/wanted"
-    grep -v '^#' "$work/output" | cut -d ' ' -f 2- | sed 's/\(FF0306..\).*/\1/' > "$work/found"
-    is_same "$work/found" "$work/wanted" "the frames of a log"
+    grep -v '^#' "$work/output" | cut -d ' ' -f 2- | sed 's/\(FF0306..\).*/\1/' > "$work/bench-found"
+    is_same "$work/bench-found" "$work/wanted" "the frames of a log"
 }
 
 # The frames of a call by T.30's tables: whole; with an MCF that isn't said, a PPR for all, an NSF, a DIS without error correction, wrong
@@ -77,10 +77,10 @@ try_converted() {
 try_seeds() {
     for seed in 3 3 4; do
         misbehaves --do "any 20" --do "some-lost 10" --seed "$seed"
-        sed 1d "$work/output" > "$work/found"
-        [ ! -f "$work/seeded" ] || [ $seed != 3 ] || is_same "$work/found" "$work/seeded" "a call of the same seed"
-        [ $seed = 3 ] || ! cmp -s "$work/found" "$work/seeded" || fails "two seeds give the same call"
-        cp "$work/found" "$work/seeded"
+        sed 1d "$work/output" > "$work/bench-found"
+        [ ! -f "$work/seeded" ] || [ $seed != 3 ] || is_same "$work/bench-found" "$work/seeded" "a call of the same seed"
+        [ $seed = 3 ] || ! cmp -s "$work/bench-found" "$work/seeded" || fails "two seeds give the same call"
+        cp "$work/bench-found" "$work/seeded"
     done
     rm "$work/seeded"
     for line in "rnr 0" "rnr x" "lose" "no-mcf  2"; do
@@ -132,17 +132,17 @@ try_bench() {
     try_converted
     try_seeds
     benches 1
-    grep '\*' "$work/output" > "$work/found"
+    grep '\*' "$work/output" > "$work/bench-found"
     echo '| caller | repeat-said 3 | normal | 2 (1 stored) * |' > "$work/wanted"
-    is_same "$work/found" "$work/wanted" "calls that end otherwise than the list says"
+    is_same "$work/bench-found" "$work/wanted" "calls that end otherwise than the list says"
     [ "$(grep -c '^| [ca]' "$work/output")" -ge 70 ] || fails "bench.py played few calls"
     benches 0 --only "caller rnr 21" --judge "grep 'answerer FF13EC'"
     grep -q '^| caller | rnr 21 | normal | 2 | 21 |$' "$work/output" || fails "bench.py with a judge: $(cat "$work/output")"
     printf '%s\n' "caller | dcn 2 | no-reply 0" "answerer | | normal 1" "answerer | dcn 2 | peer-left 0" > "$work/list"
     benches 1 --list "$work/list"
     printf '| %s |\n' "caller | dcn 2 | peer-left * | 0" "answerer | nothing | normal | 2 *" "answerer | dcn 2 | peer-left | 0" > "$work/wanted"
-    sed '1,2d; /^$/,$d' "$work/output" > "$work/found"
-    is_same "$work/found" "$work/wanted" "rows that end otherwise than the list says"
+    sed '1,2d; /^$/,$d' "$work/output" > "$work/bench-found"
+    is_same "$work/bench-found" "$work/wanted" "rows that end otherwise than the list says"
     try_spandsp
     try_tsb85
     rm -rf "$work/bench" "$work/stored"
