@@ -46,11 +46,6 @@ is_same() {
     difference=$(cmp "$1" "$2" 2>&1) || fails "$3: other octets: $difference"
 }
 
-# is_proved: what is installed isn't built without proof.
-. packaging/common.sh
-said=$(cat VERSION) built=
-is_proved "${FAXTOOL:-crates/faxtool/out/faxtool}" "${G3FAX:-bindings/build}" || said="$said, built without proof" built=+unproved
-
 # try_install: install, install again, uninstall; a folder that isn't the install's own stays.
 try_install() {
     mkdir -p "$to/usr/share/doc" "$to/usr/bin"
@@ -167,6 +162,10 @@ try_packed() {
 packaging/trust.py --check
 command -v make > /dev/null || { echo "packages: not run, there is no make"; exit 0; }
 [ -n "$FAXTOOL$G3FAX" ] || packaging/build.sh --built > "$work/said" 2>&1 || { cat "$work/said" >&2; fails "packaging/build.sh --built"; }
+# what is built without proof says so
+. packaging/common.sh
+said=$(cat VERSION) built=
+is_proved "${FAXTOOL:-crates/faxtool/out/faxtool}" "${G3FAX:-bindings/build}" || said="$said, built without proof" built=+unproved
 try_refused
 try_install
 try_program
