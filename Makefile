@@ -4,7 +4,7 @@
 #     make lib-try           builds the library for C without proof, in build: a minute
 #     make                   proves and builds what isn't built yet, with the Rattle kit: crates/faxtool/out/faxtool and bindings/build;
 #                            about an hour on four processors, the first time
-#     make test              all tests, end to end and examples, over a build without proof: some ten minutes on four processors
+#     make test              all tests, end to end and examples, over a build without proof
 #     make check             the gate, .ci/run, from nothing: one to two hours on four processors
 #     make install           copies what was built below $(DESTDIR)$(PREFIX), and builds nothing
 #     make uninstall         removes what was copied there
