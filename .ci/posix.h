@@ -33,6 +33,8 @@ char *strstr(const char *text, const char *part);
 int strncasecmp(const char *a, const char *b, size_t length);
 size_t strspn(const char *text, const char *alphabet);
 long strtol(const char *text, char **end, int base);
+unsigned long long strtoull(const char *text, char **end, int base);
+#define UINT64_C(number) number##UL
 
 /* fcntl.h, unistd.h, sys/file.h, sys/stat.h, sys/ioctl.h */
 typedef int pid_t;

@@ -60,12 +60,20 @@ builds memory-test --wrap=malloc --wrap=realloc --wrap=free
 timeout 600 "$work/memory-test" 40 > "$work/output" || fails memory-test
 sed 's/^/softfax: /' "$work/output"
 objects=$shared
-compiles on_pty pty call stop told record pages tty lock inits
+compiles on_pty pty call stop told record pages header tty lock inits
 shared=$objects
 builds class1-test
 mkdir "$work/papers"
 timeout 600 "$work/class1-test" "$work/papers" > "$work/output" 2>&1 || fails class1-test
 grep '^softfax: ' "$work/output"
+
+objects=$shared
+compiles options
+shared=$objects
+builds header-test --wrap=time
+mkdir "$work/headers"
+timeout 600 python3 "$here/header.py" "$work/header-test" "$work/headers" > "$work/output" 2>&1 || fails header-test
+cat "$work/output"
 
 objects=$shared
 compiles service

@@ -195,7 +195,7 @@ Description: Group 3 fax pages and frames for Python
 TEXT
 case $packages in
 *softfax)
-    control softfax comm "$(wants "$work/softfax/usr/bin/softfax")" "Suggests: faxtool
+    control softfax comm "$(wants "$work/softfax/usr/bin/softfax")" "Suggests: faxtool, unifont
 " << TEXT
 Description: Group 3 fax terminal behind a Class 1 modem
  softfax sends and answers faxes by a modem on a tty that speaks Class 1, one

@@ -11,17 +11,32 @@ static int fails(const char *why)
     return 0;
 }
 
+/* Moves the pages to a document, each with its header, if they have one: a page is numbered by its place in the document. */
+static g3_status make_document(call *it)
+{
+    int has_header = it->given->header != NULL;
+    g3_status status = g3_document_new(&it->document);
+    if (has_header) header_stamp(&it->header);
+    for (int i = 0; status == G3_OK && i < it->count; i++) {
+        pages_sent *sent = &it->sent[i];
+        if (has_header) status = header_paint(&it->header, i + 1, it->count, &sent->page);
+        if (status == G3_OK) status = g3_page_size(&sent->page, &sent->size);
+        if (status == G3_OK) status = g3_document_push(&it->document, &sent->page);
+    }
+    return status;
+}
+
 int call_prepare(call *it)
 {
     const options *given = it->given;
     if (given->answers) return pages_is_folder(given->folder);
-    g3_status status = g3_document_new(&it->document);
-    if (status != G3_OK) return fails(g3_status_text(status));
     for (int i = 0; i < given->count; i++) {
-        it->count = pages_add(&it->document, given->pages[i], given->fine, it->sent, it->count);
-        if (it->count < 0) return 0;
+        if (!pages_add(given->pages[i], given->fine, it->sent, &it->count)) return 0;
     }
-    return 1;
+    /* pages with a header are painted when the call begins: it has its time */
+    if (given->header != NULL) return header_new(&it->header, given->header, given->font != NULL ? given->font : HEADER_FONT);
+    g3_status status = make_document(it);
+    return status == G3_OK || fails(g3_status_text(status));
 }
 
 void call_fails(call *it, const char *name, const char *why)
@@ -47,7 +62,9 @@ static g3_status make_station(call *it, uint32_t modems)
     uint32_t has = given->modems < modems ? given->modems : modems;
     g3_caps caps = {.modems = has, .t6 = given->coding == G3_MMR, .fine = 1, .widest = 2432, .limit = 2};
     g3_wish wish = {.modems = has, .coding = given->coding, .frame = 256};
-    return given->calls ? g3_caller_new(&it->station, &it->document, &wish) : g3_answerer_new(&it->station, &caps);
+    if (!given->calls) return g3_answerer_new(&it->station, &caps);
+    g3_status status = given->header != NULL ? make_document(it) : G3_OK;
+    return status == G3_OK ? g3_caller_new(&it->station, &it->document, &wish) : status;
 }
 
 int call_begin(call *it, uint32_t modems, const modem_kind *kind, modem *modem)
@@ -146,5 +163,6 @@ void call_free(call *it)
     terminal_free(it->terminal);
     g3_terminal_free(&it->station);
     g3_document_free(&it->document);
+    for (int i = 0; i < it->count; i++) g3_page_free(&it->sent[i].page);
     it->terminal = NULL;
 }

@@ -1,6 +1,7 @@
 /* A call of softfax, over sound or a modem: its station and terminal, when it is stopped, and what is told of it. */
 #ifndef CALL_H
 #define CALL_H
+#include "header.h"
 #include "options.h"
 #include "pages.h"
 #include "terminal.h"
@@ -12,6 +13,7 @@ typedef struct call {
     g3_document document;       /* of a caller, until its station has it */
     pages_sent sent[MOST_IMAGES]; /* its pages */
     int count;
+    header header;              /* the line at their heads, if there is one */
     g3_terminal station;
     terminal *terminal;         /* NULL before the call is on */
     pages_folder folder;

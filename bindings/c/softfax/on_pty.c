@@ -170,11 +170,11 @@ static int write_pages(on_pty *it)
 static int prepare(on_pty *it, int calls)
 {
     const trial *kind = it->kind;
-    it->given = (options){.calls = calls, .answers = !calls, .fine = 1, .refuses_ctc = !kind->ctc, .tells = kind->tells != NULL,
+    it->given = (options){.calls = calls, .answers = !calls, .fine = !kind->standard, .refuses_ctc = !kind->ctc, .tells = kind->tells != NULL,
         .rings = 1, .tty = it->pty.name, .identity = kind->identity, .xon = it->way->ways.xoff, .modems = kind->modems,
         .coding = kind->coding};
     it->call.given = &it->given;
-    if (calls) it->given.number = "5551234";
+    if (calls) it->given.header = kind->header, it->given.font = kind->font, it->given.number = "5551234";
     else it->given.folder = it->kept;
     snprintf(it->kept, sizeof it->kept, "%s/kept", it->folder);
     return (calls ? write_pages(it) : mkdir(it->kept, S_IRUSR | S_IWUSR | S_IXUSR) == 0) && call_prepare(&it->call);

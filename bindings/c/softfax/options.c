@@ -1,5 +1,6 @@
 #include "options.h"
 #include "g3fax.h"
+#include "header.h"
 #include "identity.h"
 #include "told.h"
 #include <stdio.h>
@@ -16,6 +17,7 @@ void options_usage(void)
         "       softfax --tty DEVICE --call NUMBER PAGE.pbm.. | --answer DIR [--rings N] [--calls N|forever]\n"
         "       [--wait-tty] [--init COMMAND|NAME].. [--xon] [--trace-at FILE]\n"
         "  both [--modems v17|v29|v27ter] [--code mmr|mh] [--fine] [--square] [--no-ctc] [--id NAME] [--json] [--tell]\n"
+        "       [--header TEXT [--header-font FILE.hex]] (a caller: a line at the head of each page)\n"
         "       [--most-seconds N] (14400 if not given, four hours; 0: none) [--most-pages N] [--most-octets N]\n");
 }
 
@@ -86,7 +88,7 @@ static int read_text(options *out, const char *name, const char *value)
 {
     const struct { const char *name; const char **to; } TEXTS[] = {
         {"--rx", &out->rx}, {"--tx", &out->tx}, {"--wav", &out->wav}, {"--answer", &out->folder}, {"--tty", &out->tty},
-        {"--trace-at", &out->trace}, {"--id", &out->identity}};
+        {"--trace-at", &out->trace}, {"--id", &out->identity}, {"--header", &out->header}, {"--header-font", &out->font}};
     for (size_t i = 0; i < sizeof TEXTS / sizeof TEXTS[0]; i++) {
         if (strcmp(name, TEXTS[i].name) == 0) return *TEXTS[i].to = value, 1;
     }
@@ -146,6 +148,7 @@ static int is_command_line(const options *it)
     if (it->calls == it->answers || it->calls != (it->count > 0)) return 0;
     if (it->calls && (it->most_calls != 0 || it->most_pages > 0 || it->most_octets > 0)) return 0;
     if (it->identity != NULL && !identity_is(it->identity)) return 0;
+    if (it->header == NULL ? it->font != NULL : !it->calls || !header_is_text(it->header)) return 0;
     if (it->tty == NULL) return has_streams && !is_of_tty;
     if (it->calls && (it->number == NULL || !is_number(it->number))) return 0;
     return !has_stream;

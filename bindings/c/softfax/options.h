@@ -14,6 +14,7 @@ typedef struct options {
     uint64_t most_pages, most_octets;     /* that an answerer stores of a call; 0: no limit */
     const char *folder, *rx, *tx, *wav;
     const char *tty, *number, *trace, *identity;
+    const char *header, *font;            /* the text at the head of each page that is sent; NULL: there is none. And a font for it */
     const char *inits[MOST_INITS];        /* commands of the set-up, or names of inits.txt */
     int init_count;
     int xon;                              /* XON and XOFF alone hold a modem's octets back, and not RTS and CTS */

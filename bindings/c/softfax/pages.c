@@ -31,50 +31,51 @@ static size_t header_of(const uint8_t *octets, size_t length)
     return at + 1;
 }
 
-/* Adds the first image of octets to a document, and fills `size`; returns why it can't. */
-static const char *add(g3_document *document, const uint8_t *octets, size_t length, int fine, g3_size *size, uint64_t *images)
+/* Reads the first image of octets, a page that can be sent; returns why it can't. */
+static const char *read_page(const uint8_t *octets, size_t length, int fine, pages_sent *out, uint64_t *images)
 {
     g3_page page = G3_EMPTY;
     g3_status status = g3_page_read_pbm(octets, length, (uint32_t)fine, &page, images);
-    size->size = sizeof *size;
-    if (status == G3_OK) status = g3_page_size(&page, size);
-    int is_wide_enough = status != G3_OK || size->width == 1728 || size->width == 2048 || size->width == 2432;
+    g3_size size = G3_INIT(g3_size);
+    if (status == G3_OK) status = g3_page_size(&page, &size);
+    int is_wide_enough = size.width == 1728 || size.width == 2048 || size.width == 2432;
     if (status == G3_OK && !is_wide_enough) status = G3_NOT_CALLABLE;
-    if (status == G3_OK) status = g3_document_push(document, &page);
-    g3_page_free(&page);
-    return status == G3_OK ? NULL : g3_status_text(status);
+    if (status == G3_OK && size.rows == 0) status = G3_NO_ROWS;
+    if (status != G3_OK) return g3_page_free(&page), g3_status_text(status);
+    out->size = size;
+    out->page = page;
+    return NULL;
 }
 
 /* Adds each image of octets; returns why it can't. */
-static const char *add_all(
-    g3_document *document, const char *name, const uint8_t *octets, size_t length, int fine, pages_sent sent[MOST_IMAGES], int *count)
+static const char *add_all(const char *name, const uint8_t *octets, size_t length, int fine, pages_sent sent[MOST_IMAGES], int *count)
 {
     uint64_t images = 1, left = 0;
     size_t at = 0;
     for (unsigned image = 1; image <= images; image++) {
         if (*count == MOST_IMAGES) return "a call has 1000 pages at most";
         pages_sent *it = &sent[*count];
-        const char *why = add(document, octets + at, length - at, fine, &it->size, &left);
+        const char *why = read_page(octets + at, length - at, fine, it, &left);
         if (why != NULL) return why;
+        ++*count;
         if (image == 1) images = left;
         if (left != images + 1 - image) return "its images can't be told apart";
         at += header_of(octets + at, length - at) + (size_t)((it->size.width + 7) / 8) * it->size.rows;
         it->file = name;
         it->image = images > 1 ? image : 0;
-        ++*count;
     }
     return NULL;
 }
 
-int pages_add(g3_document *document, const char *name, int fine, pages_sent sent[MOST_IMAGES], int count)
+int pages_add(const char *name, int fine, pages_sent sent[MOST_IMAGES], int *count)
 {
     size_t length = 0;
     errno = 0;
     uint8_t *octets = read_file(name, &length);
-    if (octets == NULL) return fails(name, errno != 0 ? strerror(errno) : "it is too long for a page"), -1;
-    const char *why = add_all(document, name, octets, length, fine, sent, &count);
+    if (octets == NULL) return fails(name, errno != 0 ? strerror(errno) : "it is too long for a page");
+    const char *why = add_all(name, octets, length, fine, sent, count);
     free(octets);
-    return why == NULL ? count : (fails(name, why), -1);
+    return why == NULL || fails(name, why);
 }
 
 int pages_is_folder(const char *name)

@@ -10,11 +10,12 @@ typedef struct pages_sent {
     const char *file;
     unsigned image;   /* which image of the file it is, from 1; 0: the only one */
     g3_size size;
+    g3_page page;     /* until it is moved to a document */
 } pages_sent;
 
-/* Adds the pages of a raw PBM file, an image each, to a document that has `count` pages, and fills `sent` from there on. Returns how many it
- * has then; -1: it can't, and that is told on standard error. */
-int pages_add(g3_document *document, const char *name, int fine, pages_sent sent[MOST_IMAGES], int count);
+/* Adds the pages of a raw PBM file, an image each, to those that there are, and counts them. Returns whether it could add all; that it
+ * couldn't is told on standard error. */
+int pages_add(const char *name, int fine, pages_sent sent[MOST_IMAGES], int *count);
 
 /* Where an answerer keeps its pages. */
 typedef struct pages_folder {

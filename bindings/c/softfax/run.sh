@@ -106,6 +106,11 @@ has caller '{"end":"normal","confirmed":1,"peer":"0 1","seconds":'
 [ "$(cat "$work/got/page-3.pbm")" = taken ] || fails "page-3.pbm was overwritten"
 [ "$(head -n 2 "$work/got/page-4.pbm" | tail -n 1)" = "1728 400" ] || fails "page-4.pbm isn't square"
 
+# a line at the head of each page, by the machine's clock
+mkdir "$work/headers"
+python3 "$here/header.py" --softfax "$softfax" "$work/headers" > "$work/said" 2>&1 || { cat "$work/said" >&2; fails header.py; }
+grep '^softfax: ' "$work/said"
+
 # files of several images are one call; a page past a limit isn't confirmed
 { printf 'P4\n# two images\n1728\n#1 2\n200 '; tail -c 43200 "$work/1.pbm"; cat "$work/2.pbm"; } > "$work/both.pbm"
 printf '#!/bin/sh\nexec "%s" "$@" --json --most-pages 2 --most-octets 90000\n' "$softfax" > "$work/limits"

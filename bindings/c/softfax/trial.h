@@ -17,6 +17,9 @@ typedef struct trial {
     uint32_t limit;            /* how many pages wait in our answerer's memory */
     uint64_t seed;
     const paper *papers;
+    const paper *stored;       /* what is to be stored; NULL: the papers */
+    const char *header, *font; /* of our caller on a pty: the line at the head of each page; NULL: none */
+    int standard;              /* our caller on a pty sends pages of 3.85 lines a millimeter */
     int ctc;                   /* our answerer answers CTC */
     int ced_joins_dis;         /* the answerer's DIS follows its CED with no silence between them, as Class 1 modems have it */
     int has_no_correction;     /* libspandsp's terminal has no error correction */
