@@ -301,6 +301,8 @@ esac
 "$top/.ci/archive.py" "$work"
 
 # the module for Python, over the shared library
-PYTHONDONTWRITEBYTECODE=1 G3FAX_LIBRARY=$work/libg3fax.so.0 timeout 600 python3 -W error "$top/bindings/python/test_g3fax.py" \
-    > "$work/output" 2>&1 || { cat "$work/output" >&2; fails "bindings/python/test_g3fax.py"; }
+for test in test_g3fax test_help; do
+    PYTHONDONTWRITEBYTECODE=1 G3FAX_LIBRARY=$work/libg3fax.so.0 timeout 600 python3 -W error "$top/bindings/python/$test.py" \
+        > "$work/output" 2>&1 || { cat "$work/output" >&2; fails "bindings/python/$test.py"; }
+done
 echo "bindings: $runs runs of the examples, under the sanitizers, gave what other programs wrote; $growths growths were refused in turn"

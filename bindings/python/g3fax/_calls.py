@@ -10,11 +10,13 @@ from ._native import _NOTHING, _Burst, _Caps, _Handle, _library, _Params, _Progr
 from ._names import Carrier, Coding, Dis, End, Kind, Listens, Modems, Next, Params, Progress, Refusal, State, Wait
 from ._owning import _done, _flag, _is, _number, _octets, _Owner, _taken
 from ._pages import Page
+from ._shown import shown
 
 if TYPE_CHECKING:
     from _typeshed import ReadableBuffer as Buffer
 
 
+@shown
 class Burst(NamedTuple):
     """What is to be sent: the bits, the least significant of each octet first; what it goes out on; whether it is a training check, and
     whether it is the last before the other station has its turn."""

@@ -38,6 +38,7 @@ class Deframer(_Owner):
         return bytes(memoryview(buffer)[:count.value])
 
     def __iter__(self) -> Iterator[bytes]:
+        """The contents that wait, each taken out."""
         return iter(self.next, None)
 
     @property

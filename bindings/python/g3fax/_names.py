@@ -6,9 +6,10 @@ from enum import IntEnum
 from typing import NamedTuple, Optional, Tuple, cast
 
 from ._native import _library
+from ._shown import Choices, shown
 
 
-class _Choice(IntEnum):
+class _Choice(IntEnum, metaclass=Choices):
     """A number of g3fax.h, which prints as its name; `format` with a form of numbers, as in f"{coding:d}", prints the number."""
 
     def __str__(self) -> str:
@@ -43,6 +44,7 @@ class FileKind(_Choice):
     BEGUN = 5
 
 
+@shown
 class Found(NamedTuple):
     """What octets are. Of a page: its code, order and width, the rows of the first one, and the bits of its code. Where its code ends by a
     fault, `bits` is None and `fault` the number of that: with 17 its EOFB is missing, and `rows` are those that Page.salvage gives; else
@@ -60,6 +62,7 @@ class Found(NamedTuple):
     format: str = ""
 
 
+@shown
 class Counts(NamedTuple):
     """How many gaps between flags there were of each class."""
 
@@ -71,6 +74,7 @@ class Counts(NamedTuple):
     damaged: int
 
 
+@shown
 class Frame(NamedTuple):
     """The bits of a frame, the least significant of each octet first: fewer than eight 0 bits fill the last octet."""
 
@@ -165,6 +169,7 @@ class End(_Choice):
         return cast(bytes, _library.g3_end_text(self)).decode()
 
 
+@shown
 class State(NamedTuple):
     """The state of a terminal: `pages` of a caller are confirmed, of an answerer stored and not taken; `frames` are the good ones heard.
     None: no carrier, no wait, and a call that goes on."""
@@ -187,6 +192,7 @@ class Refusal(_Choice):
     USED_NUMBER = 3
 
 
+@shown
 class Progress(NamedTuple):
     """How far a call is; what belongs to the other station is 0. Of a caller: the `pages` of its document, how many are `confirmed`, the
     `block` of the next one that it sends, from 1, of so many `blocks`, its `resends`, and the `tries` of the last command. Of an answerer:
@@ -253,6 +259,7 @@ class Reason(_Choice):
     NO_COMMON_SPEED = 5
 
 
+@shown
 class Dis(NamedTuple):
     """What a station can do, as its DIS says it."""
 
@@ -264,6 +271,7 @@ class Dis(NamedTuple):
     ecm: bool = True
 
 
+@shown
 class Params(NamedTuple):
     """How pages are sent, as a DCS says it. `frame` is the octets of data in a frame, 256 or 64."""
 
@@ -274,6 +282,7 @@ class Params(NamedTuple):
     frame: int
 
 
+@shown
 class Pps(NamedTuple):
     """What a PPS says of a block: the page and the block by their numbers modulo 256, and the number of the block's last frame."""
 
@@ -283,6 +292,7 @@ class Pps(NamedTuple):
     last: int
 
 
+@shown
 class Signal(NamedTuple):
     """A signal: `dis`, `dcs` and `pps` where it is of that kind; `number` of an FCD's frame, and `control`, the octet of another one's
     facsimile control field; `octets` of an FCD's data, or a PPR's 256 bits, of which bit n % 8 of octet n / 8 asks for frame n."""

@@ -11,12 +11,13 @@ from typing import TYPE_CHECKING, Any, Callable, Optional, Tuple, TypeVar, Union
 from ._native import (_BAD_CHOICE, _BAD_LENGTH, _BAD_WIDTH, _EMPTY_HANDLE, _FRAME_LOST, _NO_MEMORY, _NO_ROWS, _NOT_CALLABLE, _OK, _TOO_MANY_ROWS,
                       _Handle, _library, _u64)
 from ._names import Reason
+from ._shown import Shown
 
 if TYPE_CHECKING:
     from _typeshed import ReadableBuffer as Buffer
 
 
-class Fault(Exception):
+class Fault(Exception, metaclass=Shown):
     """What went wrong: `number` is the status of bindings/README.md, and `bit` the bit from 0 where a coded page can't go on, or None."""
 
     def __init__(self, number: int, bit: Optional[int] = None) -> None:
@@ -212,7 +213,7 @@ def _taken(handle: _Handle) -> memoryview:
 _Self = TypeVar("_Self", bound="_Owner")
 
 
-class _Owner:
+class _Owner(metaclass=Shown):
     """Has a handle, which is freed by `close`, at the end of `with`, or with the object. Calls of several threads wait for each other."""
 
     def __init__(self, free: str) -> None:
@@ -244,7 +245,9 @@ class _Owner:
         raise TypeError(f"a g3fax.{type(self).__name__} can't be copied or pickled")
 
     def __enter__(self: _Self) -> _Self:
+        """`with` gives what is here."""
         return self
 
     def __exit__(self, *_: object) -> None:
+        """At its end `with` frees what is here."""
         self.close()

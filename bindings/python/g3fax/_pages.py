@@ -192,6 +192,7 @@ class Page(_Owner):
         return memoryview(buffer)
 
     def __iter__(self) -> Iterator[memoryview]:
+        """The rows, from the top."""
         for number in range(len(self)):
             yield self[number]
 
@@ -337,6 +338,7 @@ class RowReader(_Owner):
         return None if status == _NOTHING else memoryview(buffer)
 
     def __iter__(self) -> Iterator[memoryview]:
+        """The rows that are whole so far."""
         return iter(self.next, None)
 
     def finish(self) -> int:
