@@ -135,5 +135,10 @@ try_joins() {
     done
     joins 0 "$@" "$row" "$work/stored"
     [ ! -s "$work/error" ] || fails "join.py of a call that ends normally wrote to standard error"
+    # a station that says more of its pages than a pipe holds
+    for page in $(seq 1100); do cat "$row"; done > "$work/many.pbm"
+    joins 0 "$@" "$work/many.pbm" "$work/stored"
+    says "answerer: end normal pages 1100, status 0" "$work/output"
+    rm "$work/many.pbm"
     rm -r "$work/stored"
 }

@@ -15,12 +15,14 @@ The exit status is 0 if both stations end normally. If one can't be started, or 
 one and why."""
 
 import argparse
+import contextlib
 import fractions
 import os
 import random
 import shlex
 import subprocess
 import sys
+import tempfile
 
 from hdlc import bits_of, gaps, octets_of
 
@@ -52,8 +54,10 @@ class Station:
         self.name, self.runs, self.page, self.due = name, True, None, None
         # a fault is explained in words too
         how = {"env": {**os.environ, "FAXTOOL_EXPLAIN": "1"}, "text": True}
+        # a pipe that nobody reads is full after some 900 pages, and a station that can't write there waits
+        self.errors = tempfile.TemporaryFile("w+")
         try:
-            self.process = subprocess.Popen(command, stdin=subprocess.PIPE, stdout=subprocess.PIPE, stderr=subprocess.PIPE, **how)
+            self.process = subprocess.Popen(command, stdin=subprocess.PIPE, stdout=subprocess.PIPE, stderr=self.errors, **how)
         except OSError as error:
             sys.exit(f"join.py: {command[0]} can't be run as the {name}: {error.strerror}; --{name}-command names another program")
 
@@ -80,12 +84,12 @@ class Station:
 
     def end(self):
         """What it says on standard error, whose last line is how it ended, and its exit status."""
-        try:
-            errors = self.process.communicate()[1].strip().splitlines()
-        except BrokenPipeError:
-            errors = self.process.stderr.read().strip().splitlines()
-            self.process.wait()
-        return errors, self.process.returncode
+        with contextlib.suppress(BrokenPipeError):
+            self.process.communicate()
+        self.process.wait()
+        with self.errors:
+            self.errors.seek(0)
+            return self.errors.read().strip().splitlines(), self.process.returncode
 
 
 class Side:
