@@ -6,8 +6,9 @@ that the other side has spoken into.
 
 To the modem's program goes a line `tx CARRIER KIND BITS HEX` for each burst, one at a time. From it come lines: `sent` once a burst is on the
 line, `busy` when a carrier of the other side begins, `rx CARRIER KIND BITS HEX` when it has ended, and `end` if the line drops. The exit
-status is the station's."""
+status is the station's. It takes each option of a station but --hold, since it keeps no pages."""
 
+import contextlib
 import select
 import socket
 import subprocess
@@ -17,8 +18,27 @@ import time
 PAUSE, EACH = 75, 20  # milliseconds: of silence before a burst; between two `quiet`
 
 
+def tell(station, line, bursts):
+    """Writes a line to the station, and adds what it sends to the bursts. Whether it has ended."""
+    answer = ""
+    # a station that ended by a fault reads no more
+    with contextlib.suppress(BrokenPipeError):
+        station.stdin.write(line + "\n")
+        while (answer := station.stdout.readline().strip()).startswith(("tx ", "hear ")):
+            bursts += [answer[3:]] * answer.startswith("tx ")
+    # with --hear the time stands behind it
+    return not answer.startswith("wait")
+
+
+def heard_of(modem):
+    """The octets that the modem's program wrote; `end` once it has left."""
+    with contextlib.suppress(ConnectionResetError):
+        return modem.recv(1 << 16) or b"end\n"
+    return b"end\n"
+
+
 def main():
-    if len(sys.argv) < 3:
+    if len(sys.argv) < 3 or "--hold" in sys.argv:
         sys.exit(__doc__)
     modem = socket.socket(socket.AF_UNIX)
     modem.connect(sys.argv[1])
@@ -28,8 +48,7 @@ def main():
     while not is_over or is_sending or bursts:
         line, rest, after = heard.partition(b"\n")
         if not rest and select.select([modem], [], [], EACH / 1000)[0]:
-            octets = modem.recv(1 << 16)
-            heard += octets or b"end\n"
+            heard += heard_of(modem)
             continue
         now = int((time.monotonic() - began) * 1000)
         word, _space, burst = line.decode().partition(" ") if rest else ("quiet", "", "")
@@ -46,10 +65,9 @@ def main():
             is_sending = True
         if is_over or word == "sent" or (word == "quiet" and (is_sending or is_hearing or bursts)):
             continue
-        station.stdin.write(f"{word} {now} {burst}".rstrip() + "\n" if burst else f"{word} {now}\n")
-        while (answer := station.stdout.readline().strip()).startswith("tx "):
-            bursts.append(answer[3:])
-        is_over = answer != "wait"
+        is_over = tell(station, f"{word} {now} {burst}" if burst else f"{word} {now}", bursts)
+    with contextlib.suppress(BrokenPipeError):
+        station.stdin.close()
     return station.wait()
 
 
