@@ -82,8 +82,8 @@ class Crate:
         return [] if parts in (("lib",), ("main",)) else list(parts)
 
     def shows(self, file, name):
-        """Other crates can name the item of this name in the file; in a program any file's."""
-        return self.is_program or name in self.exports or file.relative_to(self.folder / "src").with_suffix("").parts[0] in self.open
+        """Other crates can name the item of this name in the file, if it is `pub`; in a program any file's."""
+        return self.is_program or file == self.root or name in self.exports or file.relative_to(self.folder / "src").with_suffix("").parts[0] in self.open
 
     def clauses(self):
         """Each public clause, with its file."""
