@@ -117,8 +117,9 @@ class Archive:
         for name, octets in {"empty": b"", "page": (examples / "page.pbm").read_bytes(), "tiff": b"II*\0", "taken": b""}.items():
             self.gives(name, octets, 0)
         self.gives(os.fsdecode(b"lat\351n"), (data / "wide.mmr.msb").read_bytes(), 1)
-        # without RTC, and cut in a row
+        # without RTC, cut in RTC, and cut in a row
         self.gives("open", (data / "wide.faxg3").read_bytes(), 1)
+        self.gives("five EOLs", (data / "wide.mh.msb").read_bytes()[:-2], 1)
         self.gives("cut", (data / "wide.mmr.msb").read_bytes()[:200], 0)
         # another file has its page's name
         self.gives("taken", (data / "wide.mmr.msb").read_bytes(), 0)
@@ -148,7 +149,7 @@ class Archive:
         for name, pages in self.pages.items():
             if len(stored[name]["pages"]) != pages or stored[name]["whole"] != ("fault" not in stored[name]):
                 fails(f"{manifest} says of {name}: {stored[name]}")
-        if {name for name in stored if not stored[name]["whole"]} != {"lzw.tif", "empty", "page", "tiff", "open", "cut", "taken"}:
+        if {name for name in stored if not stored[name]["whole"]} != {"lzw.tif", "empty", "page", "tiff", "open", "five EOLs", "cut", "taken"}:
             fails(f"{manifest} says of other files that they aren't whole")
         wanted = {f"{name}-{page:04}.pbm" for name, pages in self.pages.items() for page in range(1, pages + 1)} | {"taken-0001.pbm"}
         found = self.found()

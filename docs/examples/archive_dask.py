@@ -44,21 +44,27 @@ INVERTED = bytes(range(255, -1, -1))
 
 
 def has_end(octets, page):
-    """Whether the last of a page's bits are an EOL, as in RTC. A page in T.6 can't be read without its end."""
-    end = page.start + page.bits
-    last = octets[max(end // 8 - 2, 0) : (end + 7) // 8]
-    text = "".join(f"{octet:08b}"[:: -1 if page.order == g3fax.Order.LSB_FIRST else 1] for octet in last)
-    return page.coding == g3fax.Coding.MMR or text[: len(text) - -end % 8].endswith("000000000001")
+    """Whether a page's code ends with RTC, six EOLs with nothing between them. A page in T.6 can't be read without its end."""
+    if page.coding == g3fax.Coding.MMR:
+        return True
+    first, end = page.start // 8, page.start + page.bits
+    code = octets[first : (end + 7) // 8]
+    text = f"{int.from_bytes(code, 'big' if page.order == g3fax.Order.MSB_FIRST else 'little'):0{8 * len(code)}b}"
+    text = text if page.order == g3fax.Order.MSB_FIRST else text[::-1]
+    *zeros, after = text[: end - 8 * first].rsplit("1", 6)
+    return len(zeros) == 6 and all(gap.endswith(11 * "0") for gap in zeros) and "1" not in after
 
 
 def coded_pages(octets, way):
     """The pages that follow one another, with their way."""
     code, order, width = way or (None, None, None)
-    for page in g3fax.pages(octets, width, CODES.get(code), ORDERS.get(order)):
-        ended = not page.fault and has_end(octets, page)
+    lacking = None
+    for number, page in enumerate(g3fax.pages(octets, width, CODES.get(code), ORDERS.get(order)), 1):
+        if not lacking and (page.fault or not has_end(octets, page)):
+            lacking = f"page {number} has no end: {page.fault or 'RTC is missing'}"
         yield page, (page.coding.name.lower(), page.order.name[:3].lower(), page.width)
-        if not ended:
-            raise ValueError(f"its last page has no end: {page.fault or 'RTC is missing'}")
+    if lacking:
+        raise ValueError(lacking)
 
 
 def strip_rows(octets, way):
