@@ -445,11 +445,16 @@ def _whole(octets: memoryview, width: int, coding: Coding, fine: bool) -> Page:
     return page
 
 
+def _fault_of_file(fault: CodeFault, begin: int) -> CodeFault:
+    """The fault of a page whose octets begin at a bit of a file, with its bit of the file."""
+    return CodeFault(fault.number, None if fault.bit is None else begin + fault.bit)
+
+
 def pages(octets: Buffer, width: Optional[int] = None, coding: Optional[Coding] = None, order: Optional[Order] = None,
           fine: bool = False) -> Iterator[Page]:
     """The pages of a file, one after another, each with its `coding`, `order`, `start` and `bits`. If no code is said, all are as
     `identify` finds it: ValueError if that is no page. A page with a `fault` is the last one: only its EOFB is missing, or repair reads it and copies
-    no row. Raises CodeFault, with the bit of the file, at a page that can't be read."""
+    no row. Raises CodeFault at a page that can't be read. The bit of both is that of the file."""
     width, coding, order = _form(octets, width, coding, order)
     code, next_at = _code(coding, Order.MSB_FIRST, width, fine), _u64()
     # a copy, in which g3_page_next sets bits to 0; turned once for all pages, and not for each
@@ -461,8 +466,9 @@ def pages(octets: Buffer, width: Optional[int] = None, coding: Optional[Coding] 
         try:
             page = _whole(memoryview(file)[at:], width, coding, fine)
         except CodeFault as fault:
-            raise CodeFault(fault.number, None if fault.bit is None else 8 * at + fault.bit) from None
+            raise _fault_of_file(fault, 8 * at) from None
         page.coding, page.order, page.start = coding, order, start
+        page.fault = page.fault and _fault_of_file(page.fault, 8 * at)
         if page.bits is None:
             yield page
             return
