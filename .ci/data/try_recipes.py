@@ -187,7 +187,9 @@ class Recipes:
         if lacks(command):
             return
         pages = [self.blackened(number) for number in range(12)]
-        self.fills("pdfs", {"one": pages[0], "a file": b"".join(pages), "a file-1": pages[0] * 2, "cut": pages[0][:999]})
+        self.ends_well("faxtool code --code mh standard.pbm standard.mh")
+        open_end = (self.folder / "standard.mh").read_bytes()[:-2]
+        self.fills("pdfs", {"one": pages[0], "a file": b"".join(pages), "a file-1": pages[0] * 2, "cut": pages[0][:999], "no RTC": open_end})
         status, said = self.ends(command, "pdfs")
         pdfs = {file.name: pdf_size(file.read_bytes()) for file in (self.folder / "pdfs" / "pdf").iterdir()}
         if {name: len(pages) for name, pages in pdfs.items()} != {"one.pdf": 1, "a file.pdf": 12, "a file-1.pdf": 2}:
