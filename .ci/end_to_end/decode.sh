@@ -421,6 +421,8 @@ MAKES
     done
     is_same new/cutsecond-1-1.mh "$data/page.mh.msb" "the strip before the end of a TIFF"
     strips_say 1 "cut3.tif: it is no TIFF" cut3.tif new
+    { printf 'II*\0\0\0\0\0'; cat "$data/page.mh.msb"; } > unended.tif
+    strips_say 1 "unended.tif: it has no page: what wrote it didn't end" unended.tif new
     strips_say 1 "outside.tif: a strip is empty, or lies outside the file" outside.tif new
     strips_say 1 "long.tif: a strip is empty, or lies outside the file" long.tif new
     strips_say 1 "overlap.tif: its parts overlap" overlap.tif new

@@ -357,7 +357,10 @@ def call(asked, lines, log):
     log(f"# misbehave.py --test {asked.test} --seed {asked.seed}: {'; '.join(lines)}")
     Tampered(sides, sides[asked.test == "caller"], rules_of(lines), asked.seed, log, asked.most).play()
     ends = [side.station.end() for side in sides]
-    said, status = ends[sides.index(tested)]
+    said, status = ends.pop(sides.index(tested))
+    # what the other one did without ours says nothing of it
+    if not ends[0][0] or not ends[0][0][-1].startswith("end "):
+        sys.exit(f"misbehave.py: the station that misbehaves failed: {'; '.join(ends[0][0]) or 'nothing said'}")
     log(f"# {asked.test}: {said[-1] if said else 'nothing said'}, status {status}")
     return said[-1] if said else "nothing said", status
 

@@ -44,6 +44,8 @@ class Tiff:
     def pages(self):
         """The tags of each page, by number: the kind, how many values there are, and the place of the entry's last four octets."""
         (at,), seen = self.numbers("I", 4), set()
+        if not at:
+            raise ValueError("it has no page: what wrote it didn't end")
         while at:
             if at in seen or len(seen) == MOST_PAGES:
                 raise ValueError("its pages lead back to an earlier one" if at in seen else f"it has more than {MOST_PAGES} pages")
