@@ -89,6 +89,11 @@ try_seeds() {
         python3 -B "$top/docs/examples/misbehave.py" --script "$work/script" "$top/docs/examples/row.pbm" "$work" > "$work/output" 2> "$work/error" || status=$?
         [ "$status $(cut -d ';' -f 1 "$work/error")" = "1 misbehave.py: line 3 of the script is none: '$line'" ] || fails "a script with the line $line"
     done
+    # what a caller does without an answerer says nothing of it
+    status=0
+    python3 -B "$top/docs/examples/misbehave.py" --faxtool "$program" "$top/docs/examples/row.pbm" "$work/none" > "$work/output" 2> "$work/error" || status=$?
+    [ "$status $(cat "$work/error")" = "1 misbehave.py: the station that misbehaves failed: fault 8; $work/none: no such file or folder" ] ||
+        fails "misbehave.py without a folder for its answerer ended with status $status"
 }
 
 # benches STATUS WORDS: bench.py over the calls of a list.
