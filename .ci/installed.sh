@@ -49,6 +49,20 @@ if command -v make > /dev/null; then
     grep -q "nothing was installed, since bindings/build/libg3fax.a isn't built yet: make" "$work/said" \
         || { cat "$work/said" >&2; fails "make -C bindings install doesn't say what to run first"; }
     [ ! -e "$work/unbuilt/prefix" ] || fails "make -C bindings install of what isn't built installs something"
+    # the examples start no proof either; they take another library, and run under the compiler's sanitizers, if it has them
+    cp -r "$top/bindings/c" "$work/unbuilt/"
+    ! KIT=$work/missing make -s -C "$work/unbuilt" examples FROM="$work/missing" > "$work/said" 2>&1 \
+        || fails "make -C bindings examples without a library ends well"
+    grep -q "no example was built, since no library is: make lib-try" "$work/said" \
+        || { cat "$work/said" >&2; fails "make -C bindings examples doesn't say what to run first"; }
+    CC=${CC:-cc}
+    if echo 'int main(void) { return 0; }' | "$CC" -fsanitize=address,undefined -x c -o "$work/sanitized" - > "$work/said" 2>&1; then
+        make -s -C "$work/unbuilt" examples LIB="$work" CC="$CC" CFLAGS="-O1 -fsanitize=address,undefined -fno-sanitize-recover=undefined" \
+            > "$work/said" 2>&1 || { cat "$work/said" >&2; fails "make -C bindings examples"; }
+        "$work/unbuilt/build/encode" "$data/page.pbm" "$work/code" mmr msb && cmp "$work/code" "$data/page.mmr.msb" \
+            && "$work/unbuilt/build/decode" "$work/code" "$work/decoded" mmr msb 315 && cmp "$work/decoded" "$data/page.pbm" \
+            && "$work/unbuilt/build/frames" "$top/docs/examples/line.bits" > "$work/said" || fails "the examples under the sanitizers of $CC"
+    fi
 fi
 
 "$top/bindings/install.sh" "$work" "$work/prefix"

@@ -10,7 +10,7 @@ static g3_status give_octets(g3_octets *octets, FILE *to)
     const uint8_t *data = NULL;
     uint64_t count = 0;
     g3_status status = g3_octets_data(octets, &data, &count);
-    if (status == G3_OK && fwrite(data, 1, count, to) != count) status = G3_NO_ROOM;
+    if (status == G3_OK && count > 0 && fwrite(data, 1, count, to) != count) status = G3_NO_ROOM;
     g3_octets_free(octets);
     return status;
 }
