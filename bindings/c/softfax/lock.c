@@ -117,8 +117,7 @@ long lock_take(lock *it, const char *tty)
     long process = 0;
     int came = TAKEN;
     it->count = 0;
-    /* the device's name first: who has that one gets the other too, unless another program has it */
-    int is_named = name_lock(device != NULL ? device : tty, names[0]) && name_lock(tty, names[1]);
+    int is_named = name_lock(tty, names[0]) && name_lock(device != NULL ? device : tty, names[1]);
     free(device);
     for (int i = 0; i < LOCK_NAMES && is_named && came == TAKEN; i++) {
         if (i == 0 || strcmp(names[0], names[1]) != 0) came = take_name(it, names[i], &process);
