@@ -185,6 +185,23 @@ head -c 500 "$data/page.mmr.msb" > "$work/cut"
 gives 1 decode "$work/cut" "$work/page.pbm" mmr msb 315
 [ "$(cat "$work/error")" = "fault 11 at bit 3999: the bits end inside a code" ] || fails "decode said of a cut page: $(cat "$work/error")"
 
+# IN as OUT; what can't be read is no empty file, and OUT stays where nothing comes in its place
+for code in mh mmr; do
+    cp "$data/page.pbm" "$work/same"
+    gives 0 encode "$work/same" "$work/same" "$code" msb
+    is_same "$work/same" "$data/page.$code.msb" "encode into its own file"
+    gives 0 decode "$work/same" "$work/same" "$code" msb 315
+    is_same "$work/same" "$data/page.pbm" "decode into its own file"
+done
+gives 1 encode "$data/page.mh.msb" "$work/same" mh msb
+gives 1 decode "$data/page.mh.msb" "$work/same" mh msb 0
+for words in "encode $work $work/same mh msb" "decode $work $work/same mh msb 315" "raster $work $work/same" "call $work $work/same" \
+    "frames $work" "signals $work"; do
+    # shellcheck disable=SC2086
+    gives 1 $words
+done
+is_same "$work/same" "$data/page.pbm" "the output of an example that fails"
+
 # the frames of a line that was written with no code of this repository
 gives 0 frames "$data/line.bits"
 grep '^[0-9]' "$data/line.txt" | cut -d ' ' -f 1,2 > "$work/wanted"
@@ -223,6 +240,14 @@ done
 # and by a modem that waits for each answer; the names of the talks have no spaces
 # shellcheck disable=SC2086
 (cd "$top" && .ci/by_lines.py "$work/answer" "$work/stored.pbm" $talks) || fails "answer by lines"
+
+# a later call adds its pages
+rm "$work/stored.pbm"
+for pages in 1 2; do
+    gives 0 answer "$work/stored.pbm" < "$top/docs/examples/answer.lines"
+    for page in $(seq $pages); do cat "$top/docs/examples/row.pbm"; done > "$work/page.pbm"
+    is_same "$work/stored.pbm" "$work/page.pbm" "the pages of $pages calls"
+done
 
 gives 0 own
 [ "$(cat "$work/output")" = "5 octets, the first is 36, 1 page" ] || fails "own printed: $(cat "$work/output")"

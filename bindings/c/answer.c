@@ -1,6 +1,6 @@
 /* answer OUT.pbm: an answerer, whose modem says by lines of text on standard input what is on the line and when, and gets lines with the
- * bursts to be sent; docs/STATION.md has them. Each page is added to the file before it can be confirmed. Each answer is flushed, since the
- * program that has the modem waits for it. */
+ * bursts to be sent; docs/STATION.md has them. Each page is added to the file, after those of earlier calls, before it can be confirmed.
+ * Each answer is flushed, since the program that has the modem waits for it. */
 #include "g3fax.h"
 #include "files.h"
 #include <string.h>
@@ -73,7 +73,7 @@ int main(int argc, char **argv)
 {
     g3_caps caps = {.modems = G3_V17, .t6 = 1, .fine = 1, .widest = 2432, .limit = 2};
     g3_state state = G3_INIT(g3_state);
-    FILE *out = argc == 2 ? fopen(argv[1], "wb") : NULL;
+    FILE *out = argc == 2 ? fopen(argv[1], "ab") : NULL;
     if (out == NULL) return fprintf(stderr, "usage: answer OUT.pbm\n"), 2;
     g3_status status = g3_answerer_new(&terminal, &caps);
     while (status == G3_OK && state.end == 0 && fgets(line, sizeof line, stdin) != NULL) {

@@ -1,10 +1,11 @@
 /* decode IN OUT.pbm mh|mmr msb|lsb WIDTH: a coded page as a raw PBM file, row by row, in memory that doesn't grow with the page. Of a page
  * that can't be read, the rows that are whole. A PBM file begins with the number of its rows, so IN is read twice; if it is a pipe, from a
- * temporary file. */
+ * temporary file. OUT is written last, from another one, so it may be IN. */
 #include "g3fax.h"
-#include <stdio.h>
-#include <stdlib.h>
+#include "files.h"
 #include <string.h>
+
+enum { UNREADABLE = 1000 }; /* what no function of the library answers: the file can't be read */
 
 /* Whether a page can't be read. */
 static int is_fault(g3_status status)
@@ -46,6 +47,7 @@ static g3_status read_page(FILE *from, const g3_code *code, FILE *to, uint32_t *
     g3_status status = g3_row_reader_new(&reader, code);
     while (status == G3_OK && (length = fread(octets, 1, sizeof octets, from)) > 0)
         status = feed(&reader, octets, length, to, rows, place);
+    if (status == G3_OK && ferror(from)) status = UNREADABLE;
     if (status == G3_OK) status = give_rows(&reader, to, rows, place);
     g3_row_reader_free(&reader);
     return status;
@@ -60,6 +62,7 @@ static FILE *twice(FILE *from)
     FILE *copy = tmpfile();
     while (copy != NULL && (length = fread(octets, 1, sizeof octets, from)) > 0)
         if (fwrite(octets, 1, length, copy) != length) return fclose(copy), NULL;
+    if (copy != NULL && (ferror(from) || fflush(copy) != 0)) return fclose(copy), NULL;
     if (copy != NULL) rewind(copy);
     return copy;
 }
@@ -84,14 +87,16 @@ int main(int argc, char **argv)
     if (argc != 6) return fprintf(stderr, "usage: decode IN OUT.pbm mh|mmr msb|lsb WIDTH\n"), 2;
     g3_code code = {.coding = strcmp(argv[3], "mh") ? G3_MMR : G3_MH, .order = strcmp(argv[4], "msb") ? G3_LSB_FIRST : G3_MSB_FIRST,
                     .width = (uint32_t)atoi(argv[5])};
-    FILE *from = fopen(argv[1], "rb"), *to = from == NULL ? NULL : fopen(argv[2], "wb");
-    if (to == NULL) return perror(from == NULL ? argv[1] : argv[2]), 1;
+    FILE *from = fopen(argv[1], "rb"), *to = from == NULL ? NULL : tmpfile();
+    if (to == NULL) return perror(argv[1]), 1;
     FILE *code_file = twice(from);
     if (code_file == NULL) return perror(argv[1]), 1;
     g3_status status = decode(code_file, &code, to);
-    if (status != G3_NOTHING && !is_fault(status)) fprintf(stderr, "decode: %s\n", g3_status_text(status));
+    if (status == UNREADABLE) perror(argv[1]);
+    else if (status != G3_NOTHING && !is_fault(status)) fprintf(stderr, "decode: %s\n", g3_status_text(status));
     if (code_file != from) fclose(code_file);
     fclose(from);
-    if (fclose(to) != 0) return perror(argv[2]), 1;
+    if (status != G3_NOTHING && !is_fault(status)) return fclose(to), 1;
+    if (!give_file(to, argv[2])) return perror(argv[2]), 1;
     return status == G3_NOTHING ? 0 : 1;
 }

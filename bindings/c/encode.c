@@ -1,7 +1,7 @@
 /* encode IN.pbm OUT mh|mmr msb|lsb: the code of the first image of a raw PBM file, row by row, in memory that doesn't grow with the image.
- * Its header has no comment. */
+ * Its header has no comment. OUT is written last, from a temporary file, so it may be IN. */
 #include "g3fax.h"
-#include <stdio.h>
+#include "files.h"
 #include <string.h>
 
 /* Writes the octets of a handle to a file, and frees them. */
@@ -48,11 +48,10 @@ int main(int argc, char **argv)
 {
     if (argc != 5) return fprintf(stderr, "usage: encode IN.pbm OUT mh|mmr msb|lsb\n"), 2;
     g3_code code = {.coding = strcmp(argv[3], "mh") ? G3_MMR : G3_MH, .order = strcmp(argv[4], "msb") ? G3_LSB_FIRST : G3_MSB_FIRST};
-    FILE *from = fopen(argv[1], "rb"), *to = from == NULL ? NULL : fopen(argv[2], "wb");
-    if (to == NULL) return perror(from == NULL ? argv[1] : argv[2]), 1;
+    FILE *from = fopen(argv[1], "rb"), *to = from == NULL ? NULL : tmpfile();
+    if (to == NULL) return perror(argv[1]), 1;
     g3_status status = encode(from, &code, to);
-    if (status != G3_OK) fprintf(stderr, "encode: %s\n", g3_status_text(status));
     fclose(from);
-    if (fclose(to) != 0) return perror(argv[2]), 1;
-    return status == G3_OK ? 0 : 1;
+    if (status != G3_OK) return fprintf(stderr, "encode: %s\n", g3_status_text(status)), fclose(to), 1;
+    return give_file(to, argv[2]) ? 0 : (perror(argv[2]), 1);
 }

@@ -24,6 +24,7 @@ static inline uint8_t *read_file(const char *name, size_t *length)
         if (*length > MOST_FILE) more = NULL;
         else if (*length == room && (more = realloc(octets, room *= 2)) != NULL) octets = more;
     }
+    if (ferror(file)) more = NULL;
     fclose(file);
     if (more != NULL) return octets;
     free(octets);
@@ -37,6 +38,22 @@ static inline int write_file(const char *name, const uint8_t *octets, size_t len
     if (file == NULL) return 0;
     int whole = fwrite(octets, 1, length, file) == length;
     return fclose(file) == 0 && whole;
+}
+
+/* Whether a file of this name has what was written to another one, which is closed. It is opened now, when all was read: so it may be what
+ * was read, and what is there stays where nothing comes in its place. */
+static inline int give_file(FILE *from, const char *name)
+{
+    uint8_t octets[4096];
+    size_t length = 0;
+    FILE *file = fflush(from) == 0 ? fopen(name, "wb") : NULL;
+    int whole = file != NULL;
+    rewind(from);
+    while (whole && (length = fread(octets, 1, sizeof octets, from)) > 0) whole = fwrite(octets, 1, length, file) == length;
+    whole = whole && !ferror(from);
+    if (file != NULL) whole = fclose(file) == 0 && whole;
+    fclose(from);
+    return whole;
 }
 
 /* Copies the octets of a handle, however many, into memory that the caller frees. The handle is freed in any case. */

@@ -8,6 +8,7 @@ size_t fread(void *to, size_t size, size_t count, FILE *file);
 size_t fwrite(const void *from, size_t size, size_t count, FILE *file);
 int fclose(FILE *file);
 int fflush(FILE *file);
+int ferror(FILE *file);
 #define SEEK_SET 0
 int fseek(FILE *file, long place, int from);
 void rewind(FILE *file);
