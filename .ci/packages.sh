@@ -48,6 +48,7 @@ is_same() {
 
 # try_install: install, install again, uninstall; a folder that isn't the install's own stays.
 try_install() {
+    odd='/opt/a & b|100%'
     mkdir -p "$to/usr/share/doc" "$to/usr/bin"
     echo mine > "$to/usr/bin/mine"
     makes install DESTDIR="$to" PREFIX=/usr
@@ -62,6 +63,12 @@ try_install() {
     [ -f "$to/usr/local/lib64/pkgconfig/g3fax.pc" ] || fails "LIBDIR isn't heeded"
     makes uninstall DESTDIR="$to"
     is_empty "after make uninstall"
+    makes install DESTDIR="$to" PREFIX="$odd"
+    unit=$to$odd/lib/systemd/system/softfax@.service
+    [ ! -f "$unit" ] || grep -qF 'ExecStart="/opt/a & b|100%%/bin/softfax" --tty /dev/%I ' "$unit" ||
+        fails "the unit runs another program: $(grep ExecStart "$unit")"
+    makes uninstall DESTDIR="$to" PREFIX="$odd"
+    is_empty "after make uninstall of $odd"
 }
 
 # try_refused: what can't be installed, and leaves nothing.

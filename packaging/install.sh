@@ -89,7 +89,11 @@ gather_softfax() {
     fi
     puts 755 "$library/softfax" "$prefix/bin"
     puts 644 "$library/inits.txt" "$prefix/share/softfax"
-    sed "s|@BINDIR@|$prefix/bin|" packaging/softfax@.service > "$work/softfax@.service"
+    # as systemd reads it: in quotes if not plain, and with each % twice
+    bin=$(printf '%s\n' "$prefix/bin/softfax" | sed 's,[\\"],\\&,g; s,%,%%,g')
+    case $bin in *[!A-Za-z0-9_/.:@+-]*) bin="\"$bin\"" ;; esac
+    bin=$(printf '%s\n' "$bin" | sed 's,[\\&|],\\&,g')
+    sed "s|@BINDIR@/softfax|$bin|" packaging/softfax@.service > "$work/softfax@.service"
     puts 644 "$work/softfax@.service" "$prefix/lib/systemd/system"
 }
 
