@@ -458,16 +458,12 @@ class Files(unittest.TestCase):
     def test_last_pages(self):
         with next(g3fax.pages(self.wide("faxg4"))) as page:
             self.assertEqual((len(page), page.bits, page.fault.number), (40, None, 17))
-        octets = self.wide("mmr.msb")
-        found = g3fax.pages(octets + octets[:200])
+        found = g3fax.pages((octets := self.wide("mmr.msb")) + octets[:200])
         self.assertEqual(len(next(found)), 28)
         with self.assertRaises(g3fax.CodeFault) as raised:
             next(found)
         self.assertEqual((raised.exception.number, raised.exception.bit), (11, 8 * len(octets) + 8 * 200 - 1))
-        # the bit is that of the file, also where all rows are there
-        alone, second = (list(g3fax.pages(file, 1728, Coding.MMR))[-1] for file in (octets[:-3], octets + octets[:-3]))
-        self.assertEqual((alone.fault.number, len(second), second.start), (17, 28, 8 * len(octets)))
-        self.assertEqual(second.fault.bit, 8 * len(octets) + alone.fault.bit)
+        self.assertEqual(*(list(g3fax.pages(before + octets[:-3], 1728, Coding.MMR))[-1].fault.bit - 8 * len(before) for before in (b"", octets)))
         for other in b"", PBM, coded("mmr.msb"), octets[:200]:
             self.assertRaises(ValueError, next, g3fax.pages(other))
         self.assertRaises(ValueError, next, g3fax.pages(octets, 1728))
