@@ -11,7 +11,7 @@ Each definition that a public clause names, or that such a definition rests on, 
 them has a case that is `⊤`, which says nothing, but those that are listed below with the reason.
 The book (docs/book.py) has no dead link, and each public item has its `///`.
 Each crate has a README of at most 100 lines. Each committed document has at most the words of its kind by `wc -w`: README.md 1,300, a crate's
-README 450, any other 2,200; and all together have at most 33,000.
+README 450, any other 2,200; and all together have at most 34,000.
 The table of docs/STATION.md, under `## Timers`, has exactly the waits of each state that the definitions of
 `crates/stations/specs/Waits.antt` have.
 The table of docs/FAULTS.md has exactly the faults of the program: those of a whole file, of a bit and of a line by the kinds of
@@ -41,7 +41,7 @@ KEPT_HEADER = """\
 """
 LEAST_WORDS = 3
 MOST_LINES = 100
-MOST_WORDS = 33_000
+MOST_WORDS = 34_000
 # The most words of a document, by its path; of any other, those of a guide.
 MOST_OF_A_PAGE = {r"README\.md": 1_300, r"crates/\w+/README\.md": 450}
 MOST_OF_A_GUIDE = 2_200

@@ -83,7 +83,8 @@ class Crate:
 
     def shows(self, file, name):
         """Other crates can name the item of this name in the file, if it is `pub`; in a program any file's."""
-        return self.is_program or file == self.root or name in self.exports or file.relative_to(self.folder / "src").with_suffix("").parts[0] in self.open
+        module = file.relative_to(self.folder / "src").with_suffix("").parts[0]
+        return self.is_program or file == self.root or name in self.exports or module in self.open
 
     def clauses(self):
         """Each public clause, with its file."""
