@@ -194,5 +194,5 @@ pub fn print_version(context: &mut Context<'_>) -> Result<Completeness, ToolFaul
 pub fn told_frames_have_come()
     ensures { RuleIsKeptOfPages NotCome }
 {
-    judged_calls::frames_come();
+    judged_calls::laws::frames_come();
 }

@@ -1,5 +1,5 @@
 use Rattle.judged_calls.proofs.OwnSignals.{own_signals}
-use Rattle.judged_calls.proofs.own_signals.Goals as goal
+use Rattle.judged_calls.proofs.laws.own_signals.Goals as goal
 
 pub returns : goal.returns
 returns c = own_signals

@@ -1,5 +1,5 @@
 use Rattle.judged_calls.proofs.SameData.{data_stay}
-use Rattle.judged_calls.proofs.data_stay.Goals as goal
+use Rattle.judged_calls.proofs.laws.data_stay.Goals as goal
 
 pub returns : goal.returns
 returns c = data_stay

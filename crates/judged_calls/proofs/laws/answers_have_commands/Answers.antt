@@ -1,5 +1,5 @@
 use Rattle.judged_calls.proofs.Answered.{answers_commands}
-use Rattle.judged_calls.proofs.answers_have_commands.Goals as goal
+use Rattle.judged_calls.proofs.laws.answers_have_commands.Goals as goal
 
 pub returns-clause-training : goal.returns-clause-training
 returns-clause-training c = (answers_commands c.headline.ensures.facts).0
