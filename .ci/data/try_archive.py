@@ -3,9 +3,9 @@
     try_archive.py PROGRAM
 
 Netpbm, tiffcp, gs and pbm2g3 make forty files of ten kinds, as far as they are installed; of each kind one is cut, and one has three bits
-turned. Each whole file of a kind that is read must give the pages that were coded, pixel for pixel; a damaged one of these must give rows, and
-must not be called a page of T.4 in two dimensions; a TIFF must be called one. The names have spaces, line ends and dashes. Prints the number of
-files on the last line, or what is wrong with status 1. It needs Python's standard library alone."""
+turned. Each whole file of a kind that is read must give the pages that were coded, pixel for pixel; a damaged one of these must give rows,
+and must not be called a page of T.4 in two dimensions. A TIFF, and such a page, must be called that. The names have spaces, line ends and
+dashes. Prints the number of files on the last line, or what is wrong with status 1. It needs Python's standard library alone."""
 
 import json
 import random
@@ -86,6 +86,8 @@ def check(record, kind, how, page, folder):
     said = f"{kind} {how}: {record}"
     if is_not_read == "TIFF" and how != "cut" and (record["not_read"] != "TIFF" or outs):
         fails(f"a TIFF is read: {said}")
+    if is_not_read == "MR" and (record["not_read"] != "MR" or outs):
+        fails(f"not called MR: {said}")
     if is_not_read is None and not outs:
         fails(f"no row of {said}")
     if is_not_read is None and "two dimensions" in record["is"]:

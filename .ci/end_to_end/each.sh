@@ -21,9 +21,10 @@ try_each() {
     head -c 200 "$data/page.mh.msb" > each/cut
     cp "$data/page.pbm" each/image
     printf 'II*\0' > each/tiff
+    unsought="a page after it is not looked for"
     printf '\0\0' > each/zeros
     head -c 200 "$data/wide.mmr.lsb" > each/short
-    tells_each 1 "each/mh: whole 1 pages\neach/two: whole 2 pages\neach/open: cut at row 41 of page 1: fault 17 at bit $(g4_end)\n\
+    tells_each 1 "each/mh: whole 1 pages\neach/two: whole 2 pages\neach/open: cut at row 41 of page 1: fault 17 at bit $(g4_end); $unsought\n\
 each/image: no fax: PBM\neach/tiff: no fax: TIFF\neach/zeros: not read: identify may tell what it is\neach/none: fault 8\n" \
         decode --each each/out each/mh each/two each/open each/image each/tiff each/zeros each/none
     [ "$(ls each/out/each | tr '\n' ' ')" = "mh-0001.pbm two-0001.pbm two-0002.pbm " ] || fails "decode --each wrote $(ls -R each/out)"
@@ -36,12 +37,12 @@ each/image: no fax: PBM\neach/tiff: no fax: TIFF\neach/zeros: not read: identify
     tells_each 0 "${open}each/mh: whole 1 pages\n" decode --each each/out --repair each/open each/mh
     rm -r each/out/*
     tells_each 1 "$open" decode --each each/out --repair --whole each/open
-    tells_each 1 "{\"file\":\"each/image\",\"is\":\"no fax: PBM\",\"not_read\":\"PBM\",\"pages\":[],\"whole\":false}\n\
-{\"file\":\"each/mh\",\"is\":\"whole 1 pages\",\"not_read\":null,\"pages\":[$(page_record 7689 mh null false msb each/mh 0 30 false 315)],\"whole\":true}\n" \
+    tells_each 1 "{\"file\":\"each/image\",\"is\":\"no fax: PBM\",\"left_out\":[],\"not_read\":\"PBM\",\"pages\":[],\"whole\":false}\n\
+{\"file\":\"each/mh\",\"is\":\"whole 1 pages\",\"left_out\":[],\"not_read\":null,\"pages\":[$(page_record 7689 mh null false msb each/mh 0 30 false 315)],\"whole\":true}\n" \
         decode --each each/out --json each/image each/mh
     rm -r each/out/*
     gives 1 decode --each each/out --salvage --code mh --width 315 each/cut each/mh
-    grep -q "^each/cut: cut at row [0-9]* of page 1: fault 1[0-9] at bit [0-9]*$" "$work/output" || fails "decode --each of a cut page said otherwise"
+    grep -q "^each/cut: cut at row [0-9]* of page 1: fault 1[0-9] at bit [0-9]*; $unsought$" "$work/output" || fails "decode --each of a cut page said otherwise"
     works decode --code mh --width 315 each/mh each/one.pbm
     is_same each/out/each/mh-0001.pbm each/one.pbm "decode --each after a cut page"
     gives 1 decode --salvage --code mh --width 315 each/cut each/one.pbm
@@ -53,6 +54,7 @@ each/image: no fax: PBM\neach/tiff: no fax: TIFF\neach/zeros: not read: identify
         refuses decode $words
     done
     try_each_whole
+    try_each_mended
     try_each_words
     try_each_names
     try_each_new
@@ -78,7 +80,7 @@ try_each_whole() {
         decode --each each/out --whole --code mh --width 315 each/second
     rm -r each/out/*
     is="1 pages, and one or more has no end"
-    tells_each 0 "{\"file\":\"each/early\",\"is\":\"$is\",\"not_read\":null,\"pages\":[$(page_record 3160 mh null true msb each/early 0 23 false 315)],\"says\":\"page 1: $no_rtc\\\\n\",\"whole\":false}\n" \
+    tells_each 0 "{\"file\":\"each/early\",\"is\":\"$is\",\"left_out\":[],\"not_read\":null,\"pages\":[$(page_record 3160 mh null true msb each/early 0 23 false 315)],\"says\":\"page 1: $no_rtc\\\\n\",\"whole\":false}\n" \
         decode --each each/out --json each/early
     # read line by line, the page is as much without its RTC
     gives 0 decode --repair --code mh --width 315 each/early each/one.pbm
@@ -90,10 +92,13 @@ try_each_whole() {
     head -c 395 each/broken > each/both
     for file in broken both; do
         rm -rf each/out/*
+        # the page that has its RTC is known to be the last
+        after=
+        [ "$file" = broken ] || after="; $unsought"
         gives 0 decode --repair --code mh --width 315 "each/$file" each/one.pbm
         cp "$work/error" each/said
         rows=$(sed -n 's/^repaired rows: //p' each/said)
-        { echo "each/$file: repaired $rows rows of page 1; a page after it is not looked for"; sed 's/^/    page 1: /' each/said; } > each/wanted
+        { echo "each/$file: repaired $rows rows of page 1$after"; sed 's/^/    page 1: /' each/said; } > each/wanted
         gives 0 decode --each each/out --repair --code mh --width 315 "each/$file"
         is_same "$work/output" each/wanted "what decode --each --repair says of each/$file"
         is_same "each/out/each/$file-0001.pbm" each/one.pbm "the repaired rows of each/$file"
@@ -102,6 +107,82 @@ try_each_whole() {
         grep -q '"whole":false}$' "$work/output" || fails "a repaired page is whole"
     done
     grep -q "^$no_rtc" each/said || fails "decode --repair doesn't say that RTC is missing"
+    rm -rf each/out/*
+}
+
+# mended SAYS FILE WAY WORDS: --each with these words says this of a file of two pages of this way; the second is the page of each/second.pbm,
+# also by --page.
+mended() {
+    says=$1
+    file=$2
+    way=$3
+    words=$4
+    rm -rf each/out/*
+    gives "$5" decode --each each/out $words $way "each/$file"
+    cp "$work/output" each/said
+    [ "$(head -n 1 each/said)" = "each/$file: $says" ] || fails "decode --each $words of $file: $(cat each/said)"
+    is_same "each/out/each/$file-0002.pbm" each/second.pbm "the page after a damaged one by --each $words of $file"
+    works decode $words $way --page 2 "each/$file" each/one.pbm
+    is_same each/one.pbm each/second.pbm "the page after a damaged one by --page, $words of $file"
+}
+
+# unsought WORDS: the page after the damaged one of each/later isn't looked for, nor by --page.
+unsought() {
+    rm -rf each/out/*
+    gives "$1" decode --each each/out $2 $3 each/later
+    grep -q "^each/later: .*; $unsought$" "$work/output" || fails "decode --each $2 looked for a page: $(cat "$work/output")"
+    [ ! -e each/out/each/later-0002.pbm ] || fails "decode --each $2 wrote a page that it didn't look for"
+    rm -f each/one.pbm
+    gives 1 decode $2 $3 --page 2 each/later each/one.pbm
+    [ "$(head -n 1 "$work/error")" = "page 1 begins at octet 0 and can't be read to its end" ] && [ ! -e each/one.pbm ] ||
+        fails "decode --page $2: $(cat "$work/error")"
+}
+
+# After a damaged page the next one is looked for, if damaged ones are asked for, by the mark of its end: RTC or EOFB. A mark that is itself
+# damaged isn't passed over.
+try_each_mended() {
+    for order in msb lsb; do
+        way="--code mh --width 315 --order $order"
+        cp "$data/page.mh.$order" each/end
+        { head -c 100 each/end; printf '\377\377'; tail -c +103 each/end; } > each/bad
+        cp "$data/page.pbm" each/second.pbm
+        cat each/bad each/end > each/later
+        mended "2 pages, and one or more is damaged" later "$way" --repair 0
+        grep -q '^    page 1: repaired rows: ' each/said || fails "--each doesn't say which page is repaired: $(cat each/said)"
+        gives 0 decode --repair $way each/bad each/one.pbm
+        is_same each/out/each/later-0001.pbm each/one.pbm "the repaired page before another one"
+        mended "2 pages, and one or more is damaged" later "$way" --salvage 1
+        grep -q '^    page 1: cut at row [0-9]*: fault 1[0-9] at bit [0-9]*$' each/said || fails "--each doesn't say which page is cut: $(cat each/said)"
+        gives 1 decode --salvage $way each/bad each/one.pbm
+        is_same each/out/each/later-0001.pbm each/one.pbm "the salvaged rows before another page"
+        unsought 1 "" "$way"
+        # RTC has five EOLs and a half, or none: the RTC after it is the second page's
+        size=$(wc -c < each/bad)
+        { head -c $((size - 3)) each/bad; printf '\377\377\377'; cat each/end; } > each/later
+        unsought 0 --repair "$way"
+        unsought 1 --salvage "$way"
+        # nothing follows, which is said by saying nothing of it
+        rm -rf each/out/*
+        gives 1 decode --each each/out --salvage $way each/bad
+        grep -q "^each/bad: cut at row [0-9]* of page 1: fault 1[0-9] at bit [0-9]*$" "$work/output" || fails "decode --each of a last page: $(cat "$work/output")"
+    done
+    way="--code mmr --order lsb --width 1728"
+    { head -c 200 "$data/wide.mmr.lsb"; printf '\377'; tail -c +202 "$data/wide.mmr.lsb"; } > each/bad
+    works decode $way "$data/wide.mmr.lsb" each/second.pbm
+    cat each/bad "$data/wide.mmr.lsb" > each/later
+    for words in --salvage --repair "--repair --salvage"; do
+        if [ "$words" = "--repair --salvage" ]; then
+            rm -rf each/out/*
+            gives 1 decode --each each/out $words $way each/later
+            is_same each/out/each/later-0002.pbm each/second.pbm "the page after a damaged one by --each $words"
+        else
+            mended "2 pages, and one or more is damaged" later "$way" "$words" 1
+        fi
+    done
+    unsought 1 "" "$way"
+    size=$(wc -c < each/bad)
+    { head -c $((size - 1)) each/bad; printf '\377'; cat "$data/wide.mmr.lsb"; } > each/later
+    unsought 1 --salvage "$way"
     rm -rf each/out/*
 }
 
@@ -128,7 +209,7 @@ try_each_words() {
         words=$(sed 's/^ *//' each/wanted)
         rm -rf each/out/*
         gives 1 decode --json --each each/out "$name"
-        [ "$(cat "$work/output")" = "{\"fault\":8,\"file\":\"$name\",\"is\":\"fault 8\",\"not_read\":null,\"pages\":[],\"whole\":false,\"words\":\"$words\"}" ] ||
+        [ "$(cat "$work/output")" = "{\"fault\":8,\"file\":\"$name\",\"is\":\"fault 8\",\"left_out\":[],\"not_read\":null,\"pages\":[],\"whole\":false,\"words\":\"$words\"}" ] ||
             fails "the record of $name has no fault or no words: $(cat "$work/output")"
         gives 1 identify --json each/mh "$name"
         [ "$(tail -n 1 "$work/output")" = \
@@ -287,6 +368,23 @@ try_each_places() {
     done
     tells_each 0 "./each/./mh: whole 1 pages\n" decode --each each/out ./each/./mh
     rm each/out/each/mh-0001.pbm
+    # in a record: each such part in its order; none if no image is written
+    while read -r name parts; do
+        rm -rf each/out/*
+        gives 0 decode --json --each each/out "$name"
+        grep -q "\"left_out\":\[$parts\]," "$work/output" || fails "the record of $name: $(cat "$work/output")"
+        gives 1 decode --json --each each/out "$name"
+        grep -q '"left_out":\[\],' "$work/output" || fails "the record of $name without an image: $(cat "$work/output")"
+    done <<PARTS
+$work/each/mh "/"
+../${work##*/}/each/mh ".."
+/../$work/each/.././each/mh "/","..",".."
+./each/./mh
+PARTS
+    rm -rf each/out/*
+    for name in "$work/each/mh" ../"${work##*/}"/each/mh each/.././each/other//mh; do
+        gives 0 decode --each each/out "$name"
+    done
     "$program" decode --each each/out - < each/mh > "$work/output" || fails "decode --each of standard input ended with status $?"
     (cd each/out && find . -type f | sort) > each/found
     printf '%s\n' "./${work#/}/each/mh-0001.pbm" "./${work##*/}/each/mh-0001.pbm" ./each/each/other/mh-0001.pbm ./stdin-0001.pbm | sort > each/wanted
@@ -418,12 +516,23 @@ try_several() {
     eval "set -- $(sed 's/.*"code":"\([a-z0-9]*\)".*"order":"\([a-z]*\)".*"width":\([0-9]*\).*/--code \1 --order \2 --width \3/' "$work/output")"
     works decode "$@" each/mh each/one.pbm
     is_same each/one.pbm "$data/page.pbm" "the page as identify --json names its way"
+    # T.4 in two dimensions is named, also where it is asked for damaged pages: no row of it is taken for another code's
+    eol="000000000001" line="010011011 00110101"
+    cp "$(bits "$eol 1 $line $eol 0 1 $eol 1 $line")" each/mr
+    is="T.4 in two dimensions (MR), $msb, width 1728: not read"
+    tells_each 1 "each/mr: $is\neach/mh: T.4, $msb, width 315, 30 rows\n" identify each/mr each/mh
+    tells_each 1 "{\"bits\":null,\"code\":null,\"file\":\"each/mr\",\"is\":\"$is\",\"known\":false,\"not_read\":\"MR\",\"order\":null,\
+\"rows\":null,\"width\":null}\n" identify --json each/mr
+    for words in "" --repair --salvage; do
+        tells_each 1 "{\"file\":\"each/mr\",\"is\":\"not read: T.4 in two dimensions (MR)\",\"left_out\":[],\"not_read\":\"MR\",\"pages\":[],\"whole\":false}\n" \
+            decode --json $words --each each/out each/mr
+    done
     # a damaged page of T.4 has its own line, not one of MR, which it reads as in its first row
     head -c 300 each/mh > each/half
     gives 1 identify each/half each/mh
     grep -q "^each/half: T.4, $msb, width 315: fault 1[0-9] at bit [0-9]* after 1[0-9] rows$" "$work/output" || fails "identify of a damaged page: $(cat "$work/output")"
     gives 1 decode --each each/out each/half
-    grep -q "^each/half: cut at row 1[0-9] of page 1: fault 1[0-9] at bit [0-9]*$" "$work/output" || fails "decode --each of a damaged page: $(cat "$work/output")"
+    grep -q "^each/half: cut at row 1[0-9] of page 1: fault 1[0-9] at bit [0-9]*; $unsought$" "$work/output" || fails "decode --each of a damaged page: $(cat "$work/output")"
     [ ! -e each/out/each ] || fails "decode --each wrote a damaged page unasked"
     gives 1 decode --each each/out --salvage each/half
     gives 1 decode --salvage --code mh --width 315 each/half each/one.pbm

@@ -1,6 +1,6 @@
 -- No record of a file and its pages has a float.
 use Rattle.std.proofs.Common.{Equal, Greater, Less, Ordering, ◌≡◌, ◌∙◌, ℕ, Bool, true, false, List, [], ◌∷◌, ap, cond, map, refl}
-use Rattle.std.specs.Prelude.{◌||◌, Option, Some, None, String, codes, nat_lt, unwrap_or, ◌^◌}
+use Rattle.std.specs.Prelude.{◌||◌, ◌++◌, flat_map, Option, Some, None, String, codes, nat_lt, unwrap_or, ◌^◌}
 use Rattle.std.specs.Ordering.{nat_cmp, match_ordering}
 use Rattle.std.specs.Cmp.Lexicographic.{slice_cmp}
 use Rattle.serde_json.specs.Data.{Data, Members, array, boolean, member, no_members, null, number, object, put, string}
@@ -13,10 +13,14 @@ use Rattle.page_files.specs.declared.found.Found.{Found}
 use Rattle.page_files.specs.declared.found.Found.TheVariants as found
 use Rattle.page_files.specs.declared.identify.Tried.{Tried}
 use Rattle.page_files.specs.declared.options.PageForm.{PageForm}
+use Rattle.page_files.specs.declared.two_dim.TwoDim.{TwoDim}
+use Rattle.std.specs.Path.{path_components}
 use Rattle.commands.specs.Several.{bits_in, format_of, record_with_found, way_of, with_way_found}
-use Rattle.commands.specs.Each.{each_record, fault_of, fault_record, file_record, is_silent, not_read, pages_in, plain_record, record_by, with_pages}
-use Rattle.commands.specs.PageFacts.{bit_of, code_word, fault_number, fault_of as page_fault, is_salvaged, lines_word, maybe_count, maybe_words}
-use Rattle.commands.specs.PageFacts.{order_word, page_record, repaired_in, with_content, with_damage, with_way}
+use Rattle.commands.specs.Each.{each_record, fault_of, fault_record, file_record, is_silent, left_out, not_read, pages_in, plain_record}
+use Rattle.commands.specs.Each.{record_by, with_pages}
+use Rattle.commands.specs.Places.{file_name, is_left_out, left_out_part}
+use Rattle.commands.specs.PageFacts.{bit_of, code_word, fault_number, fault_of as page_fault, has_images, is_salvaged, lines_word}
+use Rattle.commands.specs.PageFacts.{maybe_count, maybe_words, order_word, page_record, repaired_in, with_content, with_damage, with_way}
 use Rattle.commands.specs.declared.decode.each.facts.PageFacts.{PageFacts}
 use Rattle.commands.specs.declared.decode.each.pages.PageEnd.{PageEnd}
 use Rattle.commands.specs.declared.decode.each.report.FileReport.{FileReport}
@@ -117,12 +121,14 @@ pages_in_whole (Some form) pages = pages_whole form pages
 not_read_whole : (end : FileEnd) → has_float (not_read end) ≡ false
 not_read_whole (file.Whole pages) = refl
 not_read_whole (file.NoEnd pages) = refl
+not_read_whole (file.Mended pages) = refl
 not_read_whole (file.More pages) = refl
-not_read_whole (file.Repaired page repaired) = refl
-not_read_whole (file.Cut page row fault) = refl
-not_read_whole (file.Lost page fault) = refl
+not_read_whole (file.Repaired page repaired last) = refl
+not_read_whole (file.Cut page row fault last) = refl
+not_read_whole (file.Lost page fault last) = refl
 not_read_whole (file.NotWritten page fault) = refl
 not_read_whole (file.NoFax name) = refl
+not_read_whole file.TwoDims = refl
 not_read_whole file.NoWidth = refl
 not_read_whole file.Nothing = refl
 not_read_whole file.NoText = refl
@@ -143,29 +149,46 @@ record_whole name end told None text = plain_whole name end told (is_silent told
 record_whole name end told (Some fault) None = plain_whole name end told (is_silent told)
 record_whole name end told (Some fault) (Some text) = fault_whole name end told (number_of (kind_of fault)) text (is_silent told)
 
-with_pages_whole : (format pages made : Data) → has_float format ≡ false → has_float pages ≡ false → has_float made ≡ false
-    → has_float (with_pages format pages made) ≡ false
-with_pages_whole format pages null one two three = three
-with_pages_whole format pages (boolean b) one two three = three
-with_pages_whole format pages (number n) one two three = three
-with_pages_whole format pages (string s) one two three = three
-with_pages_whole format pages (array ds) one two three = three
-with_pages_whole format pages (object ms) one two three = put_whole (codes "pages") pages
-    (put (codes "not_read") format ms) two (put_whole (codes "not_read") format ms one three)
+-- a part of a name that is left out, and the others
+part_whole : (b : Bool) (part : List ℕ) (others : List Data) → items_have_float (items_of others) ≡ false
+    → items_have_float (items_of (cond b (words part ∷ []) [] ++ others)) ≡ false
+part_whole true part others whole = whole
+part_whole false part others whole = whole
+
+parts_whole : (parts : List (List ℕ)) → items_have_float (items_of (flat_map left_out_part parts)) ≡ false
+parts_whole [] = refl
+parts_whole (part ∷ parts) = part_whole (is_left_out part) part (flat_map left_out_part parts) (parts_whole parts)
+
+left_out_whole : (name : List ℕ) (images : Bool) → has_float (left_out name images) ≡ false
+left_out_whole name false = refl
+left_out_whole name true = parts_whole (path_components (file_name name))
+
+with_pages_whole : (left format pages made : Data) → has_float left ≡ false → has_float format ≡ false → has_float pages ≡ false
+    → has_float made ≡ false → has_float (with_pages left format pages made) ≡ false
+with_pages_whole left format pages null none one two three = three
+with_pages_whole left format pages (boolean b) none one two three = three
+with_pages_whole left format pages (number n) none one two three = three
+with_pages_whole left format pages (string s) none one two three = three
+with_pages_whole left format pages (array ds) none one two three = three
+with_pages_whole left format pages (object ms) none one two three = put_whole (codes "pages") pages
+    (put (codes "not_read") format (put (codes "left_out") left ms)) two
+    (put_whole (codes "not_read") format (put (codes "left_out") left ms) one (put_whole (codes "left_out") left ms none three))
 
 pub each_whole : (name : List ℕ) (report : FileReport) (text : Option (List ℕ)) → has_float (each_record name report text) ≡ false
-each_whole name report text = with_pages_whole (not_read report.end) (pages_in report.form report.pages.items)
-    (file_record name report.end report.told.items text) (not_read_whole report.end) (pages_in_whole report.form report.pages.items)
+each_whole name report text = with_pages_whole (left_out name (has_images report.pages.items)) (not_read report.end)
+    (pages_in report.form report.pages.items) (file_record name report.end report.told.items text)
+    (left_out_whole name (has_images report.pages.items)) (not_read_whole report.end) (pages_in_whole report.form report.pages.items)
     (record_whole name report.end report.told.items (fault_of report.end) text)
 
 -- ---- a file that is identified
 
-format_whole : (what : Found) → has_float (format_of what) ≡ false
-format_whole (found.Format name) = refl
-format_whole (found.Page way) = refl
-format_whole (found.Begun way) = refl
-format_whole found.Several = refl
-format_whole found.Nothing = refl
+format_whole : (two_dims : Option TwoDim) (what : Found) → has_float (format_of two_dims what) ≡ false
+format_whole (Some said) what = refl
+format_whole None (found.Format name) = refl
+format_whole None (found.Page way) = refl
+format_whole None (found.Begun way) = refl
+format_whole None found.Several = refl
+format_whole None found.Nothing = refl
 
 way_found_whole : (way : Option Tried) (ms : Members) → members_have_float ms ≡ false → members_have_float (with_way_found way ms) ≡ false
 way_found_whole None ms rest =
@@ -187,11 +210,12 @@ way_found_whole (Some way) ms rest =
     (put_whole (codes "code") (words (code_word way.form.coding)) one refl
     (put_whole (codes "bits") bits ms (maybe_count_whole (bits_in way.end)) rest))))
 
-pub found_whole : (what : Found) (made : Data) → has_float made ≡ false → has_float (record_with_found what made) ≡ false
-found_whole what null whole = whole
-found_whole what (boolean b) whole = whole
-found_whole what (number n) whole = whole
-found_whole what (string s) whole = whole
-found_whole what (array ds) whole = whole
-found_whole what (object ms) whole = put_whole (codes "not_read") (format_of what) (with_way_found (way_of what) ms)
-    (format_whole what) (way_found_whole (way_of what) ms whole)
+pub found_whole : (two_dims : Option TwoDim) (what : Found) (made : Data) → has_float made ≡ false
+    → has_float (record_with_found two_dims what made) ≡ false
+found_whole two_dims what null whole = whole
+found_whole two_dims what (boolean b) whole = whole
+found_whole two_dims what (number n) whole = whole
+found_whole two_dims what (string s) whole = whole
+found_whole two_dims what (array ds) whole = whole
+found_whole two_dims what (object ms) whole = put_whole (codes "not_read") (format_of two_dims what)
+    (with_way_found (way_of two_dims what) ms) (format_whole two_dims what) (way_found_whole (way_of two_dims what) ms whole)

@@ -2,6 +2,7 @@
 use Rattle.std.specs.Prelude.{ℕ, zero, suc, ◌≡◌, ◌≢◌, ◌≤◌, ◌⊎◌, ◌+◌, ◌++◌, ◌∷◌, ◌&&◌, ◌||◌, Bool, true, false, List, [], Option, Some, None, Result, Ok, Err}
 use Rattle.std.specs.Prelude.{◌==◌, codes, cond, length}
 use Rattle.std.specs.Fmt.{decimal}
+use Rattle.serde_json.specs.View.{items_of}
 use Rattle.serde_json.specs.Data.{Data, array, boolean, member, no_items, no_members, null, object, put}
 use Rattle.command_files.specs.Runs.{completeness_of}
 use Rattle.command_files.specs.declared.command.Completeness.{Completeness}
@@ -9,13 +10,14 @@ use Rattle.faults.specs.FaultKinds.{kind_of, number_of}
 use Rattle.faults.specs.Faults.{IsOutside, fault_text}
 use Rattle.faults.specs.RecordLines.{count, words}
 use Rattle.faults.specs.declared.fault.ToolFault.{ToolFault}
+use Rattle.page_files.specs.LaterPages.{asks_damaged}
 use Rattle.page_files.specs.declared.options.DecodeOptions.{DecodeOptions}
 use Rattle.page_files.specs.declared.options.PageForm.{PageForm}
 use Rattle.commands.specs.FoundForms.{IsFormOf}
 use Rattle.commands.specs.Names.{shown_name}
-use Rattle.commands.specs.Places.{has_left_out}
-use Rattle.commands.specs.PageFacts.{page_records}
-use Rattle.commands.specs.Pages.{GoesOn, IsPageReport, file_end, page_lines, with_front}
+use Rattle.commands.specs.Places.{has_left_out, left_out_words}
+use Rattle.commands.specs.PageFacts.{has_images, page_records}
+use Rattle.commands.specs.Pages.{GoesOn, IsPageReport, broken_line, file_end, have_damage, page_lines, with_front}
 use Rattle.commands.specs.declared.decode.each.EachCommand.{EachCommand}
 use Rattle.commands.specs.declared.decode.each.facts.PageFacts.{PageFacts}
 use Rattle.commands.specs.declared.decode.each.pages.Next.{Next}
@@ -33,8 +35,9 @@ ArePagesTo options form octets zero later pages told complete = (later ≡ octet
 ArePagesTo options form octets (suc count) later pages told complete =
     (middle lines : List ℕ) × (others : List PageFacts) × (before : Bool) × (page : PageReport)
     × ArePagesTo options form octets count middle others lines before × IsPageReport options form middle page
-    × GoesOn form middle later page.facts.end next.Page × (pages ≡ others ++ page.facts ∷ [])
-    × (told ≡ lines ++ page_lines (count + 1) page.told.items) × (complete ≡ (before && page.is_complete))
+    × GoesOn (asks_damaged options) form middle later page.facts.end next.Page × (pages ≡ others ++ page.facts ∷ [])
+    × (told ≡ lines ++ (page_lines (count + 1) page.told.items ++ broken_line (count + 1) page.facts.end))
+    × (complete ≡ (before && page.is_complete))
 
 -- no octets are there
 abbrev pub is_silent : List ℕ → Bool
@@ -52,12 +55,13 @@ pub record EndsAs (options : DecodeOptions) (form : PageForm) (octets : List ℕ
   pub is_page : IsPageReport options form last page
   pub later : List ℕ
   pub after : Next
-  pub goes_on : GoesOn form last later page.facts.end after
+  pub goes_on : GoesOn (asks_damaged options) form last later page.facts.end after
   pub is_last : after ≢ next.Page
   pub pages_are : report.pages.items ≡ others ++ page.facts ∷ []
   pub told_is : report.told.items ≡ lines ++ page_lines (before + 1) page.told.items
   pub complete_is : report.is_complete ≡ (complete && page.is_complete)
-  pub end_is : report.end ≡ file_end (before + 1) (is_silent report.told.items) page.facts.end after
+  pub end_is : report.end
+      ≡ file_end (before + 1) (have_damage report.pages.items) (is_silent report.told.items) page.facts.end after
 
 -- what is reported of a file with more pages than these: of each of them what `decode` writes of it alone, and that more come
 pub record EndsBefore (most : ℕ) (options : DecodeOptions) (form : PageForm) (octets : List ℕ) (report : FileReport) : Type 0 where
@@ -120,24 +124,32 @@ ends_whole end = false
 
 -- the fault with which a file ends
 abbrev pub fault_of : FileEnd → Option ToolFault
-fault_of (file.Cut number row fault) = Some fault
-fault_of (file.Lost number fault) = Some fault
+fault_of (file.Cut number row fault last) = Some fault
+fault_of (file.Lost number fault last) = Some fault
 fault_of (file.NotWritten number fault) = Some fault
 fault_of (file.Failed fault) = Some fault
 fault_of end = None
+
+-- what is said of the pages after one, by whether it is known that none follows
+abbrev pub after_words : Bool → List ℕ
+after_words true = []
+after_words false = codes "; a page after it is not looked for"
 
 -- what is said of a file
 abbrev pub end_text : FileEnd → List ℕ
 end_text (file.Whole pages) = codes "whole " ++ (decimal pages ++ codes " pages")
 end_text (file.NoEnd pages) = decimal pages ++ codes " pages, and one or more has no end"
 end_text (file.More pages) = decimal pages ++ codes " pages, and more follow that weren't asked for"
-end_text (file.Repaired number repaired) = codes "repaired " ++ (decimal repaired ++ (codes " rows of page "
-    ++ (decimal number ++ codes "; a page after it is not looked for")))
-end_text (file.Cut number row fault) = codes "cut at row " ++ (decimal row ++ (codes " of page " ++ (decimal number
-    ++ (codes ": " ++ fault_text fault))))
-end_text (file.Lost number fault) = codes "page " ++ (decimal number ++ (codes " is not read: " ++ fault_text fault))
+end_text (file.Mended pages) = decimal pages ++ codes " pages, and one or more is damaged"
+end_text (file.Repaired number repaired last) = codes "repaired " ++ (decimal repaired ++ (codes " rows of page "
+    ++ (decimal number ++ after_words last)))
+end_text (file.Cut number row fault last) = codes "cut at row " ++ (decimal row ++ (codes " of page " ++ (decimal number
+    ++ (codes ": " ++ (fault_text fault ++ after_words last)))))
+end_text (file.Lost number fault last) = codes "page " ++ (decimal number
+    ++ (codes " is not read: " ++ (fault_text fault ++ after_words last)))
 end_text (file.NotWritten number fault) = codes "page " ++ (decimal number ++ (codes " is not written: " ++ fault_text fault))
 end_text (file.NoFax name) = codes "no fax: " ++ name.now
+end_text file.TwoDims = codes "not read: T.4 in two dimensions (MR)"
 end_text file.NoWidth = codes "the width is not known: decode it by --code, --order and --width in each way that identify names"
 end_text file.Nothing = codes "not read: identify may tell what it is"
 end_text file.NoText = codes "its name isn't UTF-8"
@@ -188,9 +200,10 @@ record_by name end told fault text = plain_record name end told (is_silent told)
 abbrev pub file_record : List ℕ → FileEnd → List ℕ → Option (List ℕ) → Data
 file_record name end told text = record_by name end told (fault_of end) text
 
--- the format of a file that isn't read, if it is known
+-- the format of a file that isn't read, if it is known: MR is T.4 in two dimensions
 abbrev pub not_read : FileEnd → Data
 not_read (file.NoFax name) = words name.now
+not_read file.TwoDims = words (codes "MR")
 not_read end = null
 
 -- the records of the pages of a file that are read in a way; without one it has none
@@ -198,12 +211,18 @@ abbrev pub pages_in : Option PageForm → List PageFacts → Data
 pages_in None pages = array no_items
 pages_in (Some form) pages = page_records form pages
 
--- a record with the format of a file that isn't read, and with its pages
-abbrev pub with_pages : Data → Data → Data → Data
-with_pages format pages (object members) = object (put (codes "pages") pages (put (codes "not_read") format members))
-with_pages format pages other = other
+-- the parts of a file's name that aren't in the names of its images, if it has some
+abbrev pub left_out : List ℕ → Bool → Data
+left_out name false = array no_items
+left_out name true = array (items_of (left_out_words name))
+
+-- a record with what of a file's name is left out, with the format of a file that isn't read, and with its pages
+abbrev pub with_pages : Data → Data → Data → Data → Data
+with_pages left format pages (object members) =
+    object (put (codes "pages") pages (put (codes "not_read") format (put (codes "left_out") left members)))
+with_pages left format pages other = other
 
 -- the record of a file of this name
 abbrev pub each_record : List ℕ → FileReport → Option (List ℕ) → Data
-each_record name report text = with_pages (not_read report.end) (pages_in report.form report.pages.items)
-    (file_record name report.end report.told.items text)
+each_record name report text = with_pages (left_out name (has_images report.pages.items)) (not_read report.end)
+    (pages_in report.form report.pages.items) (file_record name report.end report.told.items text)

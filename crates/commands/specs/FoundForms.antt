@@ -1,11 +1,13 @@
 -- How octets are decoded: as is given, or else as `identify` says it.
-use Rattle.std.specs.Prelude.{ℕ, ◌≡◌, ◌||◌, Bool, List, Option, Some, None, Result, Ok, Err, if◌then◌else◌}
+use Rattle.std.specs.Prelude.{ℕ, ◌≡◌, Bool, List, Option, Some, None, Result, Ok, Err, if◌then◌else◌}
 use Rattle.page_files.specs.Found.{Finds}
+use Rattle.page_files.specs.LaterPages.{asks_damaged}
 use Rattle.page_files.specs.declared.found.Found.{Found}
 use Rattle.page_files.specs.declared.found.Found.TheVariants as found
 use Rattle.page_files.specs.declared.options.DecodeOptions.{DecodeOptions}
 use Rattle.page_files.specs.declared.options.PageForm.{PageForm}
-use Rattle.commands.specs.Damaged.{is_taken}
+use Rattle.page_files.specs.declared.two_dim.TwoDim.{TwoDim}
+use Rattle.commands.specs.Damaged.{AreTwoDims, is_taken}
 use Rattle.commands.specs.declared.decode.ends.FileEnd.{FileEnd}
 use Rattle.commands.specs.declared.decode.ends.FileEnd.TheVariants as file
 
@@ -13,21 +15,19 @@ use Rattle.commands.specs.declared.decode.ends.FileEnd.TheVariants as file
 abbrev pub lined : Bool → PageForm → PageForm
 lined fine form = record form { fine = fine }
 
--- damaged pages are asked for
-abbrev pub asks_damaged : DecodeOptions → Bool
-asks_damaged options = options.salvage || options.repair
-
--- the form in which octets are decoded that are this, or what is said of octets that aren't decoded
-abbrev pub form_by : Bool → Bool → Found → Result PageForm FileEnd
-form_by asked fine (found.Page way) = Ok (lined fine way.form)
-form_by asked fine (found.Begun way) = if is_taken asked way then Ok (lined fine way.form) else Err file.Nothing
-form_by asked fine (found.Format name) = Err (file.NoFax name)
-form_by asked fine found.Several = Err file.NoWidth
-form_by asked fine found.Nothing = Err file.Nothing
+-- The form in which octets are decoded that are this, and T.4 in two dimensions or not, or what is said of octets that aren't decoded.
+abbrev pub form_by : Bool → Bool → Option TwoDim → Found → Result PageForm FileEnd
+form_by asked fine (Some said) what = Err file.TwoDims
+form_by asked fine None (found.Page way) = Ok (lined fine way.form)
+form_by asked fine None (found.Begun way) = if is_taken asked way then Ok (lined fine way.form) else Err file.Nothing
+form_by asked fine None (found.Format name) = Err (file.NoFax name)
+form_by asked fine None found.Several = Err file.NoWidth
+form_by asked fine None found.Nothing = Err file.Nothing
 
 -- octets are identified, and this is how they are decoded then
 abbrev pub IsFoundForm : Bool → Bool → List ℕ → Result PageForm FileEnd → Type 0
-IsFoundForm asked fine octets form = (what : Found) × Finds octets what × (form ≡ form_by asked fine what)
+IsFoundForm asked fine octets form = (what : Found) × (two_dims : Option TwoDim) × Finds octets what × AreTwoDims octets what two_dims
+    × (form ≡ form_by asked fine two_dims what)
 
 -- how octets are decoded: in the form that is given, or else as they are identified
 abbrev pub IsFormOf : Option PageForm → DecodeOptions → Bool → List ℕ → Result PageForm FileEnd → Type 0

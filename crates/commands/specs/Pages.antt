@@ -1,16 +1,16 @@
 -- What `decode --each` makes of a page of a file: what `decode` with the same options gives of it alone.
 use Rattle.std.specs.Prelude.{ℕ, ◌≡◌, ◌⊎◌, ◌+◌, ◌++◌, ◌&&◌, Bool, true, false, not, List, [], Some, None, Result, Ok, Err, codes}
-use Rattle.std.specs.Prelude.{flat_map, if◌then◌else◌, length, nat_eq}
+use Rattle.std.specs.Prelude.{◌∷◌, ◌||◌, flat_map, if◌then◌else◌, length, nat_eq, nat_lt}
 use Rattle.std.specs.Fmt.{decimal}
-use Rattle.faults.specs.Faults.{IsOutside, fault_of_code}
+use Rattle.faults.specs.Faults.{IsOutside, fault_of_code, fault_text}
 use Rattle.faults.specs.declared.fault.ToolFault.{ToolFault}
 use Rattle.page_code.specs.PageReaders.{IsPageRefused}
 use Rattle.page_code.specs.declared.page_reader.RefusedCode.{RefusedCode}
 use Rattle.page_files.specs.Answers.{TellsPage}
-use Rattle.page_files.specs.CodedPages.{RefusesCode, WritesPage}
+use Rattle.page_files.specs.CodedPages.{WritesPage}
 use Rattle.page_files.specs.DecodeRecords.{lines_in}
 use Rattle.page_files.specs.Decodings.{GivesPage, RefusesDecoding, broken_asked}
-use Rattle.page_files.specs.LaterPages.{AfterPage}
+use Rattle.page_files.specs.LaterPages.{HasNoMark, IsBroken, Passes}
 use Rattle.page_files.specs.PageEnds.{LacksEnd}
 use Rattle.page_files.specs.declared.decoding.ReadTo.{ReadTo}
 use Rattle.page_files.specs.declared.decoding.ReadTo.TheVariants as to
@@ -19,6 +19,7 @@ use Rattle.page_files.specs.declared.options.PageForm.{PageForm}
 use Rattle.raster.specs.Packed.{bits_of}
 use Rattle.raster.specs.Pages.{PagePixels}
 use Rattle.commands.specs.PageFacts.{bits_of as bits_read}
+use Rattle.commands.specs.declared.decode.each.facts.PageFacts.{PageFacts}
 use Rattle.commands.specs.declared.decode.each.pages.Next.{Next}
 use Rattle.commands.specs.declared.decode.each.pages.Next.TheVariants as next
 use Rattle.commands.specs.declared.decode.each.pages.PageEnd.{PageEnd}
@@ -106,22 +107,22 @@ IsPageReport options form octets report =
 
 -- ---- the page after it
 
--- a page with this end was read, so that one may follow it
-abbrev pub may_go_on : PageEnd → Bool
-may_go_on page.Read = true
-may_go_on page.NoEofb = true
-may_go_on (page.Repaired repaired) = true
-may_go_on (page.Cut row fault) = false
-may_go_on (page.Lost fault) = false
-may_go_on (page.NotWritten fault) = false
+-- A page after one with this end is looked for: if it was read; if it is damaged, as far as damaged pages are asked for (the first truth
+-- value).
+abbrev pub may_go_on : Bool → PageEnd → Bool
+may_go_on mends page.Read = true
+may_go_on mends page.NoEofb = true
+may_go_on mends (page.Repaired repaired) = true
+may_go_on mends (page.Cut row fault) = mends
+may_go_on mends (page.Lost fault) = mends
+may_go_on mends (page.NotWritten fault) = false
 
--- What follows the page that octets begin with: another one, whose octets are `later`; nothing; or that isn't known, since the page ended
--- otherwise or can't be read to its end.
-abbrev pub GoesOn : PageForm → List ℕ → List ℕ → PageEnd → Next → Type 0
-GoesOn form octets later end next.Page = AfterPage true form octets later
-GoesOn form octets later end next.Nothing = AfterPage false form octets later
-GoesOn form octets later end next.Unknown = (may_go_on end ≡ false)
-    ⊎ ((fault : ToolFault) × RefusesCode form.coding form.order form.width octets fault)
+-- What follows the page that octets begin with, as `decode --page` passes it: another one, whose octets are `later`; nothing; or that isn't
+-- known, since none is looked for, or the page can't be read to its end and the mark of that isn't found.
+abbrev pub GoesOn : Bool → PageForm → List ℕ → List ℕ → PageEnd → Next → Type 0
+GoesOn mends form octets later end next.Page = Passes mends true form octets later
+GoesOn mends form octets later end next.Nothing = Passes mends false form octets later
+GoesOn mends form octets later end next.Unknown = (may_go_on mends end ≡ false) ⊎ (IsBroken form octets × HasNoMark mends form octets)
 
 -- ---- what is said of the pages
 
@@ -133,23 +134,56 @@ with_front front text = flat_map (λ line. front ++ (line ++ codes "\n")) (lines
 abbrev pub page_lines : ℕ → List ℕ → List ℕ
 page_lines number told = with_front (codes "page " ++ (decimal number ++ codes ": ")) told
 
--- the end of a file of so many pages, of which nothing is written, or something is
-abbrev pub end_of_pages : ℕ → Bool → FileEnd
-end_of_pages pages true = file.Whole pages
-end_of_pages pages false = file.NoEnd pages
+-- the line of a page that isn't read to its end and is followed by another one
+abbrev pub broken_line : ℕ → PageEnd → List ℕ
+broken_line number (page.Cut row fault) = codes "page " ++ (decimal number ++ (codes ": cut at row " ++ (decimal row
+    ++ (codes ": " ++ (fault_text fault ++ codes "\n")))))
+broken_line number (page.Lost fault) =
+    codes "page " ++ (decimal number ++ (codes ": not read: " ++ (fault_text fault ++ codes "\n")))
+broken_line number page.Read = []
+broken_line number page.NoEofb = []
+broken_line number (page.Repaired repaired) = []
+broken_line number (page.NotWritten fault) = []
 
--- the end of a file whose last page is read line by line: it is known that nothing follows only if no row is repaired and it can be read
-abbrev pub repaired_end : ℕ → Bool → ℕ → Next → FileEnd
-repaired_end number silent repaired next.Nothing =
-    if nat_eq repaired 0 then end_of_pages number silent else file.Repaired number repaired
-repaired_end number silent repaired next.Page = file.Repaired number repaired
-repaired_end number silent repaired next.Unknown = file.Repaired number repaired
+-- a page with this end is damaged, or not written
+abbrev pub is_damaged : PageEnd → Bool
+is_damaged page.Read = false
+is_damaged page.NoEofb = false
+is_damaged (page.Repaired repaired) = nat_lt 0 repaired
+is_damaged (page.Cut row fault) = true
+is_damaged (page.Lost fault) = true
+is_damaged (page.NotWritten fault) = true
 
--- the end of a file by that of its last page, which has this number, by whether nothing is written of its pages, and by what follows them
-abbrev pub file_end : ℕ → Bool → PageEnd → Next → FileEnd
-file_end number silent page.Read after = end_of_pages number silent
-file_end number silent page.NoEofb after = end_of_pages number silent
-file_end number silent (page.Repaired repaired) after = repaired_end number silent repaired after
-file_end number silent (page.Cut row fault) after = file.Cut number row fault
-file_end number silent (page.Lost fault) after = file.Lost number fault
-file_end number silent (page.NotWritten fault) after = file.NotWritten number fault
+-- one of these pages is
+abbrev pub have_damage : List PageFacts → Bool
+have_damage [] = false
+have_damage (page ∷ pages) = is_damaged page.end || have_damage pages
+
+-- the end of a file of so many pages, of which one is damaged or none, and nothing is written or something is
+abbrev pub end_of_pages : ℕ → Bool → Bool → FileEnd
+end_of_pages pages true silent = file.Mended pages
+end_of_pages pages false true = file.Whole pages
+end_of_pages pages false false = file.NoEnd pages
+
+-- it is known that no page follows
+abbrev pub is_nothing : Next → Bool
+is_nothing next.Nothing = true
+is_nothing next.Page = false
+is_nothing next.Unknown = false
+
+-- the end of a file whose last page is read line by line: as that of others only if no row is repaired and nothing follows
+abbrev pub repaired_end : ℕ → Bool → Bool → ℕ → Next → FileEnd
+repaired_end number damaged silent repaired next.Nothing =
+    if nat_eq repaired 0 then end_of_pages number damaged silent else file.Repaired number repaired true
+repaired_end number damaged silent repaired next.Page = file.Repaired number repaired false
+repaired_end number damaged silent repaired next.Unknown = file.Repaired number repaired false
+
+-- the end of a file by that of its last page, which has this number, by whether one of its pages is damaged, by whether nothing is written
+-- of them, and by what follows them
+abbrev pub file_end : ℕ → Bool → Bool → PageEnd → Next → FileEnd
+file_end number damaged silent page.Read after = end_of_pages number damaged silent
+file_end number damaged silent page.NoEofb after = end_of_pages number damaged silent
+file_end number damaged silent (page.Repaired repaired) after = repaired_end number damaged silent repaired after
+file_end number damaged silent (page.Cut row fault) after = file.Cut number row fault (is_nothing after)
+file_end number damaged silent (page.Lost fault) after = file.Lost number fault (is_nothing after)
+file_end number damaged silent (page.NotWritten fault) after = file.NotWritten number fault

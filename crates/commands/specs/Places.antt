@@ -3,6 +3,8 @@ use Rattle.std.specs.Prelude.{ℕ, ◌++◌, ◌||◌, ◌∷◌, [], Bool, fals
 use Rattle.std.specs.Fmt.{decimal}
 use Rattle.std.specs.Path.{cur_dir, parent_dir, path_components, root_dir, slash}
 use Rattle.std.specs.Str.{bytes_eq}
+use Rattle.faults.specs.RecordLines.{words}
+use Rattle.serde_json.specs.Data.{Data}
 
 -- a part of a file's name as it stands in the place of its pages: after a slash; the root, `.` and `..` are left out
 abbrev pub part_text : List ℕ → List ℕ
@@ -24,6 +26,14 @@ is_left_out part = bytes_eq part root_dir || bytes_eq part parent_dir
 abbrev pub have_left_out : List (List ℕ) → Bool
 have_left_out [] = false
 have_left_out (part ∷ parts) = is_left_out part || have_left_out parts
+
+-- such a part as a text
+abbrev pub left_out_part : List ℕ → List Data
+left_out_part part = cond (is_left_out part) (words part ∷ []) []
+
+-- such parts of a file's name
+abbrev pub left_out_words : List ℕ → List Data
+left_out_words name = flat_map left_out_part (path_components (file_name name))
 
 -- a file's name has such a part
 abbrev pub has_left_out : List ℕ → Bool

@@ -14,6 +14,7 @@ use Rattle.page_files.specs.Found.{Finds}
 use Rattle.page_files.specs.declared.found.Found.{Found}
 use Rattle.page_files.specs.declared.found.Found.TheVariants as found
 use Rattle.page_files.specs.declared.identify.Tried.{Tried}
+use Rattle.page_files.specs.declared.two_dim.TwoDim.{TwoDim}
 
 -- it is known what octets are: a format, or a page that reads in one way
 abbrev pub is_known : Found → Bool
@@ -41,20 +42,22 @@ SeveralGives command (Err fault) = IsOutside fault
 -- ---- records
 
 -- the way in which octets are read as a page, if they are one, or a damaged one
-abbrev pub way_of : Found → Option Tried
-way_of (found.Format name) = None
-way_of (found.Page way) = Some way
-way_of (found.Begun way) = if is_damaged_page way then Some way else None
-way_of found.Several = None
-way_of found.Nothing = None
+abbrev pub way_of : Option TwoDim → Found → Option Tried
+way_of (Some said) what = None
+way_of None (found.Format name) = None
+way_of None (found.Page way) = Some way
+way_of None (found.Begun way) = if is_damaged_page way then Some way else None
+way_of None found.Several = None
+way_of None found.Nothing = None
 
--- the name of the format of octets that aren't read
-abbrev pub format_of : Found → Data
-format_of (found.Format name) = words name.now
-format_of (found.Page way) = null
-format_of (found.Begun way) = null
-format_of found.Several = null
-format_of found.Nothing = null
+-- the name of the format of octets that aren't read: MR is T.4 in two dimensions
+abbrev pub format_of : Option TwoDim → Found → Data
+format_of (Some said) what = words (codes "MR")
+format_of None (found.Format name) = words name.now
+format_of None (found.Page way) = null
+format_of None (found.Begun way) = null
+format_of None found.Several = null
+format_of None found.Nothing = null
 
 -- the bits of a page's code, if it is read to its end
 abbrev pub bits_in : Result ℕ ToolFault → Option ℕ
@@ -71,10 +74,10 @@ with_way_found (Some way) members = put (codes "width") (count way.form.width)
     (put (codes "code") (words (code_word way.form.coding)) (put (codes "bits") (maybe_count (bits_in way.end)) members))))
 
 -- members with what octets are
-abbrev pub with_found : Found → Members → Members
-with_found what members = put (codes "not_read") (format_of what) (with_way_found (way_of what) members)
+abbrev pub with_found : Option TwoDim → Found → Members → Members
+with_found two_dims what members = put (codes "not_read") (format_of two_dims what) (with_way_found (way_of two_dims what) members)
 
--- a record with what octets are
-abbrev pub record_with_found : Found → Data → Data
-record_with_found what (object members) = object (with_found what members)
-record_with_found what other = other
+-- a record with what octets are, which are T.4 in two dimensions or not
+abbrev pub record_with_found : Option TwoDim → Found → Data → Data
+record_with_found two_dims what (object members) = object (with_found two_dims what members)
+record_with_found two_dims what other = other

@@ -1,10 +1,10 @@
 //! Octets that read to no page's end, but begin with rows.
 
-ghost use Rattle.commands.specs.Damaged.{is_damaged_page, is_taken};
+ghost use Rattle.commands.specs.Damaged.{AreTwoDims, is_damaged_page, is_taken, two_dim_among};
 ghost use Rattle.std.specs.Prelude.{◌≡◌};
 
 use page_code::Coding;
-use page_files::Tried;
+use page_files::{Found, Tried, TwoDim, two_dim_of};
 
 /// How many rows of T.6 octets have at most that are no page of it: a few, by chance.
 pub(crate) const CHANCE_ROWS: u32 = 15;
@@ -29,4 +29,27 @@ pub(crate) fn is_taken(asked: bool, way: &Tried) -> bool
         Coding::OneDim => way.rows > 1,
         Coding::T6 => asked || way.rows > CHANCE_ROWS as usize,
     }
+}
+
+/// Returns what octets that are this say of themselves in T.4 in two dimensions, if that is taken for true: they read as no page, and no
+/// two rows of T.4 are read. Rows of T.6 come by chance.
+fn two_dim_among(found: &Found, said: Option<TwoDim>) -> Option<TwoDim>
+    ensures { result ≡ two_dim_among found.now said }
+{
+    match found {
+        Found::Begun(way) => match way.form.coding {
+            Coding::OneDim => None,
+            Coding::T6 => said,
+        },
+        Found::Nothing => said,
+        Found::Format(_) | Found::Page(_) | Found::Several => None,
+    }
+}
+
+/// Returns the order of bits and the width in which octets that are this are T.4 in two dimensions, which isn't read; None if they aren't.
+pub(crate) fn two_dims_of(octets: &[u8], found: &Found) -> Option<TwoDim>
+    ensures { AreTwoDims octets.now found.now result }
+{
+    let said = two_dim_of(octets);
+    two_dim_among(found, said)
 }

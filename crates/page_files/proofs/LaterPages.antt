@@ -14,7 +14,7 @@ use Rattle.raster.specs.declared.coding.Coding.TheVariants.{OneDim, T6}
 use Rattle.page_code.specs.OneDimension.Fronts.{zeros_before}
 use Rattle.page_code.specs.OneDimension.Pages.{eol_word, eol_words}
 use Rattle.page_code.proofs.OneDimension.ZerosBefore.{length-eol, none_zeros, zeros_split}
-use Rattle.page_files.specs.LaterPages.{AfterPage, AreAfter, IsFrom, IsLater, IsLaterIn, IsLaterOneDim, NothingLeft}
+use Rattle.page_files.specs.LaterPages.{AreAfter, IsFrom, IsLater, IsLaterIn, IsLaterOneDim, NothingLeft, Passes}
 use Rattle.page_files.specs.declared.options.PageForm.{PageForm}
 
 -- EOLs were read from the bit `used` on up to a place, and the last of them begins without its fill at the bit `start`
@@ -164,11 +164,11 @@ last_kept_msb octet count k some few low h =
     ∙ (there ∙ ap (λ (n : ℕ). bit_at octet n) place))
 
 -- one page more that comes before
-pub one_after : (form : PageForm) (octets before later : List ℕ) (pages : ℕ) → AreAfter form octets pages before
-    → AfterPage true form before later → AreAfter form octets (pages + 1) later
-one_after form octets before later pages are after =
+pub one_after : (mends : Bool) (form : PageForm) (octets before later : List ℕ) (pages : ℕ) → AreAfter mends form octets pages before
+    → Passes mends true form before later → AreAfter mends form octets (pages + 1) later
+one_after mends form octets before later pages are after =
     let same : suc pages ≡ pages + 1 = omega arith in
-    subst (λ (n : ℕ). AreAfter form octets n later) same (before, are, after)
+    subst (λ (n : ℕ). AreAfter mends form octets n later) same (before, are, after)
 
 -- the octets from one on
 

@@ -11,6 +11,7 @@ mod RepairedLines
 mod Mended
 mod MissingEol
 mod LineEnds
+mod MarkEnds
 pub mod NoticeLines
 mod RefusedRows
 mod RepairsMean

@@ -18,8 +18,9 @@ use Rattle.page_files.specs.Answers.{TellsPage}
 use Rattle.page_files.specs.CodedPages.{DecodesPage, RefusesCode, RefusesShow, SalvagesRows}
 use Rattle.page_files.specs.Decodings.{GivesPage, GivesRepaired, RefusesDecoding, RefusesKept, RefusesRepaired}
 use Rattle.page_files.specs.TurnedPages.{in_msb, msb_form}
-use Rattle.page_files.specs.LaterPages.{AfterPage, BeginsWith, IsFrom, IsLater, IsLaterIn, IsLaterT6}
-use Rattle.page_files.specs.PageEnds.{HasItsEnd, LacksEnd}
+use Rattle.page_files.specs.Marks.{end_of_mark, mark_end}
+use Rattle.page_files.specs.LaterPages.{AfterMark, AfterPage, BeginsWith, IsFrom, IsLater, IsLaterIn, IsLaterT6}
+use Rattle.page_files.specs.PageEnds.{HasItsEnd, LacksEnd, gaps}
 use Rattle.page_files.specs.Repairs.{RefusesRepair, RepairsPage}
 use Rattle.page_files.specs.RepairsT6.{BreaksOff, EndsWithoutEofb, RepairsT6}
 use Rattle.page_files.specs.declared.decoding.Broken.{Broken}
@@ -129,6 +130,29 @@ last_page form octets used small begins is = (
   is_later form.coding form.order octets used None small is,
   refl,
 )
+
+-- the mark of a page's end
+pub same_mark : (form : PageForm) (octets : List ℕ) → end_of_mark form (in_msb form.order octets) ≡ end_of_mark (msb_form form) octets
+same_mark form octets = ap (λ (x : List Bool). mark_end form.coding 0 (gaps 0 x)) (same_bits form.order octets)
+
+-- another page follows the mark
+pub after_mark : (form : PageForm) (octets later : List ℕ) (used start : ℕ) → ((j : ℕ) → slice_index octets j < 256)
+    → end_of_mark (msb_form form) octets ≡ Some used → IsLater (msb_form form) octets used (Some start)
+    → IsFrom MsbFirst start octets later → AfterMark true form (in_msb form.order octets) (in_msb form.order later)
+after_mark form octets later used start small mark is from = (
+  used,
+  start,
+  same_mark form octets ∙ mark,
+  is_later form.coding form.order octets used (Some start) small is,
+  is_from form.order start octets later from,
+)
+
+-- none follows it
+pub last_marked : (form : PageForm) (octets : List ℕ) (used : ℕ) → ((j : ℕ) → slice_index octets j < 256)
+    → end_of_mark (msb_form form) octets ≡ Some used → IsLater (msb_form form) octets used None
+    → AfterMark false form (in_msb form.order octets) (in_msb form.order octets)
+last_marked form octets used small mark is =
+    (used, same_mark form octets ∙ mark, is_later form.coding form.order octets used None small is, refl)
 
 -- a refusal
 pub refuses_code : (coding : Coding) (order : Order) (width : ℕ) (octets : List ℕ) (fault : ToolFault)

@@ -266,13 +266,17 @@ reads_rows order T6 other rows = false
 abbrev pub has_rows : Order → List Tried → Bool
 has_rows order tried = is_some (find (λ one. reads_rows order one.form.coding one.form.order one.rows) tried)
 
+-- the line of a page of T.4 in two dimensions of this width
+abbrev pub two_dim_text : Order → ℕ → List ℕ
+two_dim_text order width =
+    codes "T.4 in two dimensions (MR), " ++ (order_name order ++ (codes ", width " ++ (decimal width ++ codes ": not read\n")))
+
 -- The line of a width in T.4 in two dimensions, which isn't read. Of such a page one row is read, the first one, since it is coded in one
 -- dimension. So the line is written only if no way of T.4 in this order of bits reads two rows. One row proves nothing: the 1 before the
 -- first row and the row's code words are mostly code words of another row too.
 abbrev pub two_dim_line : Order → List Tried → Option ℕ → List ℕ
 two_dim_line order tried None = []
-two_dim_line order tried (Some width) = cond (nat_lt 0 width && not (has_rows order tried))
-    (codes "T.4 in two dimensions (MR), " ++ (order_name order ++ (codes ", width " ++ (decimal width ++ codes ": not read\n")))) []
+two_dim_line order tried (Some width) = cond (nat_lt 0 width && not (has_rows order tried)) (two_dim_text order width) []
 
 -- what octets say of their width in T.4 in two dimensions, most and least significant bit first
 abbrev pub AreTwoDim : List ℕ → Option ℕ → Option ℕ → Type 0

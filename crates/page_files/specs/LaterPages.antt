@@ -1,6 +1,6 @@
 -- Pages of a file one after another.
 use Rattle.std.specs.Prelude.{ℕ, zero, suc, ◌≡◌, ◌≢◌, ◌≤◌, ◌<◌, ◌+◌, ◌-◌, ◌*◌, ◌/◌, ◌%◌, ◌⊎◌, Bool, true, false, List, [], ◌++◌}
-use Rattle.std.specs.Prelude.{Option, Some, None, Result, Err, ◌&&◌, codes, cond, drop, length, nat_lt, slice_index}
+use Rattle.std.specs.Prelude.{Option, Some, None, Result, Err, ◌&&◌, ◌||◌, codes, cond, drop, length, nat_lt, slice_index}
 use Rattle.std.specs.Fmt.{decimal}
 use Rattle.std.specs.Int.{div_ceil}
 use Rattle.std.specs.List.{AllByRecursion}
@@ -16,6 +16,7 @@ use Rattle.page_code.specs.OneDimension.Fronts.{CodeBegins}
 use Rattle.page_code.specs.OneDimension.Pages.{AreZeros, eol_word, eol_words}
 use Rattle.page_files.specs.Answers.{AnswersDecode}
 use Rattle.page_files.specs.DecodeRecords.{as_told, begins_record}
+use Rattle.page_files.specs.Marks.{end_of_mark}
 use Rattle.page_files.specs.Decodings.{IsKept, IsOfKept, RefusesDecoding, broken_asked}
 use Rattle.faults.specs.RecordLines.{record_line}
 use Rattle.page_files.specs.CodedPages.{RefusesCode, WritesPage}
@@ -82,19 +83,45 @@ AfterPage true form octets later = (used : ℕ) × (start : ℕ) × BeginsWith f
     × IsFrom form.order start octets later
 AfterPage false form octets later = (used : ℕ) × BeginsWith form octets used × IsLater form octets used None × (later ≡ octets)
 
+-- The mark that ends a page's code is found in the octets. Either another page follows it and its octets are `later`, or none follows.
+abbrev pub AfterMark : Bool → PageForm → List ℕ → List ℕ → Type 0
+AfterMark true form octets later = (used : ℕ) × (start : ℕ) × (end_of_mark form octets ≡ Some used)
+    × IsLater form octets used (Some start) × IsFrom form.order start octets later
+AfterMark false form octets later = (used : ℕ) × (end_of_mark form octets ≡ Some used) × IsLater form octets used None × (later ≡ octets)
+
+-- the octets begin with no page's code
+abbrev pub IsBroken : PageForm → List ℕ → Type 0
+IsBroken form octets = (fault : ToolFault) × RefusesCode form.coding form.order form.width octets fault
+
+-- A page is passed, and another one follows or none: after one that is read to its end; and if damaged pages are asked for (the first truth
+-- value), after one that isn't, by the mark of its end.
+abbrev pub Passes : Bool → Bool → PageForm → List ℕ → List ℕ → Type 0
+Passes mends more form octets later = AfterPage more form octets later
+    ⊎ ((mends ≡ true) × IsBroken form octets × AfterMark more form octets later)
+
+-- it isn't known where the page ends that octets begin with: the mark of its end isn't found, if it is looked for
+abbrev pub HasNoMark : Bool → PageForm → List ℕ → Type 0
+HasNoMark mends form octets = mends ≡ true → end_of_mark form octets ≡ None
+
+-- damaged pages are asked for
+abbrev pub asks_damaged : DecodeOptions → Bool
+asks_damaged options = options.salvage || options.repair
+
 -- `later` is the octets of the page that follows this number of pages
-abbrev pub AreAfter : PageForm → List ℕ → ℕ → List ℕ → Type 0
-AreAfter form octets zero later = later ≡ octets
-AreAfter form octets (suc pages) later = (before : List ℕ) × AreAfter form octets pages before × AfterPage true form before later
+abbrev pub AreAfter : Bool → PageForm → List ℕ → ℕ → List ℕ → Type 0
+AreAfter mends form octets zero later = later ≡ octets
+AreAfter mends form octets (suc pages) later = (before : List ℕ) × AreAfter mends form octets pages before
+    × Passes mends true form before later
 
 -- What follows a number of pages: another page, whose octets are `later`; or one of them is the last one, with its number; or one of them
--- can't be read to its end, with its number and its fault.
-abbrev pub Reaches : PageForm → ℕ → List ℕ → List ℕ → Reached → Type 0
-Reaches form pages octets later Page = AreAfter form octets pages later
-Reaches form pages octets later (End count) = (1 ≤ count) × (count ≤ pages) × AreAfter form octets (count - 1) later
-    × AfterPage false form later later
-Reaches form pages octets later (Broken number fault) = (1 ≤ number) × (number ≤ pages) × AreAfter form octets (number - 1) later
-    × RefusesCode form.coding form.order form.width later fault
+-- can't be read to its end, with its number and its fault, and it isn't known where it ends.
+abbrev pub Reaches : Bool → PageForm → ℕ → List ℕ → List ℕ → Reached → Type 0
+Reaches mends form pages octets later Page = AreAfter mends form octets pages later
+Reaches mends form pages octets later (End count) = (1 ≤ count) × (count ≤ pages) × AreAfter mends form octets (count - 1) later
+    × Passes mends false form later later
+Reaches mends form pages octets later (Broken number fault) = (1 ≤ number) × (number ≤ pages)
+    × AreAfter mends form octets (number - 1) later × RefusesCode form.coding form.order form.width later fault
+    × HasNoMark mends form later
 
 -- what is kept beside this: the refusal of the page that can't be read, and otherwise nothing
 abbrev pub KeepsReached : Option RefusedCode → Reached → Type 0
@@ -155,9 +182,9 @@ GivesReached form options page octets later decoded told end (Broken number faul
 
 -- Decodes page `page` of a file, counted from 1: what `decode` gives of its octets, and with `--verbose` first the octet at which they
 -- begin (not for the first page), also where it is refused. If the file has fewer pages, the line with their number, and `FewerPages` (28).
--- If a page before it can't be read to its end, the line that names that page, and its fault.
+-- If a page before it can't be read to its end, and its end isn't known, the line that names that page, and its fault.
 pub record AnswersPage (form : PageForm) (options : DecodeOptions) (page : ℕ) (octets later : List ℕ) (decoded : PagePixels)
     (told : List ℕ) (end : Result Bool ToolFault) : Type 0 where
   pub reached : Reached
-  pub reaches : Reaches form (page - 1) octets later reached
+  pub reaches : Reaches (asks_damaged options) form (page - 1) octets later reached
   pub gives : GivesReached form options page octets later decoded told end reached

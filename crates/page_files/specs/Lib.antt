@@ -6,13 +6,16 @@ pub mod RepairsT6
 pub mod Decodings
 pub mod PageEnds
 pub mod Answers
+pub mod Marks
 pub mod LaterPages
 pub mod TurnedPages
 pub mod OwnWidths
 pub mod NoEols
 pub mod NextT6
 pub mod FormatRows
+pub mod MarkRows
 pub mod Found
 pub mod Identified
+pub mod TwoDims
 pub mod DecodeRecords
 pub mod RepairsMean

@@ -5,19 +5,21 @@ ghost use Rattle.page_files.specs.Answers.{TellsPage};
 ghost use Rattle.page_files.specs.CodedPages.{WritesPage};
 ghost use Rattle.page_files.specs.Decodings.{GivesPage, IsKept, KeepsReadTo, RefusesDecoding, RefusesKept};
 ghost use Rattle.page_files.specs.TurnedPages.{PagesLeft, in_msb, msb_form};
-ghost use Rattle.page_files.specs.LaterPages.{AfterPage, BeginsWith, IsFrom};
+ghost use Rattle.page_files.specs.LaterPages.{AfterMark, AfterPage, BeginsWith, HasNoMark, IsFrom, Passes};
+ghost use Rattle.page_files.specs.Marks.{end_of_mark};
 ghost use Rattle.page_files.specs.PageEnds.{LacksEnd};
 ghost use Rattle.page_code.specs.PageReaders.{IsPageRefused};
 ghost use Rattle.raster.specs.Packed.{bits_of};
 ghost use Rattle.raster.specs.Pixels.{IsWidth};
 ghost use Rattle.raster.specs.declared.packed.Order.TheVariants.{MsbFirst};
 ghost use Rattle.std.specs.Prelude.{◌≡◌, ◌≢◌, ◌≤◌, ◌<◌, ◌*◌, [], ℕ, List, Some, None, drop, length, slice_index};
-ghost use Rattle.std.specs.Prelude.{IfErr, IfOk, IfSome, OnErr};
+ghost use Rattle.std.specs.Prelude.{IfErr, IfNone, IfOk, IfSome, OnErr, true};
 
 use crate::answer::{DecodeAnswer, answer_decoded};
 use crate::coded::read_code;
 use crate::decoding::{Broken, Decoded, ReadTo, decode_page};
 use crate::later_pages::{later_in, without_first};
+use crate::marks::end_of_mark;
 use crate::options::{DecodeOptions, PageForm};
 use crate::page_end::lacks_end;
 use faults::ToolFault;
@@ -245,7 +247,7 @@ impl FilePages {
 
     /// Goes on to the next page if one follows, and returns whether it did. If none follows, or the page can't be read, nothing is changed.
     /// Errors: the refusal, at its bit, and then `kept` holds how far the page was read; `NoMemory` (9).
-    pub fn skip(&mut self, alloc: Global, kept: &mut Option<RefusedCode>) -> Result<bool, ToolFault>
+    fn skip(&mut self, alloc: Global, kept: &mut Option<RefusedCode>) -> Result<bool, ToolFault>
         ensures form { self.new.form ≡ self.old.form }
         ensures skipped { IfOk result (λ more. AfterPage more self.old.form self.old.octets self.new.octets) }
         ensures none { IfOk result (λ more. kept.new ≡ None) }
@@ -262,5 +264,60 @@ impl FilePages {
         };
         self.first = clear_before(&mut self.octets, self.first, start);
         Ok(true)
+    }
+
+    /// Goes on to the page that follows the mark of the end of the one that the octets left begin with, RTC or EOFB, if one follows, and
+    /// returns whether it did. If none follows, nothing is changed; None, and nothing is changed, if the mark isn't found.
+    fn skip_marked(&mut self) -> Option<bool>
+        ensures form { self.new.form ≡ self.old.form }
+        ensures skipped { IfSome result (λ more.
+            AfterMark more self.old.form self.old.octets self.new.octets) }
+        ensures unmarked { IfNone result (end_of_mark self.old.form self.old.octets ≡ None) }
+        ensures stays { IfNone result (self.new ≡ self.old) }
+    {
+        let left = left_from(&self.octets, self.first);
+        let Some(used) = end_of_mark(left, msb_form(self.form)) else {
+            return None;
+        };
+        let Some(start) = later_in(left, msb_form(self.form), used) else {
+            return Some(false);
+        };
+        self.first = clear_before(&mut self.octets, self.first, start);
+        Some(true)
+    }
+
+    /// Goes on to the next page if one follows, and returns whether it did: as `skip` does, and if damaged pages are asked for, also after one
+    /// that can't be read to its end, by the mark of its end. Errors: those of `skip`, if that mark isn't found.
+    pub fn pass(
+        &mut self,
+        alloc: Global,
+        mends: bool,
+        kept: &mut Option<RefusedCode>,
+    ) -> Result<bool, ToolFault>
+        ensures form { self.new.form ≡ self.old.form }
+        ensures passed { IfOk result (λ more.
+            Passes mends more self.old.form self.old.octets self.new.octets) }
+        ensures none { IfOk result (λ more. kept.new ≡ None) }
+        ensures known { IfSome kept.new (IsPageRefused self.old.form.coding self.old.form.width
+            (bits_of self.old.form.order self.old.octets)) }
+        ensures refused { IfErr result (RefusesKept kept.new self.old.form self.old.octets) }
+        ensures unmarked { IfErr result (λ fault. IfSome kept.new (λ code.
+            HasNoMark mends self.old.form self.old.octets)) }
+        ensures stays { OnErr result (self.new ≡ self.old) }
+    {
+        let fault = match self.skip(alloc, kept) {
+            Ok(more) => return Ok(more),
+            Err(fault) => fault,
+        };
+        if !mends || kept.is_none() {
+            return Err(fault);
+        }
+        match self.skip_marked() {
+            Some(more) => {
+                *kept = None;
+                Ok(more)
+            }
+            None => Err(fault),
+        }
     }
 }

@@ -7,7 +7,7 @@ ghost use Rattle.page_files.specs.Identified.{has_rows, reads_rows, same_order};
 ghost use Rattle.page_files.specs.Identified.{TellsIdentity, after_words};
 ghost use Rattle.page_files.specs.Identified.{coding_name, count_of, fits, form_of, format_among, format_line, format_of, forms_in};
 ghost use Rattle.page_files.specs.Identified.{identity_of, lacks_eofb, line_of, lines_of, no_page, nothing_lines, order_name, own_forms};
-ghost use Rattle.page_files.specs.Identified.{tried_line, two_dim_line, wide_line};
+ghost use Rattle.page_files.specs.Identified.{tried_line, two_dim_line, two_dim_text, wide_line};
 ghost use Rattle.page_files.specs.OwnWidths.{SaysTwoDim};
 ghost use Rattle.raster.specs.Packed.{bits_of};
 ghost use Rattle.raster.specs.Pixels.{IsWidth};
@@ -503,6 +503,24 @@ fn has_rows(order: Order, tried: &[Tried]) -> bool
     false
 }
 
+/// Writes the line of a page of T.4 in two dimensions of this width.
+pub(crate) fn tell_two_dim_of<W: Write>(
+    order: Order,
+    width: u128,
+    writer: &mut W,
+) -> Result<(), ToolFault>
+    ensures told { OnOk result
+        (Appends (W.contents writer.old) (W.contents writer.new) (two_dim_text order width)) }
+    ensures fault { IfErr result IsOutside }
+{
+    let order = order_name(order);
+    writeln!(
+        writer,
+        "T.4 in two dimensions (MR), {order}, width {width}: not read"
+    )?;
+    Ok(())
+}
+
 /// Writes the line of a width that octets say themselves in T.4 in two dimensions, if they say one and no way of T.4 in this order of bits
 /// reads two rows.
 fn tell_two_dim_width<W: Write>(
@@ -516,11 +534,7 @@ fn tell_two_dim_width<W: Write>(
 {
     match said {
         Some(width) if width > 0 && !has_rows(order, tried) => {
-            let order = order_name(order);
-            writeln!(
-                writer,
-                "T.4 in two dimensions (MR), {order}, width {width}: not read"
-            )?;
+            tell_two_dim_of(order, width, writer)?;
         }
         _ => {}
     }

@@ -3,7 +3,7 @@
 ghost use Rattle.page_files.specs.Decodings.{IsKept, RefusesKept};
 ghost use Rattle.faults.specs.Faults.{IsOutside};
 ghost use Rattle.page_files.specs.LaterPages.{AfterPage, AnswersPage, AnswersReached, IsFrom, IsLater, IsLaterOneDim, IsLaterT6, Reaches};
-ghost use Rattle.page_files.specs.LaterPages.{KeepsPage, KeepsReached, RefusesReached, begins_text, broken_line, pages_line};
+ghost use Rattle.page_files.specs.LaterPages.{KeepsPage, KeepsReached, RefusesReached, asks_damaged, begins_text, broken_line, pages_line};
 ghost use Rattle.page_code.specs.OneDimension.Fronts.{zeros_before};
 ghost use Rattle.page_code.specs.PageReaders.{IsPageRefused};
 ghost use Rattle.raster.specs.Packed.{bits_of, place_in};
@@ -33,7 +33,7 @@ enum Reached {
     Page,
     /// Nothing, or only EOLs and 0 bits: the file has this number of pages.
     End(u32),
-    /// The page with this number, counted from 1, can't be read to its end.
+    /// The page with this number, counted from 1, can't be read to its end, and where it ends isn't known.
     Broken(u32, ToolFault),
 }
 
@@ -129,16 +129,17 @@ pub fn without_first(order: Order, octet: u8, count: u32) -> u8
 }
 
 /// Passes `pages` pages with what lies between each and the next, and returns what follows. The pages left then begin with the page that
-/// follows; or with the last page, if it is one of these; or with the first page that can't be read, and then `kept` holds how far it was
+/// follows; or with the last page, if it is one of these; or with the first page that can't be passed, and then `kept` holds how far it was
 /// read, otherwise None. Errors: `NoMemory` (9).
 fn skip_pages(
     alloc: Global,
     left: &mut FilePages,
     pages: u32,
+    mends: bool,
     kept: &mut Option<RefusedCode>,
 ) -> Result<Reached, ToolFault>
     ensures form { left.new.form ≡ left.old.form }
-    ensures reached { IfOk result (λ reached. Reaches left.old.form pages left.old.octets left.new.octets reached) }
+    ensures reached { IfOk result (λ reached. Reaches mends left.old.form pages left.old.octets left.new.octets reached) }
     ensures known { IfSome kept.new (IsPageRefused left.old.form.coding left.old.form.width
         (bits_of left.old.form.order left.new.octets)) }
     ensures kept { IfOk result (KeepsReached kept.new) }
@@ -146,7 +147,7 @@ fn skip_pages(
 {
     *kept = None;
     for before in 0..pages {
-        match left.skip(alloc, kept) {
+        match left.pass(alloc, mends, kept) {
             Ok(true) => {}
             Ok(false) => return Ok(Reached::End(before + 1)),
             Err(fault) => {
@@ -203,6 +204,13 @@ fn tell_broken<W: Write>(number: u32, octet: usize, writer: &mut W) -> Result<()
     Ok(())
 }
 
+/// Returns whether damaged pages are asked for.
+pub fn asks_damaged(options: DecodeOptions) -> bool
+    ensures { result ≡ asks_damaged options }
+{
+    options.salvage || options.repair
+}
+
 /// Returns whether a fault says nothing of the octets: `Io` (8) or `NoMemory` (9).
 fn is_outside(fault: ToolFault) -> bool
     ensures { IsTrue result ↔ IsOutside fault }
@@ -257,7 +265,8 @@ fn answer_reached(
 
 /// Decodes page `page`, counted from 1, of octets with pages of `form` one after another, as `answer_decode` decodes the first. The octets
 /// then begin with that page, and bits are counted from its first octet on. If the file has fewer pages, reports how many, with
-/// `FewerPages` (28); if a page before it can't be read, reports its number, with its fault; a refusal is the answer's end. `kept` is that
+/// `FewerPages` (28). If a page before it can't be read, reports its number, with its fault; but if damaged pages are asked for, it is passed
+/// by the mark of its end, if that is found. A refusal is the answer's end. `kept` is that
 /// of `answer_decode`. Errors: `NoMemory` (9).
 pub fn answer_page(
     alloc: Global,
@@ -277,7 +286,8 @@ pub fn answer_page(
 {
     let size = octets.len();
     let mut left = FilePages::new(mem::replace(octets, Vec::new(alloc)), form);
-    let found = skip_pages(alloc, &mut left, page.saturating_sub(1), kept);
+    let mends = asks_damaged(options);
+    let found = skip_pages(alloc, &mut left, page.saturating_sub(1), mends, kept);
     *octets = left.into_octets();
     let reached = found?;
     let octet = size.saturating_sub(octets.len());

@@ -1,6 +1,7 @@
 //! Laws of the definitions. Nothing runs.
 
 ghost use Rattle.page_files.specs.FormatRows.{FlagsByOctets, FormatsByOctets, WidthsMean};
+ghost use Rattle.page_files.specs.MarkRows.{MarksByGaps};
 ghost use Rattle.page_files.specs.OwnWidths.{PagesSayWidths};
 ghost use Rattle.page_files.specs.RepairsMean.{RowsAreListed, TornIsOneBitOff};
 
@@ -20,4 +21,9 @@ pub fn formats_by_octets()
     ensures formats { FormatsByOctets }
     ensures flags { FlagsByOctets }
     ensures widths { WidthsMean }
+{}
+
+/// The marks that end a page's code, RTC and EOFB, by the 0 bits before each 1.
+pub fn marks_by_gaps()
+    ensures { MarksByGaps }
 {}

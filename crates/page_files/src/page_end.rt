@@ -77,7 +77,7 @@ pub fn has_its_end(octets: &[u8], form: PageForm, bits: u128) -> bool
 }
 
 /// Returns whether this number of EOLs follow one another from a place on.
-fn begin_eols(octets: &[u8], order: Order, place: u128, eols: u32) -> bool
+pub(crate) fn begin_eols(octets: &[u8], order: Order, place: u128, eols: u32) -> bool
     requires { place ≤ 8 * length octets.now }
     ensures { result ≡ begin_eols eols (gaps 0 (drop place (bits_of order octets.now))) }
 {

@@ -1,6 +1,6 @@
 //! What is said of a file of which every page is decoded.
 
-ghost use Rattle.commands.specs.Each.{ends_whole, fault_of};
+ghost use Rattle.commands.specs.Each.{after_words, ends_whole, fault_of};
 ghost use Rattle.commands.specs.Pages.{end_of_pages};
 ghost use Rattle.std.specs.Prelude.{◌≡◌};
 
@@ -14,31 +14,17 @@ pub(crate) enum FileEnd {
     Whole(u32),
     /// It has this number of pages, of which one or more has no RTC, or no EOFB.
     NoEnd(u32),
+    /// It has this number of pages, of which one or more before the last is damaged.
+    Mended(u32),
     /// It has more pages than this number, the most that are asked for.
     More(u32),
-    /// This number of rows of its page with this number is repaired. Where a page after it would begin is not known.
-    Repaired {
-        /// The number of the page.
-        page: u32,
-        /// How many of its rows are repaired.
-        repaired: usize,
-    },
-    /// Its page with this number is cut, or damaged, in this row, counted from 1.
-    Cut {
-        /// The number of the page.
-        page: u32,
-        /// The number of the row.
-        row: usize,
-        /// The fault.
-        fault: ToolFault,
-    },
-    /// Its page with this number can't be repaired.
-    Lost {
-        /// The number of the page.
-        page: u32,
-        /// The fault.
-        fault: ToolFault,
-    },
+    /// Of its page with this number so many rows are repaired; and whether it is known that no page follows.
+    Repaired(u32, usize, bool),
+    /// Its page with this number is cut, or damaged, in this row, counted from 1, by this fault; and whether it is known that no page
+    /// follows.
+    Cut(u32, usize, ToolFault, bool),
+    /// Its page with this number can't be repaired, by this fault; and whether it is known that no page follows.
+    Lost(u32, ToolFault, bool),
     /// The image of its page with this number can't be written.
     NotWritten {
         /// The number of the page.
@@ -48,6 +34,8 @@ pub(crate) enum FileEnd {
     },
     /// It begins as a format of this name.
     NoFax(&'static str),
+    /// It is T.4 in two dimensions (MR), which isn't read.
+    TwoDims,
     /// It reads as a page in several widths.
     NoWidth,
     /// It is neither a page nor a known format.
@@ -58,12 +46,25 @@ pub(crate) enum FileEnd {
     Failed(ToolFault),
 }
 
+/// Returns what is said of the pages after one, by whether it is known that none follows.
+fn after_words(is_last: bool) -> &'static str
+    ensures { result.now ≡ after_words is_last }
+{
+    if is_last {
+        ""
+    } else {
+        "; a page after it is not looked for"
+    }
+}
+
 impl FileEnd {
-    /// Returns the end of a file of this number of pages, of which nothing is written or something is.
-    pub(crate) fn of(pages: u32, is_silent: bool) -> FileEnd
-        ensures { result ≡ end_of_pages pages is_silent }
+    /// Returns the end of a file of this number of pages, of which one is damaged or none, and nothing is written or something is.
+    pub(crate) fn of(pages: u32, is_damaged: bool, is_silent: bool) -> FileEnd
+        ensures { result ≡ end_of_pages pages is_damaged is_silent }
     {
-        if is_silent {
+        if is_damaged {
+            FileEnd::Mended(pages)
+        } else if is_silent {
             FileEnd::Whole(pages)
         } else {
             FileEnd::NoEnd(pages)
@@ -77,12 +78,14 @@ impl FileEnd {
         match self {
             FileEnd::Whole(_) => true,
             FileEnd::NoEnd(_)
+            | FileEnd::Mended(_)
             | FileEnd::More(_)
-            | FileEnd::Repaired { .. }
-            | FileEnd::Cut { .. }
-            | FileEnd::Lost { .. }
+            | FileEnd::Repaired(..)
+            | FileEnd::Cut(..)
+            | FileEnd::Lost(..)
             | FileEnd::NotWritten { .. }
             | FileEnd::NoFax(_)
+            | FileEnd::TwoDims
             | FileEnd::NoWidth
             | FileEnd::Nothing
             | FileEnd::NoText
@@ -95,19 +98,17 @@ impl FileEnd {
         ensures { result ≡ fault_of self }
     {
         match self {
-            FileEnd::Cut {
-                page: _,
-                row: _,
-                fault,
-            }
-            | FileEnd::Lost { page: _, fault }
+            FileEnd::Cut(_, _, fault, _)
+            | FileEnd::Lost(_, fault, _)
             | FileEnd::NotWritten { page: _, fault }
             | FileEnd::Failed(fault) => Some(fault),
             FileEnd::Whole(_)
             | FileEnd::NoEnd(_)
+            | FileEnd::Mended(_)
             | FileEnd::More(_)
-            | FileEnd::Repaired { .. }
+            | FileEnd::Repaired(..)
             | FileEnd::NoFax(_)
+            | FileEnd::TwoDims
             | FileEnd::NoWidth
             | FileEnd::Nothing
             | FileEnd::NoText => None,
@@ -128,18 +129,24 @@ impl fmt::Display for FileEnd {
             FileEnd::More(pages) => {
                 write!(f, "{pages} pages, and more follow that weren't asked for")
             }
-            FileEnd::Repaired { page, repaired } => write!(
-                f,
-                "repaired {repaired} rows of page {page}; a page after it is not looked for"
-            ),
-            FileEnd::Cut { page, row, fault } => {
-                write!(f, "cut at row {row} of page {page}: {fault}")
+            FileEnd::Mended(pages) => write!(f, "{pages} pages, and one or more is damaged"),
+            FileEnd::Repaired(page, repaired, is_last) => {
+                let after = after_words(*is_last);
+                write!(f, "repaired {repaired} rows of page {page}{after}")
             }
-            FileEnd::Lost { page, fault } => write!(f, "page {page} is not read: {fault}"),
+            FileEnd::Cut(page, row, fault, is_last) => {
+                let after = after_words(*is_last);
+                write!(f, "cut at row {row} of page {page}: {fault}{after}")
+            }
+            FileEnd::Lost(page, fault, is_last) => {
+                let after = after_words(*is_last);
+                write!(f, "page {page} is not read: {fault}{after}")
+            }
             FileEnd::NotWritten { page, fault } => {
                 write!(f, "page {page} is not written: {fault}")
             }
             FileEnd::NoFax(name) => write!(f, "no fax: {name}"),
+            FileEnd::TwoDims => write!(f, "not read: T.4 in two dimensions (MR)"),
             FileEnd::NoWidth => write!(
                 f,
                 "the width is not known: decode it by --code, --order and --width in each way that identify names"

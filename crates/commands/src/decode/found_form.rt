@@ -1,23 +1,16 @@
 //! How octets are decoded: as is given, or else as `identify` says it.
 
-ghost use Rattle.commands.specs.FoundForms.{IsFormOf, IsFoundForm, asks_damaged, form_by, lined};
+ghost use Rattle.commands.specs.FoundForms.{IsFormOf, IsFoundForm, form_by, lined};
 ghost use Rattle.faults.specs.Faults.{IsOutside};
 ghost use Rattle.page_files.specs.Found.{HasItsWidth};
 ghost use Rattle.raster.specs.Pixels.{IsWidth};
 ghost use Rattle.std.specs.Prelude.{◌≡◌, IfErr, IfOk, IfSome};
 
-use crate::damaged::is_taken;
+use crate::damaged::{is_taken, two_dims_of};
 use crate::decode::ends::FileEnd;
 use faults::ToolFault;
-use page_files::{DecodeOptions, Found, PageForm, find_way};
+use page_files::{DecodeOptions, Found, PageForm, TwoDim, asks_damaged, find_way};
 use std::alloc::Global;
-
-/// Returns whether damaged pages are asked for.
-fn asks_damaged(options: DecodeOptions) -> bool
-    ensures { result ≡ asks_damaged options }
-{
-    options.salvage || options.repair
-}
 
 /// Returns a way to read pages, with the lines that are asked for.
 fn lined(fine: bool, form: PageForm) -> PageForm
@@ -26,12 +19,21 @@ fn lined(fine: bool, form: PageForm) -> PageForm
     PageForm { fine, ..form }
 }
 
-/// Returns the form in which octets are decoded that are this, or what is said of octets that aren't decoded.
-fn form_by(asked: bool, fine: bool, found: Found) -> Result<PageForm, FileEnd>
+/// Returns the form in which octets are decoded that are this, and T.4 in two dimensions or not; or what is said of octets that aren't
+/// decoded.
+fn form_by(
+    asked: bool,
+    fine: bool,
+    two_dims: Option<TwoDim>,
+    found: Found,
+) -> Result<PageForm, FileEnd>
     requires { HasItsWidth found }
-    ensures form { result ≡ form_by asked fine found }
+    ensures form { result ≡ form_by asked fine two_dims found }
     ensures width { IfOk result (λ form. IsWidth form.width) }
 {
+    if two_dims.is_some() {
+        return Err(FileEnd::TwoDims);
+    }
     match found {
         Found::Page(way) => Ok(lined(fine, way.form)),
         Found::Begun(way) => {
@@ -60,7 +62,8 @@ pub(crate) fn found_form(
     ensures fault { IfErr result IsOutside }
 {
     let found = find_way(alloc, octets)?;
-    Ok(form_by(asked, fine, found))
+    let two_dims = two_dims_of(octets, &found);
+    Ok(form_by(asked, fine, two_dims, found))
 }
 
 /// Returns how octets are decoded: in the form that is given, or else as they are identified. Errors: `NoMemory` (9).

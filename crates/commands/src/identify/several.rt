@@ -6,7 +6,7 @@ ghost use Rattle.serde_json.specs.View.{members_view, view};
 ghost use Rattle.serde_json.specs.Written.{has_float};
 ghost use Rattle.std.specs.Prelude.{◌≡◌, IfErr, IfOk, OnOk, false};
 
-use crate::damaged::is_damaged_page;
+use crate::damaged::{is_damaged_page, two_dims_of};
 use crate::decode::each::facts::{code_word, maybe_count, order_word};
 use crate::names::{is_untold, record_name, shown_name};
 use crate::words::{context_of_file, words_of_file};
@@ -17,7 +17,9 @@ use command_files::files::bounded::{Ways, read_coded};
 use command_files::files::printed::say;
 use command_files::files::progress::Watch;
 use faults::{ToolFault, write_record};
-use page_files::{Found, PageForm, Tried, find_way, tell_found, tell_unread};
+use page_files::{
+    Found, PageForm, Tried, TwoDim, find_way, tell_found, tell_two_dims, tell_unread,
+};
 use serde_json::{Map, Value, json, put};
 use std::alloc::{AllocError, Global};
 use std::io::Write;
@@ -74,6 +76,7 @@ impl Runs for SeveralCommand {
 struct Said {
     text: Vec<u8>,
     found: Found,
+    two_dims: Option<TwoDim>,
     is_known: bool,
     fault: Option<ToolFault>,
     words: Option<String>,
@@ -87,6 +90,7 @@ impl Said {
         Said {
             text,
             found,
+            two_dims: None,
             is_known,
             fault: None,
             words: None,
@@ -131,6 +135,7 @@ fn say_fault(own: &Context<'_>, name: &str, fault: ToolFault) -> Result<Said, To
     Ok(Said {
         text,
         found: Found::Nothing,
+        two_dims: None,
         is_known: false,
         fault: Some(fault),
         words,
@@ -155,23 +160,44 @@ fn say_of(own: &mut Context<'_>, name: &str) -> Result<Said, ToolFault>
     let octets = read_coded(own, name, Ways::Tried, Watch::Shown)?;
     let alloc = own.alloc();
     let found = find_way(alloc, octets.as_slice())?;
+    let two_dims = two_dims_of(octets.as_slice(), &found);
+    let text = text_of(alloc, octets.as_slice(), &found, two_dims)?;
+    let is_known = is_known(&found);
+    Ok(Said {
+        text,
+        found,
+        two_dims,
+        is_known,
+        fault: None,
+        words: None,
+    })
+}
+
+/// Returns what is said of octets that are this, and T.4 in two dimensions or not. Errors: `NoMemory` (9).
+fn text_of(
+    alloc: Global,
+    octets: &[u8],
+    found: &Found,
+    two_dims: Option<TwoDim>,
+) -> Result<Vec<u8>, ToolFault>
+    ensures { IfErr result IsOutside }
+{
     let mut text = Vec::new(alloc);
+    if let Some(said) = two_dims {
+        tell_two_dims(said, &mut text)?;
+        return Ok(text);
+    }
     match found {
-        Found::Begun(way) if !is_damaged_page(&way) => tell_unread(
-            alloc,
-            octets.as_slice(),
-            &mut text,
-        )?,
-        Found::Nothing => tell_unread(alloc, octets.as_slice(), &mut text)?,
+        Found::Begun(way) if !is_damaged_page(way) => tell_unread(alloc, octets, &mut text)?,
+        Found::Nothing => tell_unread(alloc, octets, &mut text)?,
         Found::Begun(_) | Found::Format(_) | Found::Page(_) | Found::Several => {
-            tell_found(octets.as_slice(), &found, &mut text)?
+            tell_found(octets, found, &mut text)?
         }
     }
     if text.is_empty() {
         writeln!(text, "no page and no known format")?;
     }
-    let is_known = is_known(&found);
-    Ok(Said::of(text, found, is_known))
+    Ok(text)
 }
 
 /// Prints the first line of what is said of a file, after its name, and under it the words of its fault; or a record. Errors: `Io` (8) if it
@@ -211,7 +237,7 @@ fn write_said(
 {
     let file = record_name(alloc, name)?;
     let made = said_record(alloc, file.as_str(), what, said)?;
-    let record = with_found(alloc, made, &said.found)?;
+    let record = with_found(alloc, made, said.two_dims, &said.found)?;
     write_record(alloc, &record, lines)
 }
 
@@ -228,14 +254,19 @@ fn said_record(alloc: Global, file: &str, what: &str, said: &Said) -> Result<Val
     json!(in alloc; {"file": file, "is": what, "known": is_known})
 }
 
-/// Returns a record with what octets are. Errors: memory was refused.
-fn with_found(alloc: Global, made: Value, found: &Found) -> Result<Value, AllocError>
-    ensures { IfOk result (λ value. view value ≡ record_with_found found.now (view made)) }
+/// Returns a record with what octets are, which are T.4 in two dimensions or not. Errors: memory was refused.
+fn with_found(
+    alloc: Global,
+    made: Value,
+    two_dims: Option<TwoDim>,
+    found: &Found,
+) -> Result<Value, AllocError>
+    ensures { IfOk result (λ value. view value ≡ record_with_found two_dims found.now (view made)) }
 {
     match made {
         Value::Object(mut members) => {
-            put_way_found(alloc, way_of(found), &mut members)?;
-            let format = format_of(alloc, found)?;
+            put_way_found(alloc, way_of(two_dims, found), &mut members)?;
+            let format = format_of(alloc, two_dims, found)?;
             put(&mut members, alloc, "not_read", format)?;
             Ok(Value::Object(members))
         }
@@ -244,9 +275,12 @@ fn with_found(alloc: Global, made: Value, found: &Found) -> Result<Value, AllocE
 }
 
 /// Returns the way in which octets are read as a page, if they are one, or a damaged one.
-fn way_of(found: &Found) -> Option<Tried>
-    ensures { result ≡ way_of found.now }
+fn way_of(two_dims: Option<TwoDim>, found: &Found) -> Option<Tried>
+    ensures { result ≡ way_of two_dims found.now }
 {
+    if two_dims.is_some() {
+        return None;
+    }
     match found {
         Found::Page(way) => Some(*way),
         Found::Begun(way) if is_damaged_page(way) => Some(*way),
@@ -254,10 +288,13 @@ fn way_of(found: &Found) -> Option<Tried>
     }
 }
 
-/// Returns the name of the format of octets that aren't read, or null. Errors: memory was refused.
-fn format_of(alloc: Global, found: &Found) -> Result<Value, AllocError>
-    ensures { IfOk result (λ value. view value ≡ format_of found.now) }
+/// Returns the name of the format of octets that aren't read, `MR` if they are T.4 in two dimensions; or null. Errors: memory was refused.
+fn format_of(alloc: Global, two_dims: Option<TwoDim>, found: &Found) -> Result<Value, AllocError>
+    ensures { IfOk result (λ value. view value ≡ format_of two_dims found.now) }
 {
+    if two_dims.is_some() {
+        return Ok(Value::String(String::from_str(alloc, "MR")?));
+    }
     match found {
         Found::Format(name) => Ok(Value::String(String::from_str(alloc, name)?)),
         Found::Page(_) | Found::Begun(_) | Found::Several | Found::Nothing => Ok(Value::Null),

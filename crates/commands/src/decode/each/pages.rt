@@ -1,7 +1,8 @@
 //! The pages of a file, one after another: each is decoded as `decode` decodes it alone.
 
 ghost use Rattle.commands.specs.Each.{EndsWithin, is_silent};
-ghost use Rattle.commands.specs.Pages.{GoesOn, IsCutAt, IsPageReport, IsReadSo, IsRefusal, end_of, file_end, is_answered, page_lines};
+ghost use Rattle.commands.specs.Pages.{GoesOn, IsCutAt, IsPageReport, IsReadSo, IsRefusal, broken_line, end_of, file_end, have_damage};
+ghost use Rattle.commands.specs.Pages.{is_answered, is_damaged, is_nothing, may_go_on, page_lines};
 ghost use Rattle.commands.specs.Pages.{repaired_end, with_front};
 ghost use Rattle.commands.specs.Places.{page_name};
 ghost use Rattle.faults.specs.Faults.{IsOutside};
@@ -20,7 +21,7 @@ use command_files::files::images::{save_missing_images, save_new_images};
 use command_files::files::output::make_folders;
 use faults::{FAILED, ToolFault};
 use page_code::RefusedCode;
-use page_files::{Broken, DecodeOptions, FilePages, PageForm, ReadTo};
+use page_files::{Broken, DecodeOptions, FilePages, PageForm, ReadTo, asks_damaged};
 use raster::Page;
 use std::alloc::{AllocError, Global};
 use std::io::Write;
@@ -246,18 +247,34 @@ fn write_page(
     Ok(Some(name))
 }
 
-/// Passes the first page that is left, which ended so, if another follows, and returns what follows. Errors: `NoMemory` (9).
-fn next_page(alloc: Global, left: &mut FilePages, end: PageEnd) -> Result<Next, ToolFault>
-    ensures form { left.new.form ≡ left.old.form }
-    ensures next { IfOk result (GoesOn left.old.form left.old.octets left.new.octets end) }
-    ensures fault { IfErr result IsOutside }
+/// Returns whether a page after one with this end is looked for; if it is damaged, only if damaged pages are asked for.
+fn may_go_on(mends: bool, end: PageEnd) -> bool
+    ensures { result ≡ may_go_on mends end }
 {
     match end {
-        PageEnd::Cut(..) | PageEnd::Lost(_) | PageEnd::NotWritten(_) => return Ok(Next::Unknown),
-        PageEnd::Read | PageEnd::NoEofb | PageEnd::Repaired(_) => {}
+        PageEnd::Read | PageEnd::NoEofb | PageEnd::Repaired(_) => true,
+        PageEnd::Cut(..) | PageEnd::Lost(_) => mends,
+        PageEnd::NotWritten(_) => false,
+    }
+}
+
+/// Passes the first page that is left, which ended so, if another follows, as `decode --page` does, and returns what follows. Errors:
+/// `NoMemory` (9).
+fn next_page(
+    alloc: Global,
+    left: &mut FilePages,
+    mends: bool,
+    end: PageEnd,
+) -> Result<Next, ToolFault>
+    ensures form { left.new.form ≡ left.old.form }
+    ensures next { IfOk result (GoesOn mends left.old.form left.old.octets left.new.octets end) }
+    ensures fault { IfErr result IsOutside }
+{
+    if !may_go_on(mends, end) {
+        return Ok(Next::Unknown);
     }
     let mut kept = None;
-    match left.skip(alloc, &mut kept) {
+    match left.pass(alloc, mends, &mut kept) {
         Ok(true) => Ok(Next::Page),
         Ok(false) => Ok(Next::Nothing),
         Err(fault) => match kept {
@@ -300,6 +317,42 @@ fn add_page(alloc: Global, number: u32, told: &[u8], lines: &mut Vec<u8>) -> Res
     add_lines(front.as_str(), told, lines)
 }
 
+/// Appends the line of a page that isn't read to its end and is followed by another one. Errors: `NoMemory` (9).
+fn add_broken(number: u32, end: PageEnd, lines: &mut Vec<u8>) -> Result<(), ToolFault>
+    ensures told { OnOk result (lines.new.items ≡ lines.old.items ++ broken_line number end) }
+    ensures fault { IfErr result IsOutside }
+{
+    match end {
+        PageEnd::Cut(row, fault) => writeln!(lines, "page {number}: cut at row {row}: {fault}")?,
+        PageEnd::Lost(fault) => writeln!(lines, "page {number}: not read: {fault}")?,
+        PageEnd::Read | PageEnd::NoEofb | PageEnd::Repaired(_) | PageEnd::NotWritten(_) => {}
+    }
+    Ok(())
+}
+
+/// Returns whether a page with this end is damaged, or not written.
+fn is_damaged(end: PageEnd) -> bool
+    ensures { result ≡ is_damaged end }
+{
+    match end {
+        PageEnd::Read | PageEnd::NoEofb => false,
+        PageEnd::Repaired(repaired) => repaired > 0,
+        PageEnd::Cut(..) | PageEnd::Lost(_) | PageEnd::NotWritten(_) => true,
+    }
+}
+
+/// Returns whether one of these pages is damaged, or not written.
+fn have_damage(pages: &[PageFacts]) -> bool
+    ensures { result ≡ have_damage pages.now }
+{
+    for page in pages {
+        if is_damaged(page.end) {
+            return true;
+        }
+    }
+    false
+}
+
 /// Appends what a page is to the pages before it. Errors: memory was refused.
 fn add_facts(pages: &mut Vec<PageFacts>, facts: PageFacts) -> Result<(), AllocError>
     ensures { OnOk result (pages.new.items ≡ pages.old.items ++ facts ∷ []) }
@@ -324,6 +377,7 @@ pub(crate) fn decode_pages(
     ensures fault { IfErr result IsOutside }
 {
     let alloc = own.alloc();
+    let mends = asks_damaged(of.options);
     let mut left = FilePages::new(read, form);
     let mut told = Vec::new(alloc);
     let mut pages = Vec::new(alloc);
@@ -335,10 +389,11 @@ pub(crate) fn decode_pages(
         add_page(alloc, number, page.told.as_slice(), &mut told)?;
         add_facts(&mut pages, page.facts)?;
         are_complete = both(are_complete, page.is_complete);
-        let next = next_page(alloc, &mut left, end)?;
+        let next = next_page(alloc, &mut left, mends, end)?;
         let Next::Page = next else {
             own.keep_read(left.into_octets(), page.refused);
-            let end = file_end(number, is_silent(told.as_slice()), end, next);
+            let is_damaged = have_damage(pages.as_slice());
+            let end = file_end(number, is_damaged, is_silent(told.as_slice()), end, next);
             return Ok(FileReport {
                 end,
                 told,
@@ -347,6 +402,7 @@ pub(crate) fn decode_pages(
                 pages,
             });
         };
+        add_broken(number, end, &mut told)?;
     }
     Ok(FileReport {
         end: FileEnd::More(of.most),
@@ -357,23 +413,29 @@ pub(crate) fn decode_pages(
     })
 }
 
-/// Returns the end of a file by that of its last page, which has this number, by whether nothing was written of its pages, and by what
-/// follows them.
-fn file_end(number: u32, is_silent: bool, end: PageEnd, next: Next) -> FileEnd
-    ensures { result ≡ file_end number is_silent end next }
+/// Returns whether it is known that no page follows.
+fn is_nothing(next: Next) -> bool
+    ensures { result ≡ is_nothing next }
 {
+    match next {
+        Next::Nothing => true,
+        Next::Page | Next::Unknown => false,
+    }
+}
+
+/// Returns the end of a file by that of its last page, which has this number, by whether one of its pages is damaged, by whether nothing
+/// was written of them, and by what follows them.
+fn file_end(number: u32, is_damaged: bool, is_silent: bool, end: PageEnd, next: Next) -> FileEnd
+    ensures { result ≡ file_end number is_damaged is_silent end next }
+{
+    let is_last = is_nothing(next);
     match end {
-        PageEnd::Read | PageEnd::NoEofb => FileEnd::of(number, is_silent),
-        PageEnd::Repaired(repaired) => repaired_end(number, is_silent, repaired, next),
-        PageEnd::Cut(row, fault) => FileEnd::Cut {
-            page: number,
-            row,
-            fault,
-        },
-        PageEnd::Lost(fault) => FileEnd::Lost {
-            page: number,
-            fault,
-        },
+        PageEnd::Read | PageEnd::NoEofb => FileEnd::of(number, is_damaged, is_silent),
+        PageEnd::Repaired(repaired) => {
+            repaired_end(number, is_damaged, is_silent, repaired, next)
+        }
+        PageEnd::Cut(row, fault) => FileEnd::Cut(number, row, fault, is_last),
+        PageEnd::Lost(fault) => FileEnd::Lost(number, fault, is_last),
         PageEnd::NotWritten(fault) => FileEnd::NotWritten {
             page: number,
             fault,
@@ -381,25 +443,21 @@ fn file_end(number: u32, is_silent: bool, end: PageEnd, next: Next) -> FileEnd
     }
 }
 
-/// Returns the end of a file whose last page is read line by line: it is known that nothing follows only if no row is repaired and the page
-/// can be read.
-fn repaired_end(number: u32, is_silent: bool, repaired: usize, next: Next) -> FileEnd
-    ensures { result ≡ repaired_end number is_silent repaired next }
+/// Returns the end of a file whose last page is read line by line: as that of others only if no row is repaired and nothing follows.
+fn repaired_end(
+    number: u32,
+    is_damaged: bool,
+    is_silent: bool,
+    repaired: usize,
+    next: Next,
+) -> FileEnd
+    ensures { result ≡ repaired_end number is_damaged is_silent repaired next }
 {
-    let found = FileEnd::Repaired {
-        page: number,
-        repaired,
-    };
-    match next {
-        Next::Nothing => {
-            if repaired == 0 {
-                FileEnd::of(number, is_silent)
-            } else {
-                found
-            }
-        }
-        Next::Page | Next::Unknown => found,
+    let is_last = is_nothing(next);
+    if is_last && repaired == 0 {
+        return FileEnd::of(number, is_damaged, is_silent);
     }
+    FileEnd::Repaired(number, repaired, is_last)
 }
 
 /// Returns whether nothing is reported.

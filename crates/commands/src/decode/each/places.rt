@@ -1,9 +1,12 @@
 //! Where the pages of a file of `--each` are written: under the folder, at the file's own place.
 
-ghost use Rattle.commands.specs.Places.{has_left_out, is_left_out, page_name, part_text, place_under, zeros_before};
-ghost use Rattle.std.specs.Prelude.{◌≡◌, ◌++◌, IfOk, OnOk, string_bytes};
+ghost use Rattle.commands.specs.Places.{has_left_out, is_left_out, left_out_part, left_out_words};
+ghost use Rattle.commands.specs.Places.{page_name, part_text, place_under, zeros_before};
+ghost use Rattle.serde_json.specs.View.{view};
+ghost use Rattle.std.specs.Prelude.{◌≡◌, ◌++◌, IfOk, OnOk, map, string_bytes};
 
 use command_files::files::STANDARD;
+use serde_json::Value;
 use std::alloc::{AllocError, Global};
 use std::path::Path;
 
@@ -50,6 +53,34 @@ pub(crate) fn has_left_out(name: &str) -> bool
         }
     }
     false
+}
+
+/// Appends a part to others, as text, if it is left out. Errors: memory was refused.
+fn add_left_out(alloc: Global, part: &str, parts: &mut Vec<Value>) -> Result<(), AllocError>
+    ensures { OnOk result (map view parts.new.items
+        ≡ map view parts.old.items ++ left_out_part part.now) }
+{
+    if !is_left_out(part) {
+        return Ok(());
+    }
+    let text = String::from_str(alloc, part)?;
+    if parts.push(Value::String(text)).is_err() {
+        return Err(AllocError);
+    }
+    Ok(())
+}
+
+/// Returns the parts of a file's name that are left out, as texts. Errors: memory was refused.
+pub(crate) fn left_out_parts(alloc: Global, name: &str) -> Result<Vec<Value>, AllocError>
+    ensures { IfOk result (λ parts. map view parts.items ≡ left_out_words name.now) }
+{
+    let file = if name == STANDARD { "stdin" } else { name };
+    let mut left_out = Vec::new(alloc);
+    let mut parts = Path::new(file).components();
+    while let Some(part) = parts.next() {
+        add_left_out(alloc, part.as_os_str(), &mut left_out)?;
+    }
+    Ok(left_out)
 }
 
 /// Returns the zeros with which a page's number has four digits.

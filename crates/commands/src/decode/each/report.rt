@@ -1,7 +1,7 @@
 //! What is reported of a file of which every page is decoded.
 
-ghost use Rattle.commands.specs.Each.{IsSaid, left_out_line, each_record, each_text, file_record, is_silent, not_read, pages_in, plain_record, said_record};
-ghost use Rattle.commands.specs.Each.{with_pages};
+ghost use Rattle.commands.specs.Each.{IsSaid, each_record, each_text, file_record, is_silent, left_out, left_out_line, not_read};
+ghost use Rattle.commands.specs.Each.{pages_in, plain_record, said_record, with_pages};
 ghost use Rattle.faults.specs.Faults.{IsOutside};
 ghost use Rattle.commands.specs.PageFacts.{has_images};
 ghost use Rattle.serde_json.specs.View.{view};
@@ -9,7 +9,7 @@ ghost use Rattle.std.specs.Prelude.{◌≡◌, ◌++◌, IfErr, IfOk, None, OnOk
 
 use crate::decode::each::facts::{PageFacts, page_records};
 use crate::decode::each::pages::{add_lines, is_silent};
-use crate::decode::each::places::has_left_out;
+use crate::decode::each::places::{has_left_out, left_out_parts};
 use crate::decode::ends::FileEnd;
 use crate::names::{record_name, shown_name};
 use command_files::context::Context;
@@ -144,12 +144,14 @@ fn not_read(alloc: Global, end: FileEnd) -> Result<Value, AllocError>
 {
     match end {
         FileEnd::NoFax(name) => Ok(Value::String(String::from_str(alloc, name)?)),
+        FileEnd::TwoDims => Ok(Value::String(String::from_str(alloc, "MR")?)),
         FileEnd::Whole(_)
         | FileEnd::NoEnd(_)
+        | FileEnd::Mended(_)
         | FileEnd::More(_)
-        | FileEnd::Repaired { .. }
-        | FileEnd::Cut { .. }
-        | FileEnd::Lost { .. }
+        | FileEnd::Repaired(..)
+        | FileEnd::Cut(..)
+        | FileEnd::Lost(..)
         | FileEnd::NotWritten { .. }
         | FileEnd::NoWidth
         | FileEnd::Nothing
@@ -261,18 +263,37 @@ fn report_record(
         return Err(FAILED);
     };
     let value = file_record(alloc, name, report.end, says, words)?;
+    let left = left_out(alloc, name, report.has_image())?;
     let format = not_read(alloc, report.end)?;
     let pages = pages_in(alloc, report.form, report.pages.as_slice())?;
-    let value = with_pages(alloc, value, format, pages)?;
+    let value = with_pages(alloc, value, left, format, pages)?;
     Ok(value)
 }
 
-/// Returns a record with the format of a file that isn't read, and with its pages. Errors: memory was refused.
-fn with_pages(alloc: Global, made: Value, format: Value, pages: Value) -> Result<Value, AllocError>
-    ensures { IfOk result (λ value. view value ≡ with_pages (view format) (view pages) (view made)) }
+/// Returns the parts of a file's name that aren't in the names of its images, if it has some. Errors: memory was refused.
+fn left_out(alloc: Global, name: &str, has_image: bool) -> Result<Value, AllocError>
+    ensures { IfOk result (λ value. view value ≡ left_out name.now has_image) }
+{
+    if !has_image {
+        return Ok(Value::Array(Vec::new(alloc)));
+    }
+    Ok(Value::Array(left_out_parts(alloc, name)?))
+}
+
+/// Returns a record with what of a file's name is left out, with the format of a file that isn't read, and with its pages. Errors: memory
+/// was refused.
+fn with_pages(
+    alloc: Global,
+    made: Value,
+    left: Value,
+    format: Value,
+    pages: Value,
+) -> Result<Value, AllocError>
+    ensures { IfOk result (λ value. view value ≡ with_pages (view left) (view format) (view pages) (view made)) }
 {
     match made {
         Value::Object(mut members) => {
+            put(&mut members, alloc, "left_out", left)?;
             put(&mut members, alloc, "not_read", format)?;
             put(&mut members, alloc, "pages", pages)?;
             Ok(Value::Object(members))

@@ -6,6 +6,6 @@ use Rattle.page_files.proofs.later_pages.skip_pages.Given as goal
 abbrev pub invariant-loop-before : goal.invariant-loop-before
 invariant-loop-before l = record {
   form : l.left.form ≡ l.fn.left.form;
-  after : AreAfter l.fn.left.form l.fn.left.octets l.before l.left.octets;
+  after : AreAfter l.mends l.fn.left.form l.fn.left.octets l.before l.left.octets;
   none : l.kept ≡ None;
 }
