@@ -275,8 +275,9 @@ G3_CHECK g3_status g3_answerer_new(g3_terminal *out, const g3_caps *caps);
 G3_CHECK g3_status g3_caller_new(g3_terminal *out, g3_document *document, const g3_wish *wish);
 
 /* Hears octets that came by V.21 or by the carrier of a page: flags and frames, the least significant bit of each first, in pieces of any
- * size, but of one burst. An answerer that hears a page under the number of the last one, which it can't tell from that, stops its call.
- * G3_NO_MEMORY: nothing was taken; give the octets again. G3_FRAME_LOST: don't. */
+ * size, but of one burst. While a burst of its own waits to be sent a station takes DCN alone: no other frame can answer what it hasn't said.
+ * An answerer that hears a page under the number of the last one, which it can't tell from that, stops its call. G3_NO_MEMORY: nothing was
+ * taken; give the octets again. G3_FRAME_LOST: don't. */
 G3_CHECK g3_status g3_terminal_hear(g3_terminal *terminal, const uint8_t *octets, size_t length);
 /* Hears a good frame by its content, 3 to 300 octets, as g3_terminal_hear hears the octets of this frame between two flags: for a modem that
  * finds the frames itself. Octets of a frame that began stay. G3_NO_MEMORY: nothing was taken; give it again. */

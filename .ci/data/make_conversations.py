@@ -228,6 +228,14 @@ worked("caller_before_a_busy_answerer", "--call IN", CALLED, document=WHITE)
 CONFIRMED = ['{"at":50000,"confirmed":1}', '{"confirmed":1,"whole":true}', '{"confirmed":1,"end":"normal"}']
 worked("caller", "--call IN", SENT_WELL, document=WHITE, records=CONFIRMED)
 worked("caller_alone", "--call IN", UNANSWERED, document=WHITE)
+# MCF said twice after CFR, in one burst: they answer nothing, since the page wasn't sent yet.
+DOUBLED = [
+    (("rx 1000", "v21", [DIS]), [("v21", [DCS]), (PAGE, CHECK)]),
+    (("rx 4000", "v21", [CFR, MCF, MCF]), [(PAGE, WHITE_BURST), ("v21", [LAST])]),
+    ("end 9000", []),
+    "end line-lost confirmed 0",
+]
+worked("mcf_after_cfr_in_one_burst", "--call IN", DOUBLED, document=WHITE)
 referred("no_lines", "--answer --out DIR", [])
 referred("line_drops_after_a_page", "--answer --out DIR", BEGUN + SENT + ["end 7500", "quiet 7600"])
 referred("input_ends_after_a_page", "--answer --out DIR", BEGUN + SENT)

@@ -359,11 +359,11 @@ class Ending:
         self.cut = "line-lost"
 
     def hear(self, said):
-        """Each good frame of a burst, in order."""
+        """Each good frame of a burst, in order. A station that has something to send hears DCN alone."""
         for content in self.ear.contents(said.octets):
             self.heard_from = said.at
             signal = signal_of(content)
-            if signal:
+            if signal and (self.turn == SILENT or signal[0] == "DCN"):
                 self.heard(signal, said.at)
 
     def heard(self, signal, _at):

@@ -132,6 +132,17 @@ static void clocks(void)
     g3_terminal_free(&t);
 }
 
+/* The one burst of the turn, which is sent, is taken. */
+static void sent(g3_terminal *t)
+{
+    g3_octets o = G3_EMPTY;
+    g3_burst burst = G3_INIT(g3_burst);
+    IS(G3_OK, g3_terminal_next_burst(t, &o, &burst));
+    IS(1, burst.carrier == G3_V21 && burst.last == 1);
+    g3_octets_free(&o);
+    IS(G3_NOTHING, g3_terminal_next_burst(t, &o, &burst));
+}
+
 static void agreed(void)
 {
     g3_terminal t = G3_EMPTY, empty = G3_EMPTY;
@@ -165,12 +176,15 @@ static void agreed(void)
     IS(1, params.dcs.carrier == 7 && peer.kind == 77); /* they are as they were */
     IS(G3_OK, g3_signal_write(&dcs, G3_CALLER, 1, octets, sizeof octets, &n));
     IS(G3_OK, g3_terminal_hear_frame(&t, octets, n));
+    IS(G3_NOTHING, g3_terminal_params(&t, &params)); /* it wasn't listening: its DIS wasn't sent yet */
+    sent(&t);
+    IS(G3_OK, g3_terminal_hear_frame(&t, octets, n));
     IS(G3_OK, g3_terminal_params(&t, &params));
     IS(0, (g3_status)memcmp(&params.dcs, &dcs.dcs, sizeof params.dcs));
     IS(G3_OK, g3_terminal_peer(&t, &peer));
     IS(1, peer.kind == G3_DCS && memcmp(&params.dcs, &peer.dcs, sizeof params.dcs) == 0);
     IS(G3_OK, g3_terminal_state(&t, &state));
-    IS(1, state.frames == 1 && state.listens == G3_HEARS_CHECK && state.carrier == G3_V29_9600);
+    IS(1, state.frames == 2 && state.listens == G3_HEARS_CHECK && state.carrier == G3_V29_9600);
     g3_terminal_free(&t);
 }
 
@@ -467,8 +481,10 @@ static void begin(g3_terminal *t)
     g3_signal dcs = G3_INIT(g3_signal);
     dcs.kind = G3_DCS, dcs.dcs.carrier = G3_V17_14400, dcs.dcs.width = 1728, dcs.dcs.coding = G3_MMR, dcs.dcs.frame = 64;
     IS(G3_OK, g3_answerer_new(t, &caps));
+    sent(t); /* DIS */
     say(t, &dcs);
     IS(G3_OK, g3_terminal_hear_training(t, check, sizeof check));
+    sent(t); /* CFR */
 }
 
 /* Says a page of a white row in one frame (V0 and EOFB: 1, and 000000000001 twice), and its PPS. */
@@ -479,17 +495,6 @@ static void say_page(g3_terminal *t, uint32_t page, uint32_t ends)
     pps.kind = G3_PPS, pps.pps.ends = ends, pps.pps.page = page;
     IS(G3_OK, g3_terminal_hear_frame(t, fcd, sizeof fcd));
     say(t, &pps);
-}
-
-/* The one burst of the turn, which is sent, is taken. */
-static void sent(g3_terminal *t)
-{
-    g3_octets o = G3_EMPTY;
-    g3_burst burst = G3_INIT(g3_burst);
-    IS(G3_OK, g3_terminal_next_burst(t, &o, &burst));
-    IS(1, burst.carrier == G3_V21 && burst.last == 1);
-    g3_octets_free(&o);
-    IS(G3_NOTHING, g3_terminal_next_burst(t, &o, &burst));
 }
 
 /* A page is confirmed by the MCF that is taken; a caller that leaves before that has left too soon. A page under the number of the last one is
@@ -529,6 +534,49 @@ static void confirms(void)
     g3_terminal_free(&t);
 }
 
+/* Hears an answerer's signal. */
+static void reply(g3_terminal *t, const g3_signal *signal)
+{
+    uint64_t n = 0;
+    IS(G3_OK, g3_signal_write(signal, G3_ANSWERER, 1, octets, sizeof octets, &n));
+    IS(G3_OK, g3_terminal_hear_frame(t, octets, n));
+}
+
+/* MCF said twice in the burst of a CFR confirms nothing: the page waits to be sent. DCN is heard also then. */
+static void doubled(void)
+{
+    g3_terminal t = G3_EMPTY;
+    g3_document d = G3_EMPTY;
+    g3_wish wish = {G3_V17, G3_MMR, 256};
+    g3_state state = G3_INIT(g3_state);
+    g3_signal dis = G3_INIT(g3_signal), cfr = G3_INIT(g3_signal), mcf = G3_INIT(g3_signal), dcn = G3_INIT(g3_signal);
+    g3_octets o = G3_EMPTY;
+    g3_burst burst = G3_INIT(g3_burst);
+    cfr.kind = G3_CFR, mcf.kind = G3_MCF, dcn.kind = G3_DCN, dis.kind = G3_DIS;
+    dis.dis.receiver = 1, dis.dis.ecm = 1, dis.dis.modems = G3_V17, dis.dis.fine = 1, dis.dis.t6 = 1, dis.dis.widest = 2432;
+    IS(G3_OK, g3_document_new(&d));
+    for (int pages = 0; pages < 2; pages++) {
+        g3_page page = G3_EMPTY;
+        IS(G3_OK, g3_page_new(&page, 1728, 1));
+        IS(G3_OK, g3_page_push_row(&page, octets, 216));
+        IS(G3_OK, g3_document_push(&d, &page));
+    }
+    IS(G3_OK, g3_caller_new(&t, &d, &wish));
+    reply(&t, &dis);
+    for (int bursts = 0; bursts < 2; bursts++) IS(G3_OK, g3_terminal_next_burst(&t, &o, &burst)), g3_octets_free(&o); /* DCS, check */
+    reply(&t, &cfr), reply(&t, &mcf), reply(&t, &mcf);
+    IS(G3_OK, g3_terminal_state(&t, &state));
+    IS(1, state.pages == 0 && state.end == 0 && state.frames == 4);
+    for (int bursts = 0; bursts < 2; bursts++) IS(G3_OK, g3_terminal_next_burst(&t, &o, &burst)), g3_octets_free(&o); /* page, PPS */
+    reply(&t, &mcf), reply(&t, &mcf);
+    IS(G3_OK, g3_terminal_state(&t, &state));
+    IS(1, state.pages == 1 && state.end == 0);
+    reply(&t, &dcn);
+    IS(G3_OK, g3_terminal_state(&t, &state));
+    IS(1, state.pages == 1 && state.end == G3_END_PEER_LEFT);
+    g3_terminal_free(&t);
+}
+
 int main(void)
 {
     documents();
@@ -543,5 +591,6 @@ int main(void)
     watched();
     held();
     confirms();
+    doubled();
     return bad;
 }

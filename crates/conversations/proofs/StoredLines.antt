@@ -44,7 +44,9 @@ use Rattle.stations.specs.declared.waiting.Wait.{Wait}
 use Rattle.stations.specs.declared.waiting.Wait.TheVariants.{T1, T2, T4, T5}
 use Rattle.terminals.specs.Clocks.{clock_at, wait_over}
 use Rattle.terminals.specs.Hearing.{CutsChangeNothing, HasHeard, PlainInput, contents, heard_of}
+use Rattle.terminals.proofs.After.{heard_keeps}
 use Rattle.terminals.specs.Runs.{TakesAll, TerminalFields}
+use Rattle.terminals.specs.Saying.{limited_lends}
 use Rattle.terminals.specs.Speaking.{BurstsOf, Speaking}
 use Rattle.terminals.specs.StationsAfter.{answerer_inputs}
 use Rattle.terminals.specs.Stations.{answerer_takes}
@@ -66,14 +68,16 @@ record Stands (caps : Caps) (params : Params) (t : TerminalFields LimitedFields)
 -- ---- what a line gives
 
 takes_all : (caps : Caps) (params : Params) (old new : Speaking LimitedFields) (xs : List PlainInput) (octets : List ℕ) →
-    Serves caps params old.station octets → AreAmong (answerer_inputs xs) (signals_in octets) → TakesAll steps_so old xs new →
+    Serves caps params old.station octets → AreAmong (answerer_inputs xs) (signals_in octets) → TakesAll steps_so limited_lends old xs new →
     Serves caps params new.station octets
 takes_all caps params old new [] octets h among is =
     subst (λ (s : Speaking LimitedFields). Serves caps params s.station octets) (sym is) h
 takes_all caps params old new (x ∷ xs) octets h among is =
     takes_all caps params is.0 new xs octets
-    (subst (λ v. Serves caps params v octets) (sym (taken_by steps_so old x is.0 is.1))
-    (step_serves caps params old.station is.1.station x is.1.turn old.station.cut octets h (first_of x xs octets among) is.1.steps_so))
+    (heard_keeps (λ (s : Speaking LimitedFields). Serves caps params s.station octets) steps_so limited_lends old is.0 x is.1 h
+    (λ takes.
+    subst (λ v. Serves caps params v octets) (sym (taken_by steps_so old x is.0 takes))
+    (step_serves caps params old.station takes.station x takes.turn old.station.cut octets h (first_of x xs octets among) takes.steps_so)))
     (later_of x xs octets among) is.2
 
 -- the octets of the line that a station is given

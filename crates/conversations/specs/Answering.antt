@@ -5,6 +5,7 @@ use Rattle.conversations.specs.declared.line.TimedLine.{TimedLine}
 use Rattle.raster.specs.Pages.{PagePixels}
 use Rattle.signals.specs.declared.signal.Side.TheVariants.{Answerer}
 use Rattle.stations.specs.Limiting.{LimitedFields}
+use Rattle.terminals.specs.Saying.{limited_lends}
 use Rattle.terminals.specs.Stopping.{LimitedShows, LimitedStepsUnlessCut, limited_cut_off, limited_stop_says}
 
 -- what a store says of a page: the store before, the page, and the store after
@@ -25,7 +26,7 @@ StoresSome {P} stores refuses old pages new =
 -- an answerer with limits, as a conversation knows it
 abbrev pub limited_behaviour : Behaviour LimitedFields
 limited_behaviour =
-    behaviour Answerer (λ old input new turn. LimitedStepsUnlessCut old.cut old input new turn) LimitedShows limited_cut_off
+    behaviour Answerer (λ old input new turn. LimitedStepsUnlessCut old.cut old input new turn) limited_lends LimitedShows limited_cut_off
     limited_stop_says
 
 -- the pages that the answerer of a conversation has stored

@@ -130,19 +130,20 @@ is_check (check (octet ∷ octets)) = true
 is_check (over wait) = false
 is_check (busy is) = false
 
--- a station as a conversation knows it: which one it is, its steps, what it shows, and how its call is cut off
+-- a station as a conversation knows it: which one it is, its steps, its bursts, what it shows, and how its call is cut off
 pub record Behaviour (S : Type 0) : Type 1 where
   pub side : Side
   pub steps : StepOf S
+  pub lends : BurstsOf S
   pub shows : S → Shown → Type 0
   pub cut_off : Cut → S → S
   pub stop_says : S → Turn
 
--- a station of this side, with these steps, that shows this and is cut off so
+-- a station of this side, with these steps and bursts, that shows this and is cut off so
 abbrev pub behaviour :
-    {S : Type 0} → Side → StepOf S → (S → Shown → Type 0) → (Cut → S → S) → (S → Turn) → Behaviour S
-behaviour side steps shows cut_off stop_says =
-    record { side = side; steps = steps; shows = shows; cut_off = cut_off; stop_says = stop_says }
+    {S : Type 0} → Side → StepOf S → BurstsOf S → (S → Shown → Type 0) → (Cut → S → S) → (S → Turn) → Behaviour S
+behaviour side steps lends shows cut_off stop_says =
+    record { side = side; steps = steps; lends = lends; shows = shows; cut_off = cut_off; stop_says = stop_says }
 
 -- a terminal was given what a line gives, and that brought a good frame or the awaited training check, or neither
 abbrev pub Gives : {S : Type 0} → Behaviour S → TerminalFields S → PlainGiven → TerminalFields S → Bool → Type 0
@@ -151,7 +152,7 @@ Gives b old stopping new brought =
     (new.framing ≡ old.framing) × (new.speaking ≡ stopped b.cut_off b.stop_says old.speaking) × (brought ≡ false)
 Gives b old losing new brought = (new.framing ≡ old.framing) × (new.speaking ≡ silenced b.cut_off old.speaking) × (brought ≡ false)
 Gives b old (frames octets) new brought =
-    Hears b.steps old octets new (Ok tt) × ((before : List ℕ) → HasHeard old.framing before → brought ≡ brings_frame before octets)
+    Hears b.steps b.lends old octets new (Ok tt) × ((before : List ℕ) → HasHeard old.framing before → brought ≡ brings_frame before octets)
 Gives {S} b old (input x) new brought =
     (new.framing ≡ old.framing) × Takes S b.steps old.speaking x new.speaking × (brought ≡ is_check x)
 
@@ -165,7 +166,7 @@ SeesGiven framing (input x) old new = new ≡ old
 
 -- octets were heard, but frames among them were lost, since memory was refused
 abbrev pub LosesFrames : {S : Type 0} → Behaviour S → TerminalFields S → PlainGiven → TerminalFields S → Type 0
-LosesFrames b old (frames octets) new = Hears b.steps old octets new (Err FrameLost)
+LosesFrames b old (frames octets) new = Hears b.steps b.lends old octets new (Err FrameLost)
 LosesFrames b old given new = ⊥
 
 -- memory was refused: nothing has changed, or octets were heard but frames among them were lost

@@ -139,7 +139,7 @@ impl<S: Stoppable> Conversation<S> {
     /// minutes: nothing has changed. Errs with `NoMemory`: nothing has changed but the note of the last accepted block, or
     /// frames that the line brought are lost.
     pub fn take(&mut self, line: &TimedLine) -> Result<(), TakeFault>
-        ensures { TakesOrRefuses (behaviour S.sends S.steps S.shows S.cut_off S.stop_says) self.old line.now self.new result }
+        ensures { TakesOrRefuses (behaviour S.sends S.steps S.lends S.shows S.cut_off S.stop_says) self.old line.now self.new result }
     {
         if self.is_out_of_time(line) {
             return Err(TakeFault::OutOfTime);
@@ -181,14 +181,14 @@ impl<S: Stoppable> Conversation<S> {
 
     /// Stops the call, as a line `stop` does.
     pub fn stop(&mut self)
-        ensures { self.new ≡ stopped_so (behaviour S.sends S.steps S.shows S.cut_off S.stop_says) self.old }
+        ensures { self.new ≡ stopped_so (behaviour S.sends S.steps S.lends S.shows S.cut_off S.stop_says) self.old }
     {
         self.terminal.stop();
     }
 
     /// Stops the call, as a line `stop` does, if it is refused.
     pub fn refuse(&mut self)
-        ensures { self.new ≡ refused_so (behaviour S.sends S.steps S.shows S.cut_off S.stop_says) self.old }
+        ensures { self.new ≡ refused_so (behaviour S.sends S.steps S.lends S.shows S.cut_off S.stop_says) self.old }
     {
         if self.refusal().is_some() {
             self.stop();

@@ -58,9 +58,9 @@ fn unanswered<F>(fault: AnswerFault<F>, number: u64) -> ConverseFault<F>
 
 /// Gives the station the loss of its line, at the time of the last line. Errs if memory is refused.
 fn lose<S: Stoppable>(conversation: &mut Conversation<S>) -> Result<(), AllocError>
-    ensures lost { OnOk result (TakesLine S (behaviour S.sends S.steps S.shows S.cut_off S.stop_says)
+    ensures lost { OnOk result (TakesLine S (behaviour S.sends S.steps S.lends S.shows S.cut_off S.stop_says)
         conversation.old (lost_at conversation.old.clock.now) conversation.new) }
-    ensures refused { OnErr result (RefusesLine S (behaviour S.sends S.steps S.shows S.cut_off S.stop_says)
+    ensures refused { OnErr result (RefusesLine S (behaviour S.sends S.steps S.lends S.shows S.cut_off S.stop_says)
         conversation.old (lost_at conversation.old.clock.now) conversation.new) }
 {
     let lost = TimedLine {
@@ -87,11 +87,11 @@ pub fn converse<S: Stoppable, R: BufRead, K: Keeper<S>, W: Write, F: Follower>(
 ) -> Result<Ending<K::Refused>, ConverseFault<F::Failed>>
     ensures ends { IfOk result (λ ending.
         Converses S K K.Refused
-        (talker (behaviour S.sends S.steps S.shows S.cut_off S.stop_says) (keeping K.keeps K.takes K.tells) S.lends)
+        (talker (behaviour S.sends S.steps S.lends S.shows S.cut_off S.stop_says) (keeping K.keeps K.takes K.tells) S.lends)
         (talk_state (R.remaining reader.old) conversation.old keeper.old (W.contents writer.old))
         (talk_state (R.remaining reader.new) conversation.new keeper.new (W.contents writer.new)) ending) }
     ensures stops { IfErr result (λ fault.
-        StopsSo (talker (behaviour S.sends S.steps S.shows S.cut_off S.stop_says) (keeping K.keeps K.takes K.tells) S.lends)
+        StopsSo (talker (behaviour S.sends S.steps S.lends S.shows S.cut_off S.stop_says) (keeping K.keeps K.takes K.tells) S.lends)
         (talk_state (R.remaining reader.old) conversation.old keeper.old (W.contents writer.old))
         (talk_state (R.remaining reader.new) conversation.new keeper.new (W.contents writer.new)) fault) }
 {

@@ -152,9 +152,9 @@ pub(crate) fn give<S: Stoppable>(
     given: Given<'_>,
 ) -> Result<bool, AllocError>
     ensures ok { IfOk result (λ brought.
-        Gives (behaviour S.sends S.steps S.shows S.cut_off S.stop_says) terminal.old (plain_given given.entry) terminal.new brought) }
+        Gives (behaviour S.sends S.steps S.lends S.shows S.cut_off S.stop_says) terminal.old (plain_given given.entry) terminal.new brought) }
     ensures err { OnErr result (
-        IsRefused (behaviour S.sends S.steps S.shows S.cut_off S.stop_says) terminal.old (plain_given given.entry) terminal.new) }
+        IsRefused (behaviour S.sends S.steps S.lends S.shows S.cut_off S.stop_says) terminal.old (plain_given given.entry) terminal.new) }
     ensures sees { OnOk result (SeesGiven terminal.old.framing (plain_given given.entry) watched.old watched.new) }
     ensures refused { OnErr result ((watched.new ≡ watched.old) ⊎
         SeesGiven terminal.old.framing (plain_given given.entry) watched.old watched.new) }
@@ -202,9 +202,9 @@ fn hear<S: Stoppable>(
     octets: &[u8],
 ) -> Result<bool, AllocError>
     ensures ok { IfOk result (λ brought.
-        Gives (behaviour S.sends S.steps S.shows S.cut_off S.stop_says) terminal.old (frames octets.now) terminal.new brought) }
+        Gives (behaviour S.sends S.steps S.lends S.shows S.cut_off S.stop_says) terminal.old (frames octets.now) terminal.new brought) }
     ensures err { OnErr result (
-        IsRefused (behaviour S.sends S.steps S.shows S.cut_off S.stop_says) terminal.old (frames octets.now) terminal.new) }
+        IsRefused (behaviour S.sends S.steps S.lends S.shows S.cut_off S.stop_says) terminal.old (frames octets.now) terminal.new) }
     ensures sees { OnOk result (Sees terminal.old.framing octets.now watched.old watched.new) }
     ensures refused { OnErr result ((watched.new ≡ watched.old) ⊎ Sees terminal.old.framing octets.now watched.old watched.new) }
 {

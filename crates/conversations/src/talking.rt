@@ -181,10 +181,10 @@ pub fn answer<S: Stoppable, K: Keeper<S>, W: Write, F: Follower>(
     follower: &mut F,
 ) -> Result<Answered<K::Refused>, AnswerFault<F::Failed>>
     ensures ok { IfOk result (λ answer.
-        Answers S K (behaviour S.sends S.steps S.shows S.cut_off S.stop_says) (keeping K.keeps K.takes K.tells) S.lends line.now
+        Answers S K (behaviour S.sends S.steps S.lends S.shows S.cut_off S.stop_says) (keeping K.keeps K.takes K.tells) S.lends line.now
         conversation.old conversation.new keeper.old keeper.new (W.contents writer.old) (W.contents writer.new) (is_none answer.unkept)
         answer.over) }
-    ensures none { IfErr result (λ fault. IsNoAnswer (behaviour S.sends S.steps S.shows S.cut_off S.stop_says)
+    ensures none { IfErr result (λ fault. IsNoAnswer (behaviour S.sends S.steps S.lends S.shows S.cut_off S.stop_says)
         (keeping K.keeps K.takes K.tells) S.lends line.now conversation.old conversation.new keeper.old keeper.new
         (W.contents writer.old) (W.contents writer.new) fault) }
     ensures unchanged { IfErr result (λ fault. is_refused fault ≡ true →

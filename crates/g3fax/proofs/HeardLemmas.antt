@@ -1,7 +1,7 @@
 -- What a terminal has heard, and whether its call is stopped for it.
 use Rattle.std.proofs.Common.{◌≡◌, ◌∙◌, ℕ, Bool, List, Option, Err, ap, refl}
 use Rattle.terminals.specs.Runs.{Hears, TerminalFields}
-use Rattle.terminals.specs.Speaking.{StepOf}
+use Rattle.terminals.specs.Speaking.{BurstsOf, StepOf}
 use Rattle.terminals.specs.Stopping.{stopped}
 use Rattle.terminals.specs.Timed.{BringsIfTaken, SeesOctets, TimedFields}
 use Rattle.terminals.specs.declared.fault.HearFault.TheVariants.{NothingTaken}
@@ -15,12 +15,12 @@ parts_same : {S : Type 0} (old : TimedFields S) (terminal : TerminalFields S) (w
 parts_same old terminal watched brought p q r = rw (p, q, r) refl
 
 -- nothing has changed if no octet was taken
-pub untaken : {S : Type 0} (steps : StepOf S) (shows : S → Shown → Type 0) (old new : TimedFields S) (octets : List ℕ) →
-    Hears steps old.terminal octets new.terminal (Err NothingTaken) →
+pub untaken : {S : Type 0} (steps : StepOf S) (lends : BurstsOf S) (shows : S → Shown → Type 0) (old new : TimedFields S) (octets : List ℕ) →
+    Hears steps lends old.terminal octets new.terminal (Err NothingTaken) →
     SeesOctets S shows old.terminal octets old.watched new.watched (Err NothingTaken) →
     BringsIfTaken old.terminal.framing new.terminal.framing old.brought new.brought (Err NothingTaken) →
     new ≡ record old { terminal = new.terminal; watched = new.watched; brought = new.brought } → new ≡ old
-untaken steps shows old new octets same sees brings rest =
+untaken steps lends shows old new octets same sees brings rest =
     rest ∙ parts_same old new.terminal new.watched new.brought same sees.sees brings
 
 terminal_is : {S : Type 0} (b : Behaviour S) (was now : TerminalFields S) → now.framing ≡ was.framing →

@@ -15,19 +15,19 @@ use Rattle.g3fax.specs.Frames.{longest_content}
 use Rattle.g3fax.specs.Stations.{Behaviour}
 use Rattle.g3fax.specs.Statuses.{ok, no_memory, bad_choice, bad_length, frame_lost}
 
--- The station has taken each signal in the octets, and what they brought was seen. By 9 nothing was taken; by 108 frames in them are lost.
+-- The station has taken each signal in the octets, or passed over it while a burst of its turn was left to be sent; what they brought was seen. By 9 nothing was taken; by 108 frames in them are lost.
 pub record HearsOctets (S : Type 0) (b : Behaviour S) (old : TimedFields S) (octets : List ℕ) (new : TimedFields S) (status : ℕ) : Type 0 where
-  pub done : status ≡ ok → Hears b.steps old.terminal octets new.terminal (Ok tt)
-  pub lost : status ≡ frame_lost → Hears b.steps old.terminal octets new.terminal (Err FrameLost)
+  pub done : status ≡ ok → Hears b.steps b.lends old.terminal octets new.terminal (Ok tt)
+  pub lost : status ≡ frame_lost → Hears b.steps b.lends old.terminal octets new.terminal (Err FrameLost)
   pub sees : status ≢ no_memory → SeesOctets S b.shows old.terminal octets old.watched new.watched (Ok tt)
   pub brings : status ≢ no_memory → Brings old.terminal.framing new.terminal.framing old.brought new.brought
   pub rest : new ≡ record old { terminal = new.terminal; watched = new.watched; brought = new.brought }
   pub kept : status ≡ no_memory → new ≡ old
   pub only : (status ≡ ok) ⊎ ((status ≡ no_memory) ⊎ (status ≡ frame_lost))
 
--- The station has taken the signal that a content says, if it says one, and the content was seen.
+-- The station has taken the signal that a content says, if it says one, or passed over it; and the content was seen.
 pub record HearsContent (S : Type 0) (b : Behaviour S) (old : TimedFields S) (content : List ℕ) (new : TimedFields S) : Type 0 where
-  pub takes : TakesAll b.steps old.terminal.speaking (heard_if (read_content content)) new.terminal.speaking
+  pub takes : TakesAll b.steps b.lends old.terminal.speaking (heard_if (read_content content)) new.terminal.speaking
   pub framing : new.terminal.framing ≡ old.terminal.framing
   pub sees : SeesContent S b.shows old.terminal content old.watched new.watched
   pub rest : new ≡

@@ -60,9 +60,9 @@ fn hear<S: Stoppable>(timed: &mut TimedTerminal<S>, octets: &[u8]) -> u32
 }
 
 /// Hears the next octets of the line, flags and frames, the least significant bit of each first, in pieces of any size. The station takes
-/// the signal of each good frame in them. An answerer that hears a page under the number of the last one, which it can't tell from that one,
-/// stops its call in place of confirming it. Returns `G3_NO_MEMORY` (9) if nothing was taken, and `G3_FRAME_LOST` (108) if memory was
-/// refused and frames in the octets are lost, as on a bad line.
+/// the signal of each good frame in them, or DCN alone while a burst of its turn waits to be sent. An answerer that hears a page under the
+/// number of the last one, which it can't tell from that one, stops its call in place of confirming it. Returns `G3_NO_MEMORY` (9) if
+/// nothing was taken, and `G3_FRAME_LOST` (108) if memory was refused and frames in the octets are lost, as on a bad line.
 #[unsafe(no_mangle)]
 pub extern "C" fn g3_core_terminal_hear(
     alloc: Global,

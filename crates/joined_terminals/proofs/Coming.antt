@@ -26,6 +26,7 @@ use Rattle.stations.specs.declared.limiting.Limits.{Limits}
 use Rattle.stations.specs.declared.turn.Turn.{Turn}
 use Rattle.stations.specs.declared.turn.Turn.TheVariants.{Dis}
 use Rattle.terminals.specs.Runs.{Hears, TerminalFields}
+use Rattle.terminals.specs.Saying.{stoppable_lends}
 use Rattle.terminals.specs.Speaking.{Speaking}
 use Rattle.terminals.specs.Hearing.{HasHeard, PlainInput, contents, heard_of, said}
 use Rattle.terminals.specs.Sending.{IsSent, Sends}
@@ -147,7 +148,7 @@ pub dis_comes : SentBurstsCome → SendingSends → HearingTakes → (document :
     (caller heard : TerminalFields StoppableCallerFields) (answerer : TerminalFields LimitedFields) (speaking : Speaking LimitedFields)
     (sent : SentBurst) → AreNew document wish caps limits caller.speaking answerer.speaking → HasHeard caller.framing [] →
     Sends {E = AllocError} AnswererSide (λ v turn bursts. AnswererLends v.station turn bursts) answerer.speaking speaking (Ok (Some sent)) →
-    Hears CallerMakes caller sent.octets.items heard (Ok tt) → DisComes document wish caps limits
+    Hears CallerMakes stoppable_lends caller sent.octets.items heard (Ok tt) → DisComes document wish caps limits
 dis_comes law sending hearing document wish caps limits caller heard answerer speaking sent begins silent sends hears =
     let j : Joined = at_rest caller.speaking answerer.speaking in
     let s = sending.answerer j speaking sent sends in
@@ -190,7 +191,7 @@ dis_comes law sending hearing document wish caps limits caller heard answerer sp
         heard_before = silent;
         caller = heard;
         result = Ok tt;
-        hears = subst (λ (v : Speaking StoppableCallerFields). Hears CallerMakes (record { framing = caller.framing; speaking = v })
+        hears = subst (λ (v : Speaking StoppableCallerFields). Hears CallerMakes stoppable_lends (record { framing = caller.framing; speaking = v })
             sent.octets.items heard (Ok tt)) (sym same) hears;
         others = [];
         comes = comes.0;

@@ -10,6 +10,7 @@ use Rattle.stations.specs.Stopping.{StoppableCallerFields}
 use Rattle.stations.specs.declared.waiting.Wait.{Wait}
 use Rattle.terminals.specs.Hearing.{HasHeard, PlainInput, check, over, busy}
 use Rattle.terminals.specs.Runs.{Hears, TerminalFields}
+use Rattle.terminals.specs.Saying.{limited_lends, stoppable_lends}
 use Rattle.terminals.specs.Sending.{Sends}
 use Rattle.terminals.specs.Speaking.{Speaking, Takes, is_silent}
 use Rattle.terminals.specs.Stations.{AnswererLends, CallerLends}
@@ -167,14 +168,14 @@ loses_answerer before after is old e =
     (record old { answerer = silenced limited_cut_off old.answerer }, refl, ap (silenced limited_cut_off) e ∙ sym is)
 
 pub hearing_caller : HearingTakes → (before : TerminalFields StoppableCallerFields) (octets : List ℕ)
-    (after : TerminalFields StoppableCallerFields) (result : Result (Unit {0}) HearFault) → Hears CallerMakes before octets after result →
+    (after : TerminalFields StoppableCallerFields) (result : Result (Unit {0}) HearFault) → Hears CallerMakes stoppable_lends before octets after result →
     HappensToHearingCaller before octets after result
 hearing_caller law before octets after result hears old earlier others caller framing heard comes one =
     let fields : TerminalFields StoppableCallerFields = record { framing = old.caller_framing; speaking = old.joined.caller } in
     let is : before ≡ fields =
     ap (λ (f : DeframerState). record { framing = f; speaking = before.speaking }) (sym framing) ∙
     ap (λ (s : Speaking StoppableCallerFields). record { framing = old.caller_framing; speaking = s }) (sym caller) in
-    let now : Hears CallerMakes fields octets after result = subst (λ (b : TerminalFields StoppableCallerFields). Hears CallerMakes b octets after result) is hears in
+    let now : Hears CallerMakes stoppable_lends fields octets after result = subst (λ (b : TerminalFields StoppableCallerFields). Hears CallerMakes stoppable_lends b octets after result) is hears in
     let heard_now : HasHeard old.caller_framing earlier = subst (λ f. HasHeard f earlier) (sym framing) heard in
     let taken = law.caller fields after octets earlier result now heard_now in (
       record old {
@@ -200,14 +201,14 @@ hearing_caller law before octets after result hears old earlier others caller fr
     )
 
 pub hearing_answerer : HearingTakes → (before : TerminalFields LimitedFields) (octets : List ℕ) (after : TerminalFields LimitedFields)
-    (result : Result (Unit {0}) HearFault) → Hears AnswererMakes before octets after result →
+    (result : Result (Unit {0}) HearFault) → Hears AnswererMakes limited_lends before octets after result →
     HappensToHearingAnswerer before octets after result
 hearing_answerer law before octets after result hears old earlier others answerer framing heard comes =
     let fields : TerminalFields LimitedFields = record { framing = old.answerer_framing; speaking = old.joined.answerer } in
     let is : before ≡ fields =
     ap (λ (f : DeframerState). record { framing = f; speaking = before.speaking }) (sym framing) ∙
     ap (λ (s : Speaking LimitedFields). record { framing = old.answerer_framing; speaking = s }) (sym answerer) in
-    let now : Hears AnswererMakes fields octets after result = subst (λ (b : TerminalFields LimitedFields). Hears AnswererMakes b octets after result) is hears in
+    let now : Hears AnswererMakes limited_lends fields octets after result = subst (λ (b : TerminalFields LimitedFields). Hears AnswererMakes limited_lends b octets after result) is hears in
     let heard_now : HasHeard old.answerer_framing earlier = subst (λ f. HasHeard f earlier) (sym framing) heard in
     let taken = law.answerer fields after octets earlier result now heard_now in (
       record old {

@@ -16,8 +16,9 @@ use Rattle.stations.specs.declared.turn.Turn.{Turn}
 use Rattle.stations.specs.declared.turn.Turn.TheVariants.{Silent}
 use Rattle.partial_page.specs.Assembling.{within_frame_size}
 use Rattle.terminals.specs.Hearing.{PlainInput, heard_of, said}
-use Rattle.terminals.specs.Runs.{TakesAll, TakesSome, TerminalFields}
-use Rattle.terminals.specs.Speaking.{Speaking, StepOf, Takes, is_silent}
+use Rattle.terminals.specs.Runs.{HearsOne, TakesAll, TakesSome, TakesUnless, TerminalFields, is_passed}
+use Rattle.terminals.specs.Saying.{limited_lends, stoppable_lends}
+use Rattle.terminals.specs.Speaking.{BurstsOf, Speaking, StepOf, Takes, is_silent}
 use Rattle.terminals.specs.Stopping.{LimitedStepsUnlessCut}
 use Rattle.terminals.specs.declared.fault.HearFault.TheVariants.{NothingTaken, FrameLost}
 use Rattle.joined_terminals.specs.Happening.{AreLeft, FirstComes, Happening, Leads, LinesLose, none, kept, lost}
@@ -28,33 +29,42 @@ use Rattle.joined_terminals.specs.Octets.{HearingTakesBy, TakesSo, Terminals, Te
 use Rattle.joined_terminals.specs.Octets.LineHappening.{caller_hears, answerer_hears, other}
 use Rattle.joined_terminals.specs.Safety.{JoinedAreSafe, TerminalsAreSafe}
 
--- hearing takes the inputs, or loses them
-module _ {S : Type 0} (steps : StepOf S) where
-  all_so : (old : Speaking S) (inputs : List PlainInput) (new : Speaking S) → TakesAll steps old inputs new →
-      (silent : Bool) × TakesSo steps old inputs new silent
-  all_so old [] new h = (true, (h, refl))
-  all_so old (input ∷ inputs) new h =
-      let rest = all_so h.0 inputs new h.2 in
-      (is_silent h.1.turn && rest.0, (h.0, rest.0, inl (h.1, refl), rest.1))
+-- hearing takes the inputs, passes over them, or loses them
+module _ {S : Type 0} (steps : StepOf S) (lends : BurstsOf S) where
+  taken_so : (old : Speaking S) (input : PlainInput) (mid : Speaking S) (sending : Bool) → TakesUnless sending steps old input mid →
+      Takes S steps old input mid ⊎ (mid ≡ old)
+  taken_so old input mid true h = inr h
+  taken_so old input mid false h = inl h
+
+  heard_so : (old : Speaking S) (input : PlainInput) (mid : Speaking S) → HearsOne S steps lends old input mid ⊎ (mid ≡ old) →
+      Takes S steps old input mid ⊎ (mid ≡ old)
+  heard_so old input mid (inl h) = taken_so old input mid (is_passed h.sending input) h.takes
+  heard_so old input mid (inr same) = inr same
 
   one_so : (old : Speaking S) (input : PlainInput) (inputs : List PlainInput) (mid new : Speaking S) → Takes S steps old input mid ⊎ (mid ≡ old) →
       (silent : Bool) × TakesSo steps mid inputs new silent → (silent : Bool) × TakesSo steps old (input ∷ inputs) new silent
   one_so old input inputs mid new (inl takes) rest = (is_silent takes.turn && rest.0, (mid, rest.0, inl (takes, refl), rest.1))
   one_so old input inputs mid new (inr same) rest = (rest.0, (mid, rest.0, inr (same, refl), rest.1))
 
-  some_so : (old : Speaking S) (inputs : List PlainInput) (new : Speaking S) → TakesSome steps old inputs new →
+  all_so : (old : Speaking S) (inputs : List PlainInput) (new : Speaking S) → TakesAll steps lends old inputs new →
+      (silent : Bool) × TakesSo steps old inputs new silent
+  all_so old [] new h = (true, (h, refl))
+  all_so old (input ∷ inputs) new h =
+      one_so old input inputs h.0 new (heard_so old input h.0 (inl h.1)) (all_so h.0 inputs new h.2)
+
+  some_so : (old : Speaking S) (inputs : List PlainInput) (new : Speaking S) → TakesSome steps lends old inputs new →
       (silent : Bool) × TakesSo steps old inputs new silent
   some_so old [] new h = (true, (h, refl))
-  some_so old (input ∷ inputs) new h = one_so old input inputs h.0 new h.1 (some_so h.0 inputs new h.2)
+  some_so old (input ∷ inputs) new h = one_so old input inputs h.0 new (heard_so old input h.0 h.1) (some_so h.0 inputs new h.2)
 
-  hearing_takes_by : HearingTakesBy steps
+  hearing_takes_by : HearingTakesBy steps lends
   hearing_takes_by old new octets before (Ok done) hears heard = all_so old.speaking (heard_of before octets) new.speaking (hears before heard).1
   hearing_takes_by old new octets before (Err FrameLost) hears heard =
       some_so old.speaking (heard_of before octets) new.speaking (hears before heard).1
   hearing_takes_by old new octets before (Err NothingTaken) hears heard = (true, (ap (λ (t : TerminalFields S). t.speaking) hears, refl))
 
 pub hearing_takes : HearingTakes
-hearing_takes = record { caller = hearing_takes_by CallerMakes; answerer = hearing_takes_by AnswererMakes }
+hearing_takes = record { caller = hearing_takes_by CallerMakes stoppable_lends; answerer = hearing_takes_by AnswererMakes limited_lends }
 
 -- some happenings lead from one to another
 pub record Led (old new : Joined) : Type 0 where

@@ -21,8 +21,9 @@ use Rattle.stations.specs.declared.carrier.Carrier.TheVariants.{Training}
 use Rattle.stations.specs.declared.turn.Turn.{Turn}
 use Rattle.terminals.specs.Hearing.{HasHeard, PlainInput, contents, heard_of, said}
 use Rattle.terminals.specs.Runs.{Hears, TerminalFields}
+use Rattle.terminals.specs.Saying.{limited_lends, stoppable_lends}
 use Rattle.terminals.specs.Sending.{IsSent, Sends}
-use Rattle.terminals.specs.Speaking.{Speaking, StepOf, Takes, is_silent}
+use Rattle.terminals.specs.Speaking.{BurstsOf, Speaking, StepOf, Takes, is_silent}
 use Rattle.terminals.specs.Stations.{AnswererLends, CallerLends}
 use Rattle.terminals.specs.Writable.{AreFrames}
 use Rattle.terminals.specs.declared.fault.HearFault.{HearFault}
@@ -120,7 +121,7 @@ pub record AnswererHears (old new : Terminals) : Type 0 where
   pub heard_before : HasHeard old.answerer_framing before
   pub answerer : TerminalFields LimitedFields
   pub result : Result (Unit {0}) HearFault
-  pub hears : Hears AnswererMakes (record { framing = old.answerer_framing; speaking = old.joined.answerer }) octets answerer result
+  pub hears : Hears AnswererMakes limited_lends (record { framing = old.answerer_framing; speaking = old.joined.answerer }) octets answerer result
   pub others : List PlainItem
   pub comes : PieceComes old.joined.to_answerer (given_by result (heard_of before octets)) others
   pub silent : Bool
@@ -141,7 +142,7 @@ pub record CallerHears (old new : Terminals) : Type 0 where
   pub heard_before : HasHeard old.caller_framing before
   pub caller : TerminalFields StoppableCallerFields
   pub result : Result (Unit {0}) HearFault
-  pub hears : Hears CallerMakes (record { framing = old.caller_framing; speaking = old.joined.caller }) octets caller result
+  pub hears : Hears CallerMakes stoppable_lends (record { framing = old.caller_framing; speaking = old.joined.caller }) octets caller result
   pub others : List PlainItem
   pub comes : PieceComes old.joined.to_caller (given_by result (heard_of before octets)) others
   pub one : (first next : PlainSignal) (more : List PlainSignal) → comes.signals ≢ first ∷ next ∷ more
@@ -173,17 +174,18 @@ abbrev pub LeadsTerminals : List LineHappening → Terminals → Terminals → T
 LeadsTerminals [] old new = new ≡ old
 LeadsTerminals (happening ∷ more) old new = (mid : Terminals) × TerminalsMake happening old mid × LeadsTerminals more mid new
 
--- while a terminal hears octets the inputs that it gives its station are taken one after the other, or lost
-abbrev pub HearingTakesBy : {S : Type 0} → StepOf S → Type 0
-HearingTakesBy {S} steps =
+-- while a terminal hears octets the inputs that it gives its station are taken one after the other, or lost: a signal that is passed over
+-- is as one that is lost
+abbrev pub HearingTakesBy : {S : Type 0} → StepOf S → BurstsOf S → Type 0
+HearingTakesBy {S} steps lends =
     (old new : TerminalFields S) (octets before : List ℕ) (result : Result (Unit {0}) HearFault) →
-    Hears steps old octets new result → HasHeard old.framing before →
+    Hears steps lends old octets new result → HasHeard old.framing before →
     (silent : Bool) × TakesSo steps old.speaking (given_by result (heard_of before octets)) new.speaking silent
 
 -- The law: what a terminal takes while it hears octets is what two joined terminals can take.
 pub record HearingTakes : Type 0 where
-  pub caller : HearingTakesBy CallerMakes
-  pub answerer : HearingTakesBy AnswererMakes
+  pub caller : HearingTakesBy CallerMakes stoppable_lends
+  pub answerer : HearingTakesBy AnswererMakes limited_lends
 
 -- The law: what `next_burst` gives is a burst that goes onto the line, and the octets are that burst's.
 pub record SendingSends : Type 0 where

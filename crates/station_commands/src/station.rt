@@ -290,7 +290,7 @@ fn talk<S: Stoppable, K: Keeper<S, Refused = ToolFault>>(
     notes: &mut Notes<'_>,
 ) -> Result<(), Halted>
     ensures halted { IfErr result IsHalt }
-    ensures talks { Talks S K (talker (behaviour S.sends S.steps S.shows S.cut_off S.stop_says) (keeping K.keeps K.takes K.tells) S.lends)
+    ensures talks { Talks S K (talker (behaviour S.sends S.steps S.lends S.shows S.cut_off S.stop_says) (keeping K.keeps K.takes K.tells) S.lends)
         conversation.old keeper.old conversation.new keeper.new result }
 {
     let alloc = context.alloc();
@@ -322,7 +322,7 @@ fn talk_out<S: Stoppable, K: Keeper<S, Refused = ToolFault>>(
 ) -> Result<Option<Halted>, ToolFault>
     ensures halted { IfOk result (λ halted. IfSome halted IsHalt) }
     ensures talks { IfOk result (λ halted. (ended : Result (Unit {0}) HaltedValue)
-        × Talks S K (talker (behaviour S.sends S.steps S.shows S.cut_off S.stop_says) (keeping K.keeps K.takes K.tells) S.lends)
+        × Talks S K (talker (behaviour S.sends S.steps S.lends S.shows S.cut_off S.stop_says) (keeping K.keeps K.takes K.tells) S.lends)
         conversation.old keeper.old conversation.new keeper.new ended
         × (halted ≡ halt_of ended)) }
     ensures fault { IfErr result IsOutside }

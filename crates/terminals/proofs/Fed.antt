@@ -9,7 +9,7 @@ use Rattle.raster.proofs.OctetBits.{bits_of-append}
 use Rattle.hdlc.specs.DeframerState.{DeframerState, IsAfter}
 use Rattle.terminals.specs.Hearing.{contents, new_contents, heard, heard_of, HasHeard}
 use Rattle.terminals.specs.Runs.{TakesAll, TakesSome}
-use Rattle.terminals.specs.Speaking.{Speaking, StepOf}
+use Rattle.terminals.specs.Speaking.{BurstsOf, Speaking, StepOf}
 use Rattle.terminals.specs.Watching.{Sees, SeesBy, SeesOne, saw_all, seen_reading}
 use Rattle.terminals.proofs.Seen.{seen_is_saw}
 use Rattle.terminals.specs.declared.watching.Watched.{Watched}
@@ -37,20 +37,20 @@ octets_taken before piece framing fed has feeds =
     )
 
 pub hears_all :
-    {S : Type 0} (steps : StepOf S) (piece : List ℕ) (framing fed after : DeframerState) (old new : Speaking S) →
-    Feeds framing piece fed → after ≡ record fed { queue = [] } → TakesAll steps old (heard fed.queue) new → (before : List ℕ) →
-    HasHeard framing before → HasHeard after (before ++ piece) × TakesAll steps old (heard_of before piece) new
-hears_all steps piece framing fed after old new feeds is takes before has =
+    {S : Type 0} (steps : StepOf S) (lends : BurstsOf S) (piece : List ℕ) (framing fed after : DeframerState) (old new : Speaking S) →
+    Feeds framing piece fed → after ≡ record fed { queue = [] } → TakesAll steps lends old (heard fed.queue) new → (before : List ℕ) →
+    HasHeard framing before → HasHeard after (before ++ piece) × TakesAll steps lends old (heard_of before piece) new
+hears_all steps lends piece framing fed after old new feeds is takes before has =
     let h = octets_taken before piece framing fed has feeds in
-    (subst (λ f. HasHeard f (before ++ piece)) (sym is) h.0, subst (λ q. TakesAll steps old (heard q) new) h.1 takes)
+    (subst (λ f. HasHeard f (before ++ piece)) (sym is) h.0, subst (λ q. TakesAll steps lends old (heard q) new) h.1 takes)
 
 pub hears_some :
-    {S : Type 0} (steps : StepOf S) (piece : List ℕ) (framing fed after : DeframerState) (old new : Speaking S) →
-    Feeds framing piece fed → after ≡ record fed { queue = [] } → TakesSome steps old (heard fed.queue) new → (before : List ℕ) →
-    HasHeard framing before → HasHeard after (before ++ piece) × TakesSome steps old (heard_of before piece) new
-hears_some steps piece framing fed after old new feeds is takes before has =
+    {S : Type 0} (steps : StepOf S) (lends : BurstsOf S) (piece : List ℕ) (framing fed after : DeframerState) (old new : Speaking S) →
+    Feeds framing piece fed → after ≡ record fed { queue = [] } → TakesSome steps lends old (heard fed.queue) new → (before : List ℕ) →
+    HasHeard framing before → HasHeard after (before ++ piece) × TakesSome steps lends old (heard_of before piece) new
+hears_some steps lends piece framing fed after old new feeds is takes before has =
     let h = octets_taken before piece framing fed has feeds in
-    (subst (λ f. HasHeard f (before ++ piece)) (sym is) h.0, subst (λ q. TakesSome steps old (heard q) new) h.1 takes)
+    (subst (λ f. HasHeard f (before ++ piece)) (sym is) h.0, subst (λ q. TakesSome steps lends old (heard q) new) h.1 takes)
 
 pub sees : {W : Type 0} (saw : SeesOne W) (piece : List ℕ) (framing fed : DeframerState) (old new : W) → Feeds framing piece fed →
     new ≡ saw_all saw old fed.queue → SeesBy saw framing piece old new

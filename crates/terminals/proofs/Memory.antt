@@ -11,10 +11,9 @@ use Rattle.stations.specs.AnswererStep.{Answerer, new_answerer}
 use Rattle.stations.specs.Limits.{OpenIsLimited, max_open_octets, open_octets}
 use Rattle.stations.specs.Runs.{answerer_after}
 use Rattle.partial_page.specs.Frames.{max_page_octets}
-use Rattle.terminals.proofs.After.{answerer_is_after}
+use Rattle.terminals.proofs.After.{answerer_took}
 use Rattle.terminals.specs.Hearing.{contents}
 use Rattle.terminals.specs.Memory.{OneFrameIsKept, OpenPagesAreLimited}
-use Rattle.terminals.specs.StationsAfter.{answerer_inputs}
 
 few_of : (xs : List ℕ) → length (take 302 xs) ≤ 302
 few_of xs = omega (arith, length-take 302 xs)
@@ -35,7 +34,7 @@ one_frame_is_kept framing octets h = (
 
 pub open_pages_are_limited : OpenIsLimited → OpenPagesAreLimited
 open_pages_are_limited limited caps params old new inputs e h =
-    let at : new.station ≡ answerer_after (answerer_inputs inputs) (new_answerer caps params) =
-    answerer_is_after old new inputs h ∙ ap (answerer_after (answerer_inputs inputs)) e in
+    let took = answerer_took old new inputs h in
+    let at : new.station ≡ answerer_after took.0 (new_answerer caps params) = took.1 ∙ ap (answerer_after took.0) e in
     subst (λ (s : Answerer). (open_octets s.frames ≤ max_open_octets) × (length s.octets ≤ max_page_octets)) (sym at)
-    (limited caps params (answerer_inputs inputs))
+    (limited caps params took.0)

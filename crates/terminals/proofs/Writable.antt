@@ -38,10 +38,12 @@ use Rattle.stations.specs.declared.turn.End.{End}
 use Rattle.stations.specs.declared.turn.Turn.{Turn}
 use Rattle.stations.specs.declared.turn.Turn.TheVariants.{Silent, Dis, Training, Cfr, Ftt, Burst, Pps, Mcf, Ppr, Rnr, Rr, Dcn}
 use Rattle.terminals.specs.Hearing.{PlainInput}
+use Rattle.terminals.proofs.After.{heard_keeps}
 use Rattle.terminals.specs.Runs.{TakesAll}
+use Rattle.terminals.specs.Saying.{limited_lends}
 use Rattle.terminals.specs.Sending.{AreBits, AreBitsOf}
-use Rattle.terminals.specs.Speaking.{Speaking, StepOf, is_silent, spoken}
-use Rattle.terminals.specs.Stations.{AnswererSteps, answerer_answers, answerer_takes}
+use Rattle.terminals.specs.Speaking.{BurstsOf, Speaking, StepOf, is_silent, spoken}
+use Rattle.terminals.specs.Stations.{AnswererLends, AnswererSteps, answerer_answers, answerer_takes}
 use Rattle.terminals.specs.Stopping.{LimitedStepsUnlessCut, limited_answers}
 use Rattle.terminals.specs.Writable.{AnswerersCanBeWritten, AnswerersSendWhole, AreFrameOf, AreFrames, CallersCanBeWritten}
 use Rattle.terminals.specs.Writable.{CallersSendWhole}
@@ -305,19 +307,22 @@ spoken_so old station turn p q =
     either_turn (is_silent turn) (record { station = station; turn = old.turn; taken = old.taken })
     (record { station = station; turn = turn; taken = 0 }) p q
 
-kept_so : {S : Type 0} (steps : StepOf S) →
+kept_so : {S : Type 0} (steps : StepOf S) (lends : BurstsOf S) →
     ((old new : S) (input : PlainInput) (turn : Turn) → steps old input new turn → HasWholeMap turn) →
-    (old new : Speaking S) (inputs : List PlainInput) → TakesAll steps old inputs new → HasWholeMap old.turn → HasWholeMap new.turn
-kept_so steps whole old new [] h p = subst (λ s. HasWholeMap s.turn) (sym h) p
-kept_so steps whole old new (input ∷ inputs) h p =
-    let one = whole old.station h.1.station input h.1.turn h.1.steps_so in
-    kept_so steps whole h.0 new inputs h.2
-    (subst (λ s. HasWholeMap s.turn) (sym h.1.is) (spoken_so old h.1.station h.1.turn p one))
+    (old new : Speaking S) (inputs : List PlainInput) → TakesAll steps lends old inputs new → HasWholeMap old.turn →
+    HasWholeMap new.turn
+kept_so steps lends whole old new [] h p = subst (λ s. HasWholeMap s.turn) (sym h) p
+kept_so steps lends whole old new (input ∷ inputs) h p =
+    kept_so steps lends whole h.0 new inputs h.2
+    (heard_keeps (λ s. HasWholeMap s.turn) steps lends old h.0 input h.1 p
+    (λ takes.
+    let one = whole old.station takes.station input takes.turn takes.steps_so in
+    subst (λ s. HasWholeMap s.turn) (sym takes.is) (spoken_so old takes.station takes.turn p one)))
 
 pub kept_maps_are_whole : KeptMapsAreWhole
 kept_maps_are_whole = record {
-  plain = kept_so AnswererSteps maps_are_whole.plain;
-  limited = kept_so (λ was input is turn. LimitedStepsUnlessCut was.cut was input is turn) maps_are_whole.limited;
+  plain = kept_so AnswererSteps AnswererLends maps_are_whole.plain;
+  limited = kept_so (λ was input is turn. LimitedStepsUnlessCut was.cut was input is turn) limited_lends maps_are_whole.limited;
 }
 
 -- ---- bits

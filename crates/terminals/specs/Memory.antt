@@ -9,7 +9,7 @@ use Rattle.stations.specs.Limits.{max_open_octets, open_octets}
 use Rattle.terminals.specs.Hearing.{HasHeard, PlainInput}
 use Rattle.terminals.specs.Runs.{TakesAll}
 use Rattle.terminals.specs.Speaking.{Speaking}
-use Rattle.terminals.specs.Stations.{AnswererSteps}
+use Rattle.terminals.specs.Stations.{AnswererLends, AnswererSteps}
 
 -- law: of octets that were heard a deframer keeps no whole content, and at most the 302 octets of one frame
 abbrev pub OneFrameIsKept : Type 0
@@ -20,5 +20,5 @@ OneFrameIsKept =
 abbrev pub OpenPagesAreLimited : Type 0
 OpenPagesAreLimited =
     (caps : Caps) (params : Params) (old new : Speaking Answerer) (inputs : List PlainInput) →
-    old.station ≡ new_answerer caps params → TakesAll AnswererSteps old inputs new →
+    old.station ≡ new_answerer caps params → TakesAll AnswererSteps AnswererLends old inputs new →
     (open_octets new.station.frames ≤ max_open_octets) × (length new.station.octets ≤ max_page_octets)

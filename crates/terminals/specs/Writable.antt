@@ -15,6 +15,7 @@ use Rattle.stations.specs.declared.turn.Turn.{Turn}
 use Rattle.stations.specs.declared.turn.Turn.TheVariants.{Ppr}
 use Rattle.terminals.specs.Hearing.{PlainInput}
 use Rattle.terminals.specs.Runs.{TakesAll}
+use Rattle.terminals.specs.Saying.{limited_lends}
 use Rattle.terminals.specs.Sending.{IsFrameOf, IsSent}
 use Rattle.terminals.specs.Speaking.{Speaking}
 use Rattle.terminals.specs.Stations.{AnswererLends, AnswererSteps, CallerLends}
@@ -48,11 +49,11 @@ pub record MapsAreWhole : Type 0 where
 -- law: the map of the turn that is kept after inputs has 32 octets, if it had before them
 pub record KeptMapsAreWhole : Type 0 where
   pub plain :
-      (old new : Speaking Answerer) (inputs : List PlainInput) → TakesAll AnswererSteps old inputs new → HasWholeMap old.turn →
+      (old new : Speaking Answerer) (inputs : List PlainInput) → TakesAll AnswererSteps AnswererLends old inputs new → HasWholeMap old.turn →
       HasWholeMap new.turn
   pub limited :
       (old new : Speaking LimitedFields) (inputs : List PlainInput) →
-      TakesAll (λ was input is turn. LimitedStepsUnlessCut was.cut was input is turn) old inputs new → HasWholeMap old.turn →
+      TakesAll (λ was input is turn. LimitedStepsUnlessCut was.cut was input is turn) limited_lends old inputs new → HasWholeMap old.turn →
       HasWholeMap new.turn
 
 -- the bits of an item, which items follow in the turn, with no other case: its frame, or 0 bits

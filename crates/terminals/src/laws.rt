@@ -9,7 +9,7 @@ ghost use Rattle.terminals.specs.InputsTaken.{AnswerersTake, CallersTake};
 ghost use Rattle.terminals.specs.Memory.{OneFrameIsKept, OpenPagesAreLimited};
 ghost use Rattle.terminals.specs.Saying.{AnswerersHangUp, AnswerersLose, AnswerersStop, CallersHangUp, CallersLose, CallersStop};
 ghost use Rattle.terminals.specs.Saying.{TurnsAreLeft, WaitsAreShown};
-ghost use Rattle.terminals.specs.StationsAfter.{AnswererIsAfter, CallerIsAfter};
+ghost use Rattle.terminals.specs.StationsAfter.{AnswererIsAfter, CallerIsAfter, WhatFollowsIsPassed};
 ghost use Rattle.terminals.specs.Stopping.{AnswerersSendDcn, CallersSendDcn};
 ghost use Rattle.terminals.specs.Timed.{TimedAreDue, TimedLimitsHold};
 ghost use Rattle.terminals.specs.Timeouts.{LimitsHold, TimeoutsAreDue};
@@ -27,11 +27,20 @@ pub fn cuts_change_nothing()
     hdlc::laws::good_contents_stay();
 }
 
-/// A station that a terminal has given inputs is where its table leads by what it takes of them.
+/// A station that has heard signals is where its table leads by those that it doesn't pass over: it takes DCN alone while a burst of its turn is left
+/// to be sent.
 pub fn stations_are_after()
     ensures caller { CallerIsAfter }
     ensures answerer { AnswererIsAfter }
 {}
+
+/// No signal but DCN changes a station while a burst of its turn is left to be sent: what follows a turn is passed over. Of CFR, MCF and MCF in
+/// one burst a caller takes the CFR, and confirms nothing.
+pub fn what_follows_is_passed()
+    ensures { WhatFollowsIsPassed }
+{
+    stations::laws::bursts_cut();
+}
 
 /// A wait is over only if the station shows it and its duration has passed since the time that it runs from.
 pub fn waits_pass()

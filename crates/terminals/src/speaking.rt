@@ -1,10 +1,10 @@
 //! A station with the turn that it has to say.
 
 ghost use Rattle.std.specs.Prelude.{◌≡◌, [], List, OnOk, OnErr, drop, true, false};
-ghost use Rattle.signals.specs.Signals.{plain_read};
+ghost use Rattle.signals.specs.Signals.{plain, plain_read};
 ghost use Rattle.stations.specs.Bursts.{PlainBurst};
-ghost use Rattle.terminals.specs.Hearing.{heard, heard_if, plain_input};
-ghost use Rattle.terminals.specs.Runs.{TakesAll, TakesSome};
+ghost use Rattle.terminals.specs.Hearing.{heard, heard_if, plain_input, said};
+ghost use Rattle.terminals.specs.Runs.{HearsOne, TakesAll, TakesSome, is_dcn};
 ghost use Rattle.terminals.specs.Sending.{HasBurst, Sends};
 ghost use Rattle.terminals.specs.Speaking.{AreLent, Takes, is_mcf, is_silent, spoken};
 ghost use Rattle.terminals.specs.Stopping.{hung_up, silenced, stopped};
@@ -43,6 +43,13 @@ fn is_silent(turn: &Turn) -> bool
     ensures { result ≡ is_silent turn.now }
 {
     matches!(turn, Turn::Silent)
+}
+
+/// Returns whether a signal is DCN.
+fn is_dcn(signal: Signal<'_>) -> bool
+    ensures { result ≡ is_dcn (plain signal.entry) }
+{
+    matches!(signal, Signal::Dcn)
 }
 
 impl<S: Station> Speaker<S> {
@@ -127,15 +134,29 @@ impl<S: Station> Speaker<S> {
         bursts.take_next().is_some()
     }
 
+    /// Takes a signal that comes, or passes over it if it isn't DCN and a burst of the turn is left to be sent: the station doesn't listen
+    /// then. `AllocError` if memory is refused; nothing changes.
+    fn hear_signal(&mut self, signal: Signal<'_>) -> Result<(), AllocError>
+        ensures ok { OnOk result
+            (HearsOne S S.steps S.lends self.old (said (plain signal.entry)) self.new) }
+        ensures err { OnErr result (self.new ≡ self.old) }
+    {
+        let sending = self.has_burst();
+        if sending && !is_dcn(signal) {
+            return Ok(());
+        }
+        self.hear(Input::Heard(signal))
+    }
+
     /// The station hears what a content says; nothing if it says no signal. Returns false if memory was refused; nothing has changed.
     pub(crate) fn hear_said(&mut self, said: Result<Signal<'_>, SignalFault>) -> bool
-        ensures heard { result ≡ true → TakesAll S.steps self.old (heard_if (plain_read said.entry)) self.new }
+        ensures heard { result ≡ true → TakesAll S.steps S.lends self.old (heard_if (plain_read said.entry)) self.new }
         ensures lost { result ≡ false → self.new ≡ self.old }
     {
         let Ok(signal) = said else {
             return true;
         };
-        match self.hear(Input::Heard(signal)) {
+        match self.hear_signal(signal) {
             Ok(()) => true,
             Err(_) => false,
         }
@@ -181,8 +202,8 @@ pub(crate) fn hear_waiting<S: Station, W: Watch>(
     watched: &mut Option<Watched>,
     watch: &mut W,
 ) -> bool
-    ensures all { result ≡ true → TakesAll S.steps speaker.old (heard deframer.old.queue) speaker.new }
-    ensures some { TakesSome S.steps speaker.old (heard deframer.old.queue) speaker.new }
+    ensures all { result ≡ true → TakesAll S.steps S.lends speaker.old (heard deframer.old.queue) speaker.new }
+    ensures some { TakesSome S.steps S.lends speaker.old (heard deframer.old.queue) speaker.new }
     ensures watched { watched.new ≡ saw_all seen_reading watched.old deframer.old.queue }
     ensures seen { watch.new ≡ saw_all W.saw watch.old deframer.old.queue }
     ensures taken { deframer.new ≡ record deframer.old { queue = [] } }

@@ -83,11 +83,12 @@ impl<S: Station> Terminal<S> {
     }
 
     /// Hears the next octets of the line, any octets in pieces of any size, the least significant bit of each first.
-    /// The station takes the signal of each good frame, in order; frames with a wrong check sequence, and contents that
-    /// say no signal, are ignored. `NothingTaken` if memory is refused before the octets are taken: nothing has
-    /// changed, and they can be heard again. `FrameLost` if it is refused to a step: a frame is lost, as on a line.
+    /// The station takes the signal of each good frame, in order, but for those that come while a burst of its turn is left to be sent: of
+    /// these it takes DCN alone. Frames with a wrong check sequence, and contents that say no signal, are ignored. `NothingTaken` if memory is
+    /// refused before the octets are taken: nothing has changed, and they can be heard again. `FrameLost` if it is refused to a step: a frame
+    /// is lost, as on a line.
     pub fn hear(&mut self, octets: &[u8]) -> Result<(), HearFault>
-        ensures { Hears S.steps self.old octets.now self.new result }
+        ensures { Hears S.steps S.lends self.old octets.now self.new result }
     {
         let mut nothing = None;
         self.hear_watching(octets, &mut nothing)
@@ -99,7 +100,7 @@ impl<S: Station> Terminal<S> {
         octets: &[u8],
         watched: &mut Option<Watched>,
     ) -> Result<(), HearFault>
-        ensures hears { Hears S.steps self.old octets.now self.new result }
+        ensures hears { Hears S.steps S.lends self.old octets.now self.new result }
         ensures sees { SeesIfTaken self.old.framing octets.now watched.old watched.new result }
     {
         let mut nothing: Option<Watched> = None;
@@ -113,7 +114,7 @@ impl<S: Station> Terminal<S> {
         watched: &mut Option<Watched>,
         watch: &mut W,
     ) -> Result<(), HearFault>
-        ensures hears { Hears S.steps self.old octets.now self.new result }
+        ensures hears { Hears S.steps S.lends self.old octets.now self.new result }
         ensures sees { SeesIfTaken self.old.framing octets.now watched.old watched.new result }
         ensures seen { SeesByIfTaken W.saw self.old.framing octets.now watch.old watch.new result }
     {
@@ -126,15 +127,15 @@ impl<S: Station> Terminal<S> {
         Err(HearFault::FrameLost)
     }
 
-    /// Hears the content of a good frame that was found elsewhere: the station takes the signal that it says, or nothing if it says none, and
-    /// a watch sees it, read once. The octets heard so far, and the count of good frames in them, stay. `AllocError` if memory is refused to
+    /// Hears the content of a good frame that was found elsewhere: the station takes the signal that it says, or nothing if it says none,
+    /// or one that isn't DCN while a burst of its turn is left to be sent; and a watch sees it, read once. The octets heard so far, and the count of good frames in them, stay. `AllocError` if memory is refused to
     /// the step: the frame is lost, as on a line, and was seen.
     pub fn hear_content<W: Watch>(
         &mut self,
         content: &[u8],
         watch: &mut W,
     ) -> Result<(), AllocError>
-        ensures ok { OnOk result (TakesAll S.steps self.old.speaking (heard_if (read_content content.now)) self.new.speaking) }
+        ensures ok { OnOk result (TakesAll S.steps S.lends self.old.speaking (heard_if (read_content content.now)) self.new.speaking) }
         ensures err { OnErr result (self.new ≡ self.old) }
         ensures framing { self.new.framing ≡ self.old.framing }
         ensures seen { watch.new ≡ W.saw watch.old content.now (read_content content.now) }

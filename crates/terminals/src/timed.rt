@@ -139,7 +139,8 @@ impl<S: Stoppable> TimedTerminal<S> {
     /// Hears octets of the line, as `Terminal::hear_watching` does. What is watched is seen in each good frame, by the block that the station
     /// has accepted last; by `NothingTaken` nothing changes.
     pub fn hear(&mut self, octets: &[u8]) -> Result<(), HearFault>
-        ensures hears { Hears S.steps self.old.terminal octets.now self.new.terminal result }
+        ensures hears { Hears S.steps S.lends self.old.terminal octets.now
+            self.new.terminal result }
         ensures sees { SeesOctets S S.shows self.old.terminal octets.now self.old.watched self.new.watched result }
         ensures brings { BringsIfTaken self.old.terminal.framing self.new.terminal.framing self.old.brought self.new.brought result }
         ensures rest { self.new ≡ record self.old { terminal = self.new.terminal; watched = self.new.watched; brought = self.new.brought } }
@@ -155,7 +156,7 @@ impl<S: Stoppable> TimedTerminal<S> {
     /// Hears the content of a good frame that was found elsewhere, as `Terminal::hear_content` does. `AllocError` if memory is refused; nothing
     /// changes.
     pub fn hear_content(&mut self, content: &[u8]) -> Result<(), AllocError>
-        ensures ok { OnOk result (TakesAll S.steps self.old.terminal.speaking (heard_if (read_content content.now))
+        ensures ok { OnOk result (TakesAll S.steps S.lends self.old.terminal.speaking (heard_if (read_content content.now))
             self.new.terminal.speaking) }
         ensures sees { OnOk result (SeesContent S S.shows self.old.terminal content.now self.old.watched self.new.watched) }
         ensures framing { self.new.terminal.framing ≡ self.old.terminal.framing }
@@ -334,7 +335,7 @@ fn hear_noting<S: Stoppable>(
     brought: &mut bool,
     octets: &[u8],
 ) -> Result<(), HearFault>
-    ensures hears { Hears S.steps terminal.old octets.now terminal.new result }
+    ensures hears { Hears S.steps S.lends terminal.old octets.now terminal.new result }
     ensures sees { SeesOctets S S.shows terminal.old octets.now watched.old watched.new result }
     ensures brings { BringsIfTaken terminal.old.framing terminal.new.framing brought.old brought.new result }
 {
@@ -362,7 +363,7 @@ fn hear_content_noting<S: Stoppable>(
     watched: &mut Option<Watched>,
     content: &[u8],
 ) -> Result<(), AllocError>
-    ensures ok { OnOk result (TakesAll S.steps terminal.old.speaking (heard_if (read_content content.now)) terminal.new.speaking) }
+    ensures ok { OnOk result (TakesAll S.steps S.lends terminal.old.speaking (heard_if (read_content content.now)) terminal.new.speaking) }
     ensures sees { OnOk result (SeesContent S S.shows terminal.old content.now watched.old watched.new) }
     ensures framing { terminal.new.framing ≡ terminal.old.framing }
     ensures err { OnErr result ((terminal.new ≡ terminal.old) × (watched.new ≡ watched.old)) }

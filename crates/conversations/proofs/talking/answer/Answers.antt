@@ -65,7 +65,7 @@ pub returns-in_err-over-clause-none : goal.returns-in_err-over-clause-none
 returns-in_err-over-clause-none g c =
     let p = err_from_is_err_and c.from_residual-in_err-over.result c.from_residual-in_err-over.ensures.1 in
     rw (p.1, p.2) (broken_late
-    (behaviour g.S.Station.sends g.S.Station.steps g.S.Stoppable.shows g.S.Stoppable.cut_off g.S.Stoppable.stop_says)
+    (behaviour g.S.Station.sends g.S.Station.steps g.S.Station.lends g.S.Stoppable.shows g.S.Stoppable.cut_off g.S.Stoppable.stop_says)
     (keeping g.K.Keeper.keeps g.K.Keeper.takes g.K.Keeper.tells) g.S.Station.lends c.args.line.now c.args.conversation.now _ c.args.keeper.now
     c.keep-unkept.new.self _ _ c.in_err-over.field-0.0 c.in_err-over.ensures.late (record {
       timed = c.in-Ok.timed;

@@ -16,7 +16,7 @@ returns-in-Err-FrameLost g c =
     c.args.timed.now.watched c.hear.new.self.watched result) is c.hear.ensures.sees in
     record {
       done = λ done. absurd (omega (arith, done));
-      lost = λ lost. subst (λ (result : Result (Unit {0}) HearFault). Hears g.S.Station.steps c.args.timed.now.terminal c.args.octets.now
+      lost = λ lost. subst (λ (result : Result (Unit {0}) HearFault). Hears g.S.Station.steps g.S.Station.lends c.args.timed.now.terminal c.args.octets.now
           c.hear.new.self.terminal result) is c.hear.ensures.hears;
       sees = λ some. record { shown = seen.shown; shows_so = seen.shows_so; sees = seen.sees };
       brings = λ some. subst (λ (result : Result (Unit {0}) HearFault). BringsIfTaken c.args.timed.now.terminal.framing
@@ -36,8 +36,8 @@ returns-in-Err-NothingTaken g c =
       brings = λ some. absurd (some refl);
       rest = c.hear.ensures.rest;
       kept = λ kept.
-          untaken g.S.Station.steps g.S.Stoppable.shows c.args.timed.now c.hear.new.self c.args.octets.now
-          (subst (λ (result : Result (Unit {0}) HearFault). Hears g.S.Station.steps c.args.timed.now.terminal c.args.octets.now
+          untaken g.S.Station.steps g.S.Station.lends g.S.Stoppable.shows c.args.timed.now c.hear.new.self c.args.octets.now
+          (subst (λ (result : Result (Unit {0}) HearFault). Hears g.S.Station.steps g.S.Station.lends c.args.timed.now.terminal c.args.octets.now
           c.hear.new.self.terminal result) is c.hear.ensures.hears)
           (subst (λ (result : Result (Unit {0}) HearFault). SeesOctets _ g.S.Stoppable.shows c.args.timed.now.terminal c.args.octets.now
           c.args.timed.now.watched c.hear.new.self.watched result) is c.hear.ensures.sees)

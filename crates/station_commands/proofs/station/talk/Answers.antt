@@ -109,7 +109,7 @@ returns-in_err-flush-clause-talks g c =
 
 pub loop-lost-preserved : goal.loop-lost-preserved
 loop-lost-preserved g c =
-    subst (λ (n : ℕ). AfterLosses (talker (behaviour g.S.Station.sends g.S.Station.steps g.S.Stoppable.shows g.S.Stoppable.cut_off
+    subst (λ (n : ℕ). AfterLosses (talker (behaviour g.S.Station.sends g.S.Station.steps g.S.Station.lends g.S.Stoppable.shows g.S.Stoppable.cut_off
     g.S.Stoppable.stop_says) (keeping g.K.Keeper.keeps g.K.Keeper.takes g.K.Keeper.tells) g.S.Station.lends) n
     c.args.conversation.now c.args.keeper.now c.converse.new.conversation c.converse.new.keeper) (sym (add-one c.loop-lost._lost)) (
       c.loop-lost.conversation,

@@ -9,10 +9,10 @@ use Rattle.terminals.proofs.speaking.hear_waiting.Goals as goal
 
 pub loop-content-preserved : goal.loop-content-preserved
 loop-content-preserved g c = (
-  next_waits g.S.Station.steps c.args.deframer.now c.loop-content.deframer c.next.follows.lender-at-none c.args.speaker.now
+  next_waits g.S.Station.steps g.S.Station.lends c.args.deframer.now c.loop-content.deframer c.next.follows.lender-at-none c.args.speaker.now
       c.loop-content.speaker c.hear_said-all.new.self c.loop-content.all c.hear_said-all.result c.in-Some.content.now
       c.next.follows.holds-at-none c.in-Some.ensures.some
-      (λ all. subst (λ said. TakesAll g.S.Station.steps c.loop-content.speaker (heard_if said) c.hear_said-all.new.self)
+      (λ all. subst (λ said. TakesAll g.S.Station.steps g.S.Station.lends c.loop-content.speaker (heard_if said) c.hear_said-all.new.self)
       c.read-said.ensures (c.hear_said-all.ensures.heard all))
       c.hear_said-all.ensures.lost c.loop-content.invariant.0,
   next_seen seen_reading c.args.deframer.now c.loop-content.deframer c.next.follows.lender-at-none c.args.watched.now c.loop-content.watched

@@ -6,7 +6,7 @@ use Rattle.terminals.proofs.speaking.hear_waiting.Given as goal
 
 abbrev pub invariant-loop-content : goal.invariant-loop-content
 invariant-loop-content g l =
-    WaitingLeft _ g.S.Station.steps l.initial.deframer l.deframer l.initial.speaker l.speaker l.all
+    WaitingLeft _ g.S.Station.steps g.S.Station.lends l.initial.deframer l.deframer l.initial.speaker l.speaker l.all
     × (saw_all seen_reading l.watched l.deframer.queue ≡ saw_all seen_reading l.initial.watched l.initial.deframer.queue)
     × (saw_all g.W.Watch.saw l.watch l.deframer.queue ≡ saw_all g.W.Watch.saw l.initial.watch l.initial.deframer.queue)
 

@@ -11,7 +11,7 @@ pub returns : goal.returns
 returns g c =
     rw (← c.self.view_is)
     (line_taken
-    (behaviour g.S.Station.sends g.S.Station.steps g.S.Stoppable.shows g.S.Stoppable.cut_off g.S.Stoppable.stop_says)
+    (behaviour g.S.Station.sends g.S.Station.steps g.S.Station.lends g.S.Stoppable.shows g.S.Stoppable.cut_off g.S.Stoppable.stop_says)
     (record {
       terminal = c.self.inside.terminal;
       clock = c.self.inside.clock;
@@ -34,7 +34,7 @@ returns-in_err-brought g c =
     let p = err_from_is_err_and c.from_residual.result c.from_residual.ensures.1 in
     rw (p.1, p.2, ← c.self.view_is)
     (line_refused
-    (behaviour g.S.Station.sends g.S.Station.steps g.S.Stoppable.shows g.S.Stoppable.cut_off g.S.Stoppable.stop_says)
+    (behaviour g.S.Station.sends g.S.Station.steps g.S.Station.lends g.S.Stoppable.shows g.S.Stoppable.cut_off g.S.Stoppable.stop_says)
     (record {
       terminal = c.self.inside.terminal;
       clock = c.self.inside.clock;

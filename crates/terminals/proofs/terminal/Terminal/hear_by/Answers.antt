@@ -4,14 +4,14 @@ use Rattle.terminals.proofs.terminal.Terminal.hear_by.Goals as goal
 pub returns-then-hear_waiting-clause-hears : goal.returns-then-hear_waiting-clause-hears
 returns-then-hear_waiting-clause-hears g c =
     rw (← c.self.view_is)
-    (hears_all g.S.Station.steps c.args.octets.now c.self.inside.deframer c.feed.new.self c.hear_waiting.new.deframer
+    (hears_all g.S.Station.steps g.S.Station.lends c.args.octets.now c.self.inside.deframer c.feed.new.self c.hear_waiting.new.deframer
     c.self.inside.speaker c.hear_waiting.new.speaker c.in_default.ensures.ok c.hear_waiting.ensures.taken
     (c.hear_waiting.ensures.all c.if-hear_waiting.true))
 
 pub returns-clause-hears : goal.returns-clause-hears
 returns-clause-hears g c =
     rw (← c.self.view_is)
-    (hears_some g.S.Station.steps c.args.octets.now c.self.inside.deframer c.feed.new.self c.hear_waiting.new.deframer
+    (hears_some g.S.Station.steps g.S.Station.lends c.args.octets.now c.self.inside.deframer c.feed.new.self c.hear_waiting.new.deframer
     c.self.inside.speaker c.hear_waiting.new.speaker c.in_default.ensures.ok c.hear_waiting.ensures.taken
     c.hear_waiting.ensures.some)
 
