@@ -19,7 +19,7 @@ white="50 34 0A 31 37 32 38 20 31 0A$(seq 216 | sed 's/.*/ 00/' | tr -d '\n')"
 count=0
 # How many runs of the program there are at least, so that cases that go missing are seen.
 least=2700
-for part in common code decode frames identify each made call drive bits diagram words man files reference station bench try readme; do
+for part in common code decode frames identify judge each made call drive bits diagram words man files reference station bench try readme; do
     . "$top/.ci/end_to_end/$part.sh"
 done
 
@@ -43,6 +43,7 @@ for program in "$@"; do
     try_identify
     try_each
     try_several
+    try_judge
     try_made
     try_images
     try_data

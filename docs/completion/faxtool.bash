@@ -10,6 +10,7 @@ _faxtool_options() {
         frames) echo --data --order --pages --salvage --json --diagram --caller --answerer --explain --help ;;
         call) echo --script --lose --spoil --busy --seed --calls --times --code --frame --modems --fine --out --expect --bits --diagram --json --explain --help ;;
         identify) echo --json --explain --help ;;
+        judge) echo --strict --json --explain --help ;;
         station) echo --answer --call --out --code --modems --standard --widest --limit --mode --most-pages --most-octets --most-seconds --refuse --no-refuse --hold --frame --fine --from --t1 --t2 --t4 --t5 --hear --frames --late --trace --trace-frames --json --explain --help ;;
         version) echo --proof --help ;;
         *) echo --help ;;
@@ -50,7 +51,7 @@ _faxtool() {
     local word=${COMP_WORDS[COMP_CWORD]} before=${COMP_WORDS[COMP_CWORD - 1]} values
     COMPREPLY=()
     if [ "$COMP_CWORD" = 1 ]; then
-        mapfile -t COMPREPLY < <(compgen -W "code show decode frames call identify station version help --help" -- "$word")
+        mapfile -t COMPREPLY < <(compgen -W "code show decode frames call identify judge station version help --help" -- "$word")
         return
     fi
     # bash takes --code=mh as three words
@@ -60,7 +61,7 @@ _faxtool() {
     if [ -n "$values" ]; then
         mapfile -t COMPREPLY < <(compgen -W "$values" -- "$word")
     elif [ "${COMP_WORDS[1]}" = help ]; then
-        mapfile -t COMPREPLY < <(compgen -W "code show decode frames call identify station version" -- "$word")
+        mapfile -t COMPREPLY < <(compgen -W "code show decode frames call identify judge station version" -- "$word")
     elif [ "${word#-}" != "$word" ]; then
         mapfile -t COMPREPLY < <(compgen -W "$(_faxtool_options "${COMP_WORDS[1]}")" -- "$word")
     else

@@ -4,6 +4,7 @@ pub mod Damaged
 pub mod Each
 pub mod Files
 pub mod FoundForms
+pub mod Judge
 pub mod Laws
 pub mod Listed
 pub mod Names

@@ -7,6 +7,7 @@ mod damaged;
 pub mod decode;
 pub mod frames;
 pub mod identify;
+pub mod judge;
 pub mod laws;
 pub mod names;
 pub mod show;

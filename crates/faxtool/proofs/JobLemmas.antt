@@ -12,7 +12,7 @@ use Rattle.clap.proofs.WalkLemmas.{one_text-rows}
 use Rattle.calls.specs.Losses.{IsRate}
 use Rattle.calls.specs.declared.losses.BadLine.{BadLine}
 use Rattle.std.specs.Prelude.{Bool, false, is_some, not, option_map, string_bytes, ◌&&◌}
-use Rattle.faxtool.specs.declared.command.Command.TheVariants.{Answer, Call, Captures, Code, Decode, Dial, Drive, Each, Frames, Identify, Several, Show, Version}
+use Rattle.faxtool.specs.declared.command.Command.TheVariants.{Answer, Call, Captures, Code, Decode, Dial, Drive, Each, Frames, Identify, Judge, Several, Show, Version}
 use Rattle.faxtool.specs.declared.args.words.Outcome.{Outcome}
 use Rattle.faxtool.specs.declared.args.words.Outcome.TheVariants.{Done, Fault, Incomplete, Words}
 use Rattle.faxtool.specs.Jobs.{AreOptionsIn, HasNoCommand, HasNoOptions, IsFaxtool, IsOutcomeOf, IsRefusalOf, IsWidthIn, ReadsNumber}
@@ -192,6 +192,16 @@ call_is_identify e =
     let bad : 99 ≡ 105 = ap (λ (t : Text). slice_index t 0) e in
     absurd (omega (arith, bad))
 
+show_is_judge : codes "show" ≡ codes "judge" → ⊥
+show_is_judge e =
+    let bad : 115 ≡ 106 = ap (λ (t : Text). slice_index t 0) e in
+    absurd (omega (arith, bad))
+
+call_is_judge : codes "call" ≡ codes "judge" → ⊥
+call_is_judge e =
+    let bad : 99 ≡ 106 = ap (λ (t : Text). slice_index t 0) e in
+    absurd (omega (arith, bad))
+
 -- without a width there is no command for `show`
 pub no_width : (rows : List Row) → ((n : ℕ) → IsWidthIn rows n → ⊥) → HasNoCommand (Some (codes "show", rows))
 no_width rows none (Code command) (others, e, is) = show_is_code (some_name (codes "show") (codes "code") rows others e)
@@ -213,6 +223,8 @@ no_width rows none (Call command) (others, e, is) =
     show_is_call (some_name (codes "show") (codes "call") rows others e)
 no_width rows none (Drive command) (others, e, is) =
     show_is_call (some_name (codes "show") (codes "call") rows others e)
+no_width rows none (Judge command) (others, e, is) =
+    show_is_judge (some_name (codes "show") (codes "judge") rows others e)
 no_width rows none (Answer command) (others, e, is) =
     show_is_station (some_name (codes "show") (codes "station") rows others e)
 no_width rows none (Dial command) (others, e, is) =
@@ -243,6 +255,8 @@ no_options rows none (Call command) (others, e, is) =
 no_options rows none (Drive command) (others, e, is) =
     none command.options (subst (λ (xs : List Row). AreOptionsIn xs command.options) (sym (some_rows (codes "call") (codes "call") rows others e))
     is.options_are)
+no_options rows none (Judge command) (others, e, is) =
+    call_is_judge (some_name (codes "call") (codes "judge") rows others e)
 no_options rows none (Answer command) (others, e, is) =
     call_is_station (some_name (codes "call") (codes "station") rows others e)
 no_options rows none (Dial command) (others, e, is) =
@@ -302,6 +316,8 @@ no_line rows open_end none (Call command) (others, e, is) =
     cc
 no_line rows open_end none (Drive command) (others, e, is) =
     none command.line (subst (λ (xs : List Row). IsLineIn xs command.line) (sym (some_rows (codes "call") (codes "call") rows others e)) is.line_is)
+no_line rows open_end none (Judge command) (others, e, is) =
+    call_is_judge (some_name (codes "call") (codes "judge") rows others e)
 no_line rows open_end none (Answer command) (others, e, is) =
     call_is_station (some_name (codes "call") (codes "station") rows others e)
 no_line rows open_end none (Dial command) (others, e, is) =
@@ -334,6 +350,8 @@ no_times rows open_end none (Call command) (others, e, is) =
     cc
 no_times rows open_end none (Drive command) (others, e, is) =
     none command.times (subst (λ (xs : List Row). IsTimesIn xs command.times) (sym (some_rows (codes "call") (codes "call") rows others e)) is.times_is)
+no_times rows open_end none (Judge command) (others, e, is) =
+    call_is_judge (some_name (codes "call") (codes "judge") rows others e)
 no_times rows open_end none (Answer command) (others, e, is) =
     call_is_station (some_name (codes "call") (codes "station") rows others e)
 no_times rows open_end none (Dial command) (others, e, is) =
@@ -360,6 +378,11 @@ frames_is_station e =
 frames_is_version : codes "frames" ≡ codes "version" → ⊥
 frames_is_version e =
     let bad : 102 ≡ 118 = ap (λ (t : Text). slice_index t 0) e in
+    absurd (omega (arith, bad))
+
+frames_is_judge : codes "frames" ≡ codes "judge" → ⊥
+frames_is_judge e =
+    let bad : 102 ≡ 106 = ap (λ (t : Text). slice_index t 0) e in
     absurd (omega (arith, bad))
 
 -- where the rows before gaps are wanted and no folder is given, there is no command for `frames`
@@ -396,6 +419,8 @@ no_folder rows alone wanted none (Call command) (others, e, is) =
     call_is_frames (sym (some_name (codes "frames") (codes "call") rows others e))
 no_folder rows alone wanted none (Drive command) (others, e, is) =
     call_is_frames (sym (some_name (codes "frames") (codes "call") rows others e))
+no_folder rows alone wanted none (Judge command) (others, e, is) =
+    frames_is_judge (some_name (codes "frames") (codes "judge") rows others e)
 no_folder rows alone wanted none (Answer command) (others, e, is) =
     frames_is_station (some_name (codes "frames") (codes "station") rows others e)
 no_folder rows alone wanted none (Dial command) (others, e, is) =

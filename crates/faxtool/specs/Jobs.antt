@@ -35,7 +35,7 @@ use Rattle.station_commands.specs.declared.station.given.GivenWaits.{GivenWaits}
 use Rattle.command_files.specs.declared.files.parts.Rights.{Rights}
 use Rattle.command_files.specs.declared.files.parts.Rights.TheVariants.{Mode, Private}
 use Rattle.faxtool.specs.declared.command.Command.{Command}
-use Rattle.faxtool.specs.declared.command.Command.TheVariants.{Answer, Call, Captures, Code, Decode, Dial, Drive, Each, Frames, Identify, Several, Show, Version}
+use Rattle.faxtool.specs.declared.command.Command.TheVariants.{Answer, Call, Captures, Code, Decode, Dial, Drive, Each, Frames, Identify, Judge, Several, Show, Version}
 use Rattle.faxtool.specs.declared.args.words.Request.{Request}
 use Rattle.faxtool.specs.declared.args.words.Outcome.{Outcome}
 use Rattle.faxtool.specs.declared.args.words.Outcome.TheVariants.{Done, Fault, Incomplete, Words}
@@ -247,6 +247,11 @@ page_app codings orders = with_subcommand (with_subcommand (with_subcommand empt
 abbrev pub identify_app : App
 identify_app = with_explain (with_rule (with_rule (new_app (codes "identify")) (flag_rule (codes "json"))) (files_rule (codes "file")))
 
+-- `judge`: readings count or not, records or not, and the file of the log
+abbrev pub judge_app : App
+judge_app = with_explain (with_rule (with_rule (with_rule (new_app (codes "judge")) (flag_rule (codes "strict"))) (flag_rule (codes "json")))
+    (file_rule (codes "log")))
+
 -- `version`, with `--proof`
 abbrev pub version_app : App
 version_app = with_rule (new_app (codes "version")) (flag_rule (codes "proof"))
@@ -256,10 +261,11 @@ abbrev pub with_calls : App → ValueParser → ValueParser → ValueParser → 
 with_calls app codings orders sizes modems ends =
     with_subcommand (with_subcommand app (frames_app orders).top) (call_app codings sizes modems ends).top
 
--- and with the command that tries files, the one that is one end of a call, and `version`
+-- and with the command that tries files, the one that judges a log, the one that is one end of a call, and `version`
 abbrev pub with_later : App → ValueParser → ValueParser → ValueParser → ValueParser → App
 with_later app codings sizes modems widths =
-    with_subcommand (with_subcommand (with_subcommand app identify_app.top) (station_app codings sizes modems widths).top) version_app.top
+    with_subcommand (with_subcommand (with_subcommand (with_subcommand app identify_app.top) judge_app.top)
+    (station_app codings sizes modems widths).top) version_app.top
 
 -- the parser takes these names and no other text
 abbrev pub TakesNames : ValueParser → List Text → Type 0
@@ -764,6 +770,13 @@ pub record IsDialOf (rows : List Row) (options : CallOptions) (from : ℕ) (wait
   pub input_is : first_of (codes "in") rows ≡ Some input
   pub apart : bytes_eq input (codes "-") ≡ false
 
+-- the values of the command `judge` are those that are asked for
+pub record IsJudgeOf (rows : List Row) (form : ListForm) (strict : Bool) (input : Text) : Type 0 where
+  pub form_is : form ≡ list_form (is_named (codes "true") (first_of (codes "json") rows))
+      (is_named (codes "true") (first_of (codes "explain") rows))
+  pub strict_is : strict ≡ is_named (codes "true") (first_of (codes "strict") rows)
+  pub input_is : first_of (codes "log") rows ≡ Some input
+
 -- the command that a name of one and its values give
 abbrev pub IsCommandOf : Option (Text × List Row) → Command → Type 0
 IsCommandOf met (Code command) = (rows : List Row)
@@ -800,6 +813,9 @@ IsCommandOf met (Drive command) = (rows : List Row)
     × (met ≡ Some (codes "call", rows))
     × IsDriveOf rows command.line command.times command.options (option_map string_bytes command.out) (option_map string_bytes command.bits) command.normal
     (option_map string_bytes command.diagram) (string_bytes command.input)
+IsCommandOf met (Judge command) = (rows : List Row)
+    × (met ≡ Some (codes "judge", rows))
+    × IsJudgeOf rows command.form command.strict (string_bytes command.input)
 IsCommandOf met (Answer command) = (rows : List Row)
     × (met ≡ Some (codes "station", rows))
     × IsAnswerOf rows command.caps command.limit command.holds command.limits command.refuses command.waits (string_bytes command.out) command.rights
@@ -867,6 +883,7 @@ HasWidth (Identify command) = Unit {0}
 HasWidth (Several command) = Unit {0}
 HasWidth (Call command) = Unit {0}
 HasWidth (Drive command) = Unit {0}
+HasWidth (Judge command) = Unit {0}
 HasWidth (Answer command) = Unit {0}
 HasWidth (Dial command) = Unit {0}
 HasWidth (Version command) = Unit {0}

@@ -6,6 +6,7 @@ use Rattle.commands.specs.Captured.{CapturesGives, FramesGives}
 use Rattle.commands.specs.Each.{EachGives}
 use Rattle.commands.specs.Files.{captures_files, code_files, decode_files, drive_files, each_files, frames_files, identify_files}
 use Rattle.commands.specs.Files.{script_files, several_files, show_files}
+use Rattle.commands.specs.Judge.{JudgeGives, judge_files}
 use Rattle.commands.specs.Runs.{CodeGives, DecodeGives, DriveGives, IdentifyGives, ScriptGives, ShowGives, VersionGives}
 use Rattle.commands.specs.Several.{SeveralGives}
 use Rattle.station_commands.specs.Files.{answer_files, dial_files}
@@ -13,7 +14,7 @@ use Rattle.station_commands.specs.Talks.{AnswerGives, DialGives}
 use Rattle.faxtool.specs.Apart.{AreNamedApart, SaysNotApart}
 use Rattle.faxtool.specs.declared.command.Command.{Command}
 use Rattle.faxtool.specs.declared.command.Command.TheVariants.{Answer, Call, Captures, Code, Decode, Dial, Drive, Each, Frames, Identify}
-use Rattle.faxtool.specs.declared.command.Command.TheVariants.{Several, Show, Version}
+use Rattle.faxtool.specs.declared.command.Command.TheVariants.{Judge, Several, Show, Version}
 use Rattle.command_files.specs.declared.command.Completeness.{Completeness}
 use Rattle.command_files.specs.declared.command.Completeness.TheVariants.{Lacking, Whole}
 use Rattle.faults.specs.Faults.{IsOutside}
@@ -41,6 +42,7 @@ Ran (Identify command) outcome = Gave (identify_files command) IdentifyGives out
 Ran (Several command) outcome = Gave (several_files command) (SeveralGives command) outcome
 Ran (Call command) outcome = Gave (script_files command) (ScriptGives command) outcome
 Ran (Drive command) outcome = Gave (drive_files command) (DriveGives command) outcome
+Ran (Judge command) outcome = Gave (judge_files command) (JudgeGives command) outcome
 Ran (Answer command) outcome = Gave (answer_files command) (AnswerGives command) outcome
 Ran (Dial command) outcome = Gave (dial_files command) (DialGives command) outcome
 Ran (Version command) outcome = Gave [] VersionGives outcome

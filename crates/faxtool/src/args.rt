@@ -3,6 +3,7 @@
 pub(crate) mod captures_words;
 pub(crate) mod each_words;
 pub(crate) mod fault_table;
+pub(crate) mod judge_words;
 pub(crate) mod parser;
 pub(crate) mod station_words;
 pub(crate) mod table;

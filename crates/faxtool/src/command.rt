@@ -9,6 +9,7 @@ use commands::frames::FramesCommand;
 use commands::frames::two_captures::CapturesCommand;
 use commands::identify::IdentifyCommand;
 use commands::identify::several::SeveralCommand;
+use commands::judge::JudgeCommand;
 use commands::show::ShowCommand;
 use commands::version::VersionCommand;
 use station_commands::{AnswerCommand, DialCommand};
@@ -36,6 +37,8 @@ pub enum Command {
     Call(ScriptCommand),
     /// Runs a call over a bad line and prints its transcript; or many, and prints a line for each and a table.
     Drive(DriveCommand),
+    /// Prints each frame of a call's log that breaks a rule.
+    Judge(JudgeCommand),
     /// Runs an answerer by lines of text.
     Answer(AnswerCommand),
     /// Runs a caller by lines of text.
@@ -58,6 +61,7 @@ impl Command {
             | Command::Identify(_)
             | Command::Call(_)
             | Command::Drive(_)
+            | Command::Judge(_)
             | Command::Answer(_)
             | Command::Dial(_)
             | Command::Version(_) => &[],

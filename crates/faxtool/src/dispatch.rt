@@ -51,6 +51,7 @@ fn run_one(command: &Command, asked: Asked<'_>) -> Outcome
         Command::Several(command) => run_command(command, asked),
         Command::Call(command) => run_command(command, asked),
         Command::Drive(command) => run_command(command, asked),
+        Command::Judge(command) => run_command(command, asked),
         Command::Answer(command) => run_command(command, asked),
         Command::Dial(command) => run_command(command, asked),
         Command::Version(command) => run_command(command, asked),

@@ -2,7 +2,8 @@
 
 ghost use Rattle.std.specs.Prelude.{};
 
-use captures::frames_engine;
+use call_logs::{Tally, judge_log};
+use captures::{ListForm, frames_engine};
 use faults::ToolFault;
 use hdlc::{Deframer, write_frame};
 use partial_page::{BlockFault, BlockStore, Blocks};
@@ -69,4 +70,11 @@ pub fn confirmed_too_early() -> Option<Rule> {
         signal: Signal::Mcf,
     };
     referee::broken(mcf, &[])
+}
+
+/// What `faxtool judge` writes of a log, and its counts.
+pub fn judge_text(alloc: Global, log: &[u8]) -> Result<(Vec<u8>, Result<Tally, u64>), ToolFault> {
+    let mut text = Vec::new(alloc);
+    let judged = judge_log(alloc, log, ListForm::Plain, &mut text)?;
+    Ok((text, judged))
 }

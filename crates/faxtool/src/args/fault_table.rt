@@ -29,5 +29,5 @@ pub const FAULTS: &str =
   29  a file reads as no page in any way that is tried, and begins as no known format
   30  at a line: not a command of a script, or a wrong count or blank
   31  at a line: none that a station knows, or its time runs back
-  32  a file of pages has more than 134217728 octets, or a script more than 16777216
+  32  a file of pages has more than 134217728 octets, or a script or a log more than 16777216
 Status 2: the words are not a command. With --explain a second line says which file it is, where and why.";

@@ -595,6 +595,29 @@ const STATION_ARGUMENTS: &[Argument<'static>] = &[
     EXPLAIN,
 ];
 
+const JUDGE_ARGUMENTS: &[Argument<'static>] = &[
+    Argument {
+        id: "strict",
+        help: "Ends with status 1 also where a rule is broken that can be read otherwise, a reading",
+        ..FLAG
+    },
+    Argument {
+        id: "json",
+        help: "Writes each line as an object of JSON, for programs",
+        ..FLAG
+    },
+    Argument {
+        id: "log",
+        shown: &["LOG"],
+        help: "The file of the log, a line `T caller HEX` or `T answerer HEX` for each frame; - is standard input",
+        ..FILE
+    },
+    Argument {
+        help: "Says why a rule is one, on a line after that of a frame; and explains a fault in words too",
+        ..EXPLAIN
+    },
+];
+
 const VERSION_ARGUMENTS: &[Argument<'static>] = &[Argument {
     id: "proof",
     help: "Prints the kit that the program is proved with, as `rt version` names it",
@@ -635,11 +658,16 @@ static CALL_COMMANDS: [Entry<'static>; 2] = [
 ];
 
 /// The last commands.
-static LATER_COMMANDS: [Entry<'static>; 3] = [
+static LATER_COMMANDS: [Entry<'static>; 4] = [
     Entry {
         name: "identify",
         about: "Prints as which format a file begins, and by which code, order and width it reads as a page",
         arguments: IDENTIFY_ARGUMENTS,
+    },
+    Entry {
+        name: "judge",
+        about: "Prints each frame in the log of a call that breaks a rule of T.30",
+        arguments: JUDGE_ARGUMENTS,
     },
     Entry {
         name: "station",

@@ -16,6 +16,7 @@ use crate::args::captures_words::{captures_command, has_captures};
 use crate::args::each_words::{
     each_command, form_in, has_half_form, has_more, is_for_many, several_command,
 };
+use crate::args::judge_words::judge_command;
 use crate::args::parser::{command_alone, entry_named, faxtool_command};
 use crate::args::station_words::station_command;
 use crate::args::unfit::Unfit;
@@ -169,6 +170,9 @@ fn command_in(alloc: Global, matches: &ArgMatches<'_>) -> Result<Result<Command,
     }
     if let Some(inner) = matches.subcommand_matches("identify") {
         return identify_command(alloc, inner);
+    }
+    if let Some(inner) = matches.subcommand_matches("judge") {
+        return judge_command(alloc, inner);
     }
     if let Some(inner) = matches.subcommand_matches("station") {
         return station_command(alloc, inner);
