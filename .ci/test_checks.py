@@ -116,8 +116,8 @@ def documents():
         assert not list(check(full))
         yield refuses(f"a word too many in {name}", check, full, {**full, name: (most + 1) * "word "}, f"{name} has {most + 1} words")
         yield refuses(f"a bar of a table too many in {name}", check, full, {**full, name: most * "word " + "|"}, f"{name} has {most + 1} words")
-    words = {f"docs/{number}.md": 1000 * "word " for number in range(33)}
-    yield refuses("a word too many in all", check, words, {**words, "docs/USING.md": "word\n"}, "the documents have 33001 words")
+    words = {f"docs/{number}.md": 1000 * "word " for number in range(34)}
+    yield refuses("a word too many in all", check, words, {**words, "docs/USING.md": "word\n"}, "the documents have 34001 words")
 
 
 def tables():

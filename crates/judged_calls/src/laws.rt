@@ -28,7 +28,7 @@ pub fn silent_after_dcn()
     stations::laws::always_answered();
 }
 
-/// Over every such schedule a PPR asks for a frame of its block, and marks each number beyond it.
+/// Over every such schedule a PPR asks for a frame of its block, and its bits for numbers beyond the block are 1.
 pub fn pprs_ask()
     ensures something { RuleIsKeptOfPages AsksNothing }
     ensures beyond { RuleIsKeptOfPages BadMap }
