@@ -143,7 +143,7 @@ links c++ $(flags Libs)
 where="as it is"
 if [ "$(id -u)" = 0 ] && command -v chroot ldd > /dev/null; then
     root=$work/root
-    mkdir -p "$root/lib64" "$root/lib"
+    mkdir -p "$root/lib64" "$root/lib" "$root/tmp"
     cp "$work/static" "$work/shared" "$work/prefix/lib/libg3fax.so.0" "$data/page.pbm" "$root/"
     cp /lib64/ld-linux-x86-64.so.2 "$root/lib64/"
     cp "$(ldd "$work/shared" | sed -n 's/.*libc.so.6 => \([^ ]*\).*/\1/p')" "$root/lib/"

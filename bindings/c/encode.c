@@ -48,8 +48,9 @@ int main(int argc, char **argv)
 {
     if (argc != 5) return fprintf(stderr, "usage: encode IN.pbm OUT mh|mmr msb|lsb\n"), 2;
     g3_code code = {.coding = strcmp(argv[3], "mh") ? G3_MMR : G3_MH, .order = strcmp(argv[4], "msb") ? G3_LSB_FIRST : G3_MSB_FIRST};
-    FILE *from = fopen(argv[1], "rb"), *to = from == NULL ? NULL : tmpfile();
-    if (to == NULL) return perror(argv[1]), 1;
+    FILE *from = fopen(argv[1], "rb"), *to = tmpfile();
+    if (from == NULL) return perror(argv[1]), 1;
+    if (to == NULL) return perror("a temporary file"), 1;
     g3_status status = encode(from, &code, to);
     fclose(from);
     if (status != G3_OK) return fprintf(stderr, "encode: %s\n", g3_status_text(status)), fclose(to), 1;
