@@ -21,7 +21,7 @@ try_man() {
         zsh -n "$top/docs/completion/_faxtool" 2> "$work/error" || fails "the completion for zsh"
     fi
     if command -v fish > /dev/null; then
-        fishes "code show decode frames call identify station version help" ""
+        fishes "code show decode frames call identify judge station version help" ""
         fishes "mh mmr t4 t6" "code --code "
         fishes "v27 v27v29 v29" "station --modems v2"
         fishes "--data --explain --help --pages" "frames --"

@@ -263,12 +263,12 @@ try_completion() {
         echo "end to end: no bash, so the completion wasn't tried"
         return
     fi
-    completes "code show decode frames call identify station version help --help" ""
+    completes "code show decode frames call identify judge station version help --help" ""
     completes "code call" c
     gives 2 --help
     commands=$(sed -n 's/^  \([a-z][a-z]*\)  .*/\1/p' "$work/error")
-    [ "$(echo $commands)" = "code show decode frames call identify station version help" ] || fails "--help has other commands: $commands"
-    for command in code show decode frames call identify station version; do
+    [ "$(echo $commands)" = "code show decode frames call identify judge station version help" ] || fails "--help has other commands: $commands"
+    for command in code show decode frames call identify judge station version; do
         gives 2 "$command" --help
         options=$(sed -n 's/^  *\(-h, \)\{0,1\}\(--[a-z0-9-]*\).*/\2/p' "$work/error" | sort)
         [ -n "$options" ] || fails "$command --help has no options"
@@ -331,7 +331,7 @@ try_version() {
 # Each command's help lists its options, however it is asked for. What is wrong with a command's words ends in the help to try, that of
 # the command, and a usage line in it is the command's; the program's own ends in the program's.
 try_helps() {
-    for command in code show decode frames call identify station version; do
+    for command in code show decode frames call identify judge station version; do
         refuses "$command" --help
         cp "$work/error" "$work/wanted"
         grep -q "^Usage: [^ ]* $command " "$work/wanted" || fails "$command --help has no usage"
