@@ -24,7 +24,10 @@ try_man() {
         fishes "code show decode frames call identify judge station version help" ""
         fishes "mh mmr t4 t6" "code --code "
         fishes "v27 v27v29 v29" "station --modems v2"
-        fishes "--data --explain --help --pages" "frames --"
+        for command in code show decode frames call identify judge station version; do
+            gives 2 "$command" --help
+            fishes "$(sed -n 's/^  *\(-h, \)\{0,1\}\(--[a-z0-9-]*\).*/\2/p' "$work/error")" "$command --"
+        done
     fi
 }
 
