@@ -110,7 +110,13 @@ class Trial:
             self.before = self.before or files_of(folder)
             words = [self.program, *self.case.words.split()]
             env = {**self.env, "CALLS_LOG": str(log), **env}
-            ran = subprocess.run(words, cwd=folder, input=self.case.lines, capture_output=True, timeout=60, env=env)
+            # all lines lie in the pipe before the program begins, so how many calls read them is no matter of time
+            lines, to = os.pipe()
+            os.set_blocking(to, False)
+            assert os.write(to, self.case.lines) == len(self.case.lines)
+            os.close(to)
+            with open(lines, "rb") as given:
+                ran = subprocess.run(words, cwd=folder, stdin=given, capture_output=True, timeout=60, env=env)
             found = log.read_text().replace(f"{folder}/", "").replace(str(folder), ".").splitlines() if log.exists() else []
             calls = [line.split("\t") for line in found]
             return Left(ran.returncode, ran.stdout.decode(), ran.stderr.decode(), calls, files_of(folder))
@@ -136,7 +142,7 @@ class Trial:
         at, call, file, error = failure
         number = {"HALF": 0, "FULL": 0, "LOST": -2}.get(error) or getattr(errno, error, 0)
         full = {"CALLS_FULL": str(errno.ENOSPC)} if error == "FULL" else {}
-        # how many calls read the lines from the pipe is a matter of time, so another call may have this number
+        # how many calls a run makes may still be a matter of time, so another call may have this number
         for _ in range(MOST_TRIES):
             left = self.run(CALLS_AT=str(at), CALLS_ERROR=str(number), **full)
             if len(left.calls) >= at and left.calls[at - 1][0] == call and same_file(left.calls[at - 1][1]) == same_file(file):
