@@ -18,7 +18,8 @@ from pathlib import Path
 
 TOP = Path(__file__).resolve().parent.parent
 PROCESSORS = sorted(os.sched_getaffinity(0))
-ENDS = re.compile(r"^rt: (\w+)(: its tests are)? (proved|NOT PROVED.*)$")
+# How `rt ci` says that a crate, or its tests, are proved, by this run or by an earlier one, or that they aren't.
+ENDS = re.compile(r"^rt: (\w+)(: its tests are)? (proved|is kept: .*|NOT PROVED.*)$")
 
 
 def read_crates():
@@ -93,14 +94,19 @@ class Gate:
         ended = ENDS.match(line)
         if not ended:
             return said + [line]
-        if ended[3] != "proved":
+        is_proved = not ended[3].startswith("NOT")
+        if not is_proved:
             print("".join(said), end="")
         self.say(line.removeprefix("rt: ").rstrip())
-        if ended[3] == "proved" and not ended[2]:
-            with self.changed:
-                self.proved.add(ended[1])
-                self.changed.notify_all()
+        if is_proved and not ended[2]:
+            self.have({ended[1]})
         return []
+
+    def have(self, names):
+        """Notes that these crates are proved and built."""
+        with self.changed:
+            self.proved |= names
+            self.changed.notify_all()
 
     def run_all(self):
         """Runs `rt ci` to its end, and says what its last lines are."""
@@ -110,6 +116,9 @@ class Gate:
         print("".join(said), end="", flush=True)
         if run.wait():
             self.fail("rt ci")
+        else:
+            # also those of which it said so in other words: nothing may wait for ever
+            self.have(set(self.crates))
 
     def next(self):
         """The first of what waits that has all that it needs; None if nothing is left, or something has failed."""
