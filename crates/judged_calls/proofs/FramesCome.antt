@@ -5,6 +5,8 @@ use Rattle.std.proofs.lemmas.Bool.{eq-eqb, le-ltb}
 use Rattle.signals.specs.Signals.{PlainSignal, dis, dcs, cfr, ftt, fcd, rcp, pps, ppr, mcf, rnr, rr, dcn, other}
 use Rattle.signals.specs.Agreement.{allowed}
 use Rattle.signals.specs.declared.mark.Mark.{Mark}
+use Rattle.signals.specs.declared.params.Caps.{Caps}
+use Rattle.signals.specs.declared.params.Wish.{Wish}
 use Rattle.signals.specs.declared.signal.PageEnd.{PageEnd}
 use Rattle.signals.specs.declared.signal.PageEnd.TheVariants.{Null, Mps, Eom, Eop}
 use Rattle.signals.specs.declared.signal.Side.TheVariants.{Caller as CallerSide, Answerer as AnswererSide}
@@ -13,9 +15,9 @@ use Rattle.partial_page.specs.Store.{bit_of, has_frame, frame_of, no_frames}
 use Rattle.raster.specs.Pages.{PagePixels}
 use Rattle.stations.proofs.PprMaps.{bit_in_map}
 use Rattle.stations.specs.Blocks.{Block}
-use Rattle.stations.specs.Inputs.{CallerInput, AnswererInput, PlainItem, framed, checked, timeout, t5, t1, t2, is_busy, hears, listens, trains}
+use Rattle.stations.specs.Inputs.{CallerInput, AnswererInput, PlainItem, framed, checked, t1, t2, is_busy, listens, trains}
 use Rattle.stations.specs.Laws.{Each}
-use Rattle.stations.specs.Layers.{within_page_limit, page_read, is_good_training}
+use Rattle.stations.specs.Layers.{Document, within_page_limit, page_read, is_good_training}
 use Rattle.stations.specs.CallerStep.{Caller, caller_step, caller_items, blocks_of}
 use Rattle.stations.specs.AnswererStep.{Answerer, AnswererAnswer, answerer_step, answerer_items, unless_answerer_ended, answerer_table, accepts, stores}
 use Rattle.stations.specs.AnswererStep.{takes_block, is_repeated, is_clear, answers_pps}
@@ -27,13 +29,10 @@ use Rattle.stations.specs.declared.turn.Turn.{Turn}
 use Rattle.stations.specs.declared.turn.Turn.TheVariants as turn
 use Rattle.line_sim.proofs.Lists.{either, get_within}
 use Rattle.line_sim.proofs.Stores.{none_held, put_holds}
-use Rattle.line_sim.specs.Entries.{unless_lost, heard, listened}
 use Rattle.line_sim.specs.Headline.{LineHolds}
-use Rattle.line_sim.specs.Line.{World, Outcome, Done, Nothing, InputLost, Cut, sent, happens, new_world, caller_sends, answerer_sends, run}
-use Rattle.line_sim.specs.Line.{caller_acts, answerer_acts, delivers_to_answerer, delivers_to_caller, spoiled, after_first}
+use Rattle.line_sim.specs.Line.{World, Outcome, Done, Nothing, InputLost, Cut, sent, new_world, caller_sends, answerer_sends}
+use Rattle.line_sim.specs.Line.{caller_acts, answerer_acts, spoiled}
 use Rattle.line_sim.specs.LineFacts.{LineFacts, SaysBlock, MayReachAnswerer, MayReachCaller, frame_at, Phase}
-use Rattle.line_sim.specs.declared.event.Event.{Event}
-use Rattle.line_sim.specs.declared.event.Event.TheVariants as event
 use Rattle.referee.proofs.Numbers.{nowhere}
 use Rattle.referee.specs.Frames.{asked, holds, is_within}
 use Rattle.referee.specs.History.{PlainSaid, look}
@@ -45,7 +44,8 @@ use Rattle.referee.specs.declared.rule.Rule.TheVariants.{NotCome}
 use Rattle.judged_calls.proofs.PprsAsk.{OfCaller, caller_is, PprBy, PprFits, IsCheck, step_fits, counted_last, few_frames}
 use Rattle.judged_calls.proofs.OwnSignals.{each_append, sent_each}
 use Rattle.judged_calls.proofs.AfterDcn.{sent_none, caller_sends_are}
-use Rattle.judged_calls.specs.SaidCalls.{and_said, caller_speaks, answerer_speaks, speaks, event_speaks, said_in, Keeps, RuleIsKeptOfPages}
+use Rattle.judged_calls.proofs.Events.{ToAnswerer, PartsKeep, Any, all_any, run_keeps}
+use Rattle.judged_calls.specs.SaidCalls.{and_said, caller_speaks, answerer_speaks, Keeps, RuleIsKeptOfPages}
 
 -- ---- the caller
 
@@ -53,7 +53,7 @@ use Rattle.judged_calls.specs.SaidCalls.{and_said, caller_speaks, answerer_speak
 abbrev pub May : List PlainSaid → ℕ → Type 0
 May before n = (begun : Bool) → look (tell (MayHave n)) begun before ≡ true
 
-may_stay : (n : ℕ) (signal : PlainSignal) (before : List PlainSaid) → OfCaller (framed signal) → May before n →
+pub may_stay : (n : ℕ) (signal : PlainSignal) (before : List PlainSaid) → OfCaller (framed signal) → May before n →
     May (record { by = CallerSide; signal = signal } ∷ before) n
 may_stay n (dis caps) before own h = absurd own
 may_stay n (dcs params) before own h = λ begun. h (begun || false)
@@ -270,11 +270,11 @@ step_grows s input = at s.ending
 
 -- ---- a PPR
 
-or_true : (a : Bool) → (a || true) ≡ true
+pub or_true : (a : Bool) → (a || true) ≡ true
 or_true true = refl
 or_true false = refl
 
-and_false : (a : Bool) → (a && false) ≡ false
+pub and_false : (a : Bool) → (a && false) ≡ false
 and_false true = refl
 and_false false = refl
 
@@ -297,7 +297,7 @@ not_come frames last before held =
         ap (λ b. left && (is_within n before && not b)) may ∙ (ap (λ b. left && b) (and_false (is_within n before)) ∙ and_false left)
 
 -- a frame that is kept isn't asked for
-not_asked : (frames : Frames) (last n : ℕ) (octets : List ℕ) → n < 256 → n ≤ last → frame_of frames n ≡ Some octets →
+pub not_asked : (frames : Frames) (last n : ℕ) (octets : List ℕ) → n < 256 → n ≤ last → frame_of frames n ≡ Some octets →
     bit_of (ppr_map frames last) n ≡ false
 not_asked frames last n octets within up is =
     bit_in_map frames last n within ∙ (ap (λ b. b || not (has_frame frames n)) (le-ltb last n up) ∙ ap (λ f. not (is_some f)) is)
@@ -477,7 +477,7 @@ turn_comes turn.Dcn w next outcome before needs h =
     record { under = tt; held = k.0; come = k.1 }
 
 -- an MCF leaves no frame kept: by the facts of the line after it
-last_of : {A : Type 0} (P : A → Type 0) (xs : List A) (x : A) → Each P (xs ++ x ∷ []) → P x
+pub last_of : {A : Type 0} (P : A → Type 0) (xs : List A) (x : A) → Each P (xs ++ x ∷ []) → P x
 last_of P [] x h = h.0
 last_of P (y ∷ xs) x h = last_of P xs x h.1
 
@@ -556,101 +556,48 @@ given_frame w f (other octet) before may under = tt
 given_check : (w : World) (f : LineFacts w) → w.caller.state ≡ WaitCfr → w.answerer.frames ≡ no_frames
 given_check w f is = (subst (λ state. Phase state w.caller f.accepted w.answerer) is f.stations.phase).1.none_open
 
--- ---- one event
+-- ---- a world and what was said in it
 
-to_answerer : (w : World) (f : LineFacts w) (outcome : Outcome) (items : List PlainItem) (before : List PlainSaid) →
-    LineFacts (delivers_to_answerer w Done items) → Each (MayReachAnswerer w.caller f.accepted) items → Each (Under before) items → Comes w before →
-    Comes (delivers_to_answerer w outcome items) (speaks w outcome None (unless_lost outcome (listened items)) before)
-to_answerer w f Done [] before after may under h = h
-to_answerer w f Nothing [] before after may under h = h
-to_answerer w f InputLost [] before after may under h = h
-to_answerer w f (Cut made) [] before after may under h = h
-to_answerer w f Done (framed signal ∷ items) before after may under h =
-    answerer_comes (record w { to_answerer = items }) Done (listens signal) before after (given_frame w f signal before may.0 under.0) (record { under = under.1; held = h.held; come = h.come })
-to_answerer w f Nothing (framed signal ∷ items) before after may under h =
-    answerer_comes (record w { to_answerer = items }) Nothing (listens signal) before after (given_frame w f signal before may.0 under.0) (record { under = under.1; held = h.held; come = h.come })
-to_answerer w f InputLost (framed signal ∷ items) before after may under h = record { under = under.1; held = h.held; come = h.come }
-to_answerer w f (Cut made) (framed signal ∷ items) before after may under h =
-    answerer_comes (record w { to_answerer = items }) (Cut made) (listens signal) before after (given_frame w f signal before may.0 under.0) (record { under = under.1; held = h.held; come = h.come })
-to_answerer w f Done (checked octets ∷ items) before after may under h =
-    answerer_comes (record w { to_answerer = items }) Done (trains octets) before after (given_check w f may.0) (record { under = under.1; held = h.held; come = h.come })
-to_answerer w f Nothing (checked octets ∷ items) before after may under h =
-    answerer_comes (record w { to_answerer = items }) Nothing (trains octets) before after (given_check w f may.0) (record { under = under.1; held = h.held; come = h.come })
-to_answerer w f InputLost (checked octets ∷ items) before after may under h = record { under = under.1; held = h.held; come = h.come }
-to_answerer w f (Cut made) (checked octets ∷ items) before after may under h =
-    answerer_comes (record w { to_answerer = items }) (Cut made) (trains octets) before after (given_check w f may.0) (record { under = under.1; held = h.held; come = h.come })
+abbrev pub AllUnder : List PlainSaid → List PlainItem → Type 0
+AllUnder before items = Each (Under before) items
 
-to_caller : (w : World) (outcome : Outcome) (items : List PlainItem) (before : List PlainSaid) → Comes w before →
-    Comes (delivers_to_caller w outcome items) (speaks w outcome (unless_lost outcome (heard items)) (unless_lost outcome None) before)
-to_caller w Done [] before h = h
-to_caller w Nothing [] before h = h
-to_caller w InputLost [] before h = h
-to_caller w (Cut made) [] before h = h
-to_caller w Done (framed signal ∷ items) before h = caller_comes (record w { to_caller = items }) Done (hears signal) before (record { under = h.under; held = h.held; come = h.come })
-to_caller w Done (checked octets ∷ items) before h = record { under = h.under; held = h.held; come = h.come }
-to_caller w Nothing (framed signal ∷ items) before h = caller_comes (record w { to_caller = items }) Nothing (hears signal) before (record { under = h.under; held = h.held; come = h.come })
-to_caller w Nothing (checked octets ∷ items) before h = record { under = h.under; held = h.held; come = h.come }
-to_caller w InputLost (framed signal ∷ items) before h = record { under = h.under; held = h.held; come = h.come }
-to_caller w InputLost (checked octets ∷ items) before h = record { under = h.under; held = h.held; come = h.come }
-to_caller w (Cut made) (framed signal ∷ items) before h = caller_comes (record w { to_caller = items }) (Cut made) (hears signal) before (record { under = h.under; held = h.held; come = h.come })
-to_caller w (Cut made) (checked octets ∷ items) before h = record { under = h.under; held = h.held; come = h.come }
-
-rest_under : (before : List PlainSaid) (items : List PlainItem) → Each (Under before) items → Each (Under before) (after_first items)
-rest_under before [] h = tt
-rest_under before (item ∷ items) h = h.1
+given_by : (w : World) (f : LineFacts w) (input : AnswererInput) (rest : List PlainItem) (before : List PlainSaid) →
+    ToAnswerer input w.to_answerer rest → AllUnder before w.to_answerer → GivenFrame w.answerer input before × AllUnder before rest
+given_by w f (listens signal) rest before is under =
+    let may = subst (Each (MayReachAnswerer w.caller f.accepted)) is f.to_answerer in
+    let all = subst (AllUnder before) is under in
+    (given_frame w f signal before may.0 all.0, all.1)
+given_by w f (trains octets) rest before is under =
+    (given_check w f (subst (Each (MayReachAnswerer w.caller f.accepted)) is f.to_answerer).0, (subst (AllUnder before) is under).1)
+given_by w f t1 rest before is under = (tt, subst (AllUnder before) is under)
+given_by w f t2 rest before is under = (tt, subst (AllUnder before) is under)
+given_by w f (is_busy busy) rest before is under = (tt, subst (AllUnder before) is under)
 
 spoiled_under : (before : List PlainSaid) (items : List PlainItem) → Each (Under before) items → Each (Under before) (spoiled items)
 spoiled_under before [] h = tt
 spoiled_under before (framed signal ∷ items) h = h
 spoiled_under before (checked octets ∷ items) h = h
 
-event_comes : (w : World) → ((more : List (Event × Outcome)) → LineFacts (run more w)) → (e : Event) (outcome : Outcome) (before : List PlainSaid) → Comes w before →
-    Comes (happens w e outcome) (event_speaks w e outcome before)
-event_comes w facts e Nothing before h = h
-event_comes w facts event.DeliverToAnswerer Done before h =
-    to_answerer w (facts []) Done w.to_answerer before (facts ((event.DeliverToAnswerer, Done) ∷ [])) (facts []).to_answerer h.under h
-event_comes w facts event.DeliverToCaller Done before h = to_caller w Done w.to_caller before h
-event_comes w facts event.LoseToAnswerer Done before h = record { under = rest_under before w.to_answerer h.under; held = h.held; come = h.come }
-event_comes w facts event.LoseToCaller Done before h = record { under = h.under; held = h.held; come = h.come }
-event_comes w facts event.Spoil Done before h = record { under = spoiled_under before w.to_answerer h.under; held = h.held; come = h.come }
-event_comes w facts event.CallerTimeout Done before h = caller_comes w Done timeout before h
-event_comes w facts event.CallerT5 Done before h = caller_comes w Done t5 before h
-event_comes w facts event.AnswererT1 Done before h = answerer_comes w Done t1 before (facts ((event.AnswererT1, Done) ∷ [])) tt h
-event_comes w facts event.AnswererT2 Done before h = answerer_comes w Done t2 before (facts ((event.AnswererT2, Done) ∷ [])) tt h
-event_comes w facts (event.Busy busy) Done before h = answerer_comes w Done (is_busy busy) before (facts (((event.Busy busy), Done) ∷ [])) tt h
-event_comes w facts event.DeliverToAnswerer InputLost before h =
-    to_answerer w (facts []) InputLost w.to_answerer before (facts ((event.DeliverToAnswerer, Done) ∷ [])) (facts []).to_answerer h.under h
-event_comes w facts event.DeliverToCaller InputLost before h = to_caller w InputLost w.to_caller before h
-event_comes w facts event.LoseToAnswerer InputLost before h = record { under = rest_under before w.to_answerer h.under; held = h.held; come = h.come }
-event_comes w facts event.LoseToCaller InputLost before h = record { under = h.under; held = h.held; come = h.come }
-event_comes w facts event.Spoil InputLost before h = record { under = spoiled_under before w.to_answerer h.under; held = h.held; come = h.come }
-event_comes w facts event.CallerTimeout InputLost before h = h
-event_comes w facts event.CallerT5 InputLost before h = h
-event_comes w facts event.AnswererT1 InputLost before h = h
-event_comes w facts event.AnswererT2 InputLost before h = h
-event_comes w facts (event.Busy busy) InputLost before h = h
-event_comes w facts event.DeliverToAnswerer (Cut made) before h =
-    to_answerer w (facts []) (Cut made) w.to_answerer before (facts ((event.DeliverToAnswerer, Done) ∷ [])) (facts []).to_answerer h.under h
-event_comes w facts event.DeliverToCaller (Cut made) before h = to_caller w (Cut made) w.to_caller before h
-event_comes w facts event.LoseToAnswerer (Cut made) before h = record { under = rest_under before w.to_answerer h.under; held = h.held; come = h.come }
-event_comes w facts event.LoseToCaller (Cut made) before h = record { under = h.under; held = h.held; come = h.come }
-event_comes w facts event.Spoil (Cut made) before h = record { under = spoiled_under before w.to_answerer h.under; held = h.held; come = h.come }
-event_comes w facts event.CallerTimeout (Cut made) before h = caller_comes w (Cut made) timeout before h
-event_comes w facts event.CallerT5 (Cut made) before h = caller_comes w (Cut made) t5 before h
-event_comes w facts event.AnswererT1 (Cut made) before h = answerer_comes w (Cut made) t1 before (facts ((event.AnswererT1, Done) ∷ [])) tt h
-event_comes w facts event.AnswererT2 (Cut made) before h = answerer_comes w (Cut made) t2 before (facts ((event.AnswererT2, Done) ∷ [])) tt h
-event_comes w facts (event.Busy busy) (Cut made) before h = answerer_comes w (Cut made) (is_busy busy) before (facts (((event.Busy busy), Done) ∷ [])) tt h
+pub comes_parts : PartsKeep Comes LineFacts Any
+comes_parts = record {
+  caller = λ w rest outcome input before fine f after is h.
+      caller_comes (record w { to_caller = rest }) outcome input before (record { under = h.under; held = h.held; come = h.come });
+  answerer = λ w rest outcome input before fine f after is h.
+      let given = given_by w f input rest before is h.under in
+      answerer_comes (record w { to_answerer = rest }) outcome input before after given.0
+      (record { under = given.1; held = h.held; come = h.come });
+  lost_to_caller = λ w item rest before is h. record { under = h.under; held = h.held; come = h.come };
+  lost_to_answerer = λ w item rest before is h.
+      record { under = (subst (AllUnder before) is h.under).1; held = h.held; come = h.come };
+  spoil = λ w before h. record { under = spoiled_under before w.to_answerer h.under; held = h.held; come = h.come };
+}
 
-run_comes : (steps : List (Event × Outcome)) (w : World) (before : List PlainSaid) → ((more : List (Event × Outcome)) → LineFacts (run more w)) →
-    Comes w before → Keeps NotCome (said_in steps w before)
-run_comes [] w before facts h = h.come
-run_comes (step ∷ steps) w before facts h =
-    run_comes steps (happens w step.0 step.1) (event_speaks w step.0 step.1 before) (λ more. facts (step ∷ more))
-    (event_comes w facts step.0 step.1 before h)
+pub comes_first : (document : Document) (wish : Wish) (caps : Caps) →
+    Comes (new_world document wish caps) (record { by = AnswererSide; signal = dis caps } ∷ [])
+comes_first document wish caps = record { under = tt; held = λ n o e. absurd (none_held no_frames n o refl e); come = (refl, tt) }
 
 -- the law
 pub told_have_come : LineHolds → RuleIsKeptOfPages NotCome
 told_have_come holds_facts document wish caps steps full =
-    run_comes steps (new_world document wish caps) (record { by = AnswererSide; signal = dis caps } ∷ [])
-    (λ more. holds_facts document wish caps more full)
-    (record { under = tt; held = λ n o e. absurd (none_held no_frames n o refl e); come = (refl, tt) })
+    (run_keeps Comes LineFacts Any comes_parts steps (new_world document wish caps) (record { by = AnswererSide; signal = dis caps } ∷ [])
+    (all_any steps) (λ more. holds_facts document wish caps more full) (comes_first document wish caps)).come

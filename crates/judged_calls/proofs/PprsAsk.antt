@@ -334,7 +334,7 @@ missing_below frames (suc count) h = at (is_whole frames count) refl (missing_be
     at true is earlier = (count, omega arith, sym (ap (λ b. b && has_frame frames count) is) ∙ h)
     at false is earlier = let found = earlier is in (found.0, omega (arith, found.1), found.2)
 
-missing_one : (frames : Frames) (last : ℕ) → all_there frames last ≡ false → (n : ℕ) × (n < suc last) × (has_frame frames n ≡ false)
+pub missing_one : (frames : Frames) (last : ℕ) → all_there frames last ≡ false → (n : ℕ) × (n < suc last) × (has_frame frames n ≡ false)
 unfolding all_there
 missing_one frames last h = missing_below frames (suc last) h
 

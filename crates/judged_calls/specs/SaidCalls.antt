@@ -1,5 +1,5 @@
 -- What a tap on the line sees of a run of the two stations, and the law that none of it breaks a rule, for one rule.
-use Rattle.std.specs.Prelude.{◌≡◌, false, List, [], ◌∷◌, Option, Some, None}
+use Rattle.std.specs.Prelude.{◌≡◌, false, true, List, [], ◌∷◌, Option, Some, None}
 use Rattle.signals.specs.Signals.{dis}
 use Rattle.signals.specs.declared.params.Caps.{Caps}
 use Rattle.signals.specs.declared.params.Wish.{Wish}
@@ -11,10 +11,10 @@ use Rattle.stations.specs.Layers.{Document, IsFullPage}
 use Rattle.stations.specs.CallerStep.{Caller, caller_step, caller_items}
 use Rattle.stations.specs.AnswererStep.{Answerer, answerer_step, answerer_items}
 use Rattle.line_sim.specs.Entries.{input_to_caller, input_to_answerer, unless_lost}
-use Rattle.line_sim.specs.Line.{World, Outcome, Nothing, sent, happens, new_world}
+use Rattle.line_sim.specs.Line.{World, Outcome, Done, Nothing, sent, happens, new_world}
 use Rattle.line_sim.specs.declared.event.Event.{Event}
 use Rattle.referee.specs.History.{PlainSaid}
-use Rattle.referee.specs.Rules.{breaks}
+use Rattle.referee.specs.Rules.{breaks, is_clean}
 use Rattle.referee.specs.declared.rule.Rule.{Rule}
 
 -- frames among items are said by a station, after what was said before; the latest comes first, and a training check is no frame
@@ -69,3 +69,20 @@ abbrev pub RuleIsKeptOfPages : Rule → Type 0
 RuleIsKeptOfPages rule =
     (document : Document) (wish : Wish) (caps : Caps) (steps : List (Event × Outcome)) → Each IsFullPage document →
     Keeps rule (call_said document wish caps steps)
+
+-- an event of which all was done: no growth was refused
+abbrev pub IsWhole : Event × Outcome → Type 0
+IsWhole step = step.1 ≡ Done
+
+-- The same, where no growth is refused. A caller whose burst is cut short for want of memory counts frames that it never sent.
+abbrev pub RuleIsKeptWithMemory : Rule → Type 0
+RuleIsKeptWithMemory rule =
+    (document : Document) (wish : Wish) (caps : Caps) (steps : List (Event × Outcome)) → Each IsFullPage document → Each IsWhole steps →
+    Keeps rule (call_said document wish caps steps)
+
+-- The law: no frame of a call of the two stations breaks any rule, whatever the line loses or spoils, whichever timers run out and however
+-- busy the answerer is, where no growth is refused.
+abbrev pub NoRuleIsBroken : Type 0
+NoRuleIsBroken =
+    (document : Document) (wish : Wish) (caps : Caps) (steps : List (Event × Outcome)) → Each IsFullPage document → Each IsWhole steps →
+    is_clean (call_said document wish caps steps) ≡ true

@@ -1,7 +1,8 @@
 //! The laws: of each rule that it keeps, that no call of the two stations breaks it. Nothing runs.
 
-ghost use Rattle.judged_calls.specs.SaidCalls.{RuleIsKept, RuleIsKeptOfPages};
+ghost use Rattle.judged_calls.specs.SaidCalls.{NoRuleIsBroken, RuleIsKept, RuleIsKeptOfPages, RuleIsKeptWithMemory};
 ghost use Rattle.referee.specs.declared.rule.Rule.TheVariants.{
+  AsksAgain,
   AsksNothing,
   BadLength,
   BadMap,
@@ -9,10 +10,19 @@ ghost use Rattle.referee.specs.declared.rule.Rule.TheVariants.{
   NewData,
   NoBurst,
   NoCommand,
+  NotAskedFor,
   NotBusy,
   NotCome,
+  NotOffered,
+  NotRepeated,
+  NotSentAgain,
   NotTrained,
+  NotWhole,
   OutOfOrder,
+  RcpCount,
+  Uncounted,
+  WrongCount,
+  WrongCounts,
   WrongSide,
 };
 
@@ -77,4 +87,86 @@ pub fn frames_have_lengths()
     ensures { RuleIsKeptOfPages BadLength }
 {
     line_sim::laws::headline();
+}
+
+/// Over every such schedule a DCS asks for what a DIS of the call offers.
+pub fn offers_are_met()
+    ensures { RuleIsKept NotOffered }
+{
+    stations::laws::signals_hold();
+    stations::laws::answerers_keep();
+    signals::laws::lowered_is_allowed();
+}
+
+/// Over every such schedule an MCF comes only if each frame of its block was sent, and sent again since a PPR asked for it.
+pub fn mcfs_are_whole()
+    ensures { RuleIsKeptOfPages NotWhole }
+{
+    stations::laws::answerers_keep();
+    line_sim::laws::headline();
+}
+
+/// Over every such schedule a burst that answers a PPR has no frame for which the PPR doesn't ask.
+pub fn frames_are_asked_for()
+    ensures { RuleIsKeptOfPages NotAskedFor }
+{
+    line_sim::laws::headline();
+}
+
+/// Over every such schedule in which no growth is refused, a PPS counts the frames of its block that were sent, all of them and no others,
+/// and says the same of a block each time.
+pub fn blocks_are_counted()
+    ensures unsent { RuleIsKeptWithMemory Uncounted }
+    ensures all { RuleIsKeptWithMemory WrongCount }
+    ensures again { RuleIsKeptWithMemory NotRepeated }
+{
+    stations::laws::answerers_keep();
+    line_sim::laws::headline();
+}
+
+/// Over every such schedule in which no growth is refused, a burst has each frame that its PPR asks for, and three RCPs end it.
+pub fn bursts_are_whole()
+    ensures frames { RuleIsKeptWithMemory NotSentAgain }
+    ensures rcps { RuleIsKeptWithMemory RcpCount }
+{
+    line_sim::laws::headline();
+}
+
+/// Over every such schedule in which no growth is refused, a PPR asks for no frame that the answerer has told as come.
+pub fn frames_stay_told()
+    ensures { RuleIsKeptWithMemory AsksAgain }
+{
+    stations::laws::answerers_keep();
+    line_sim::laws::headline();
+}
+
+/// Over every such schedule in which no growth is refused, the counts of page and block in a PPS come after those of the block before.
+pub fn counts_go_on()
+    ensures { RuleIsKeptWithMemory WrongCounts }
+{
+    stations::laws::answerers_keep();
+    stations::laws::marks();
+    line_sim::laws::headline();
+}
+
+/// No frame that the two stations say breaks any of the 22 rules, whatever is lost or spoiled, where no growth is refused.
+pub fn no_rule_is_broken()
+    ensures { NoRuleIsBroken }
+{
+    own_signals();
+    silent_after_dcn();
+    offers_are_met();
+    answers_have_commands();
+    bursts_are_let();
+    frames_have_lengths();
+    frames_are_asked_for();
+    data_stay();
+    bursts_are_whole();
+    blocks_are_counted();
+    counts_go_on();
+    mcfs_are_whole();
+    frames_come();
+    frames_stay_told();
+    pprs_ask();
+    busy_are_asked();
 }
