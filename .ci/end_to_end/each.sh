@@ -48,7 +48,7 @@ each/image: no fax: PBM\neach/tiff: no fax: TIFF\neach/zeros: not read: identify
     gives 1 decode --salvage --code mh --width 315 each/cut each/one.pbm
     is_same each/out/each/cut-0001.pbm each/one.pbm "the salvaged rows of decode --each"
     faults "fault 8" decode --each each/none each/mh
-    for words in "--each each/out --code mh each/mh" "--each each/out --width 8 each/mh" "--each each/out --page 1 each/mh" \
+    for words in "--each each/out --code mh each/mh" "--each each/out --null --from - - each/mh" "--each each/out --from - each/mh -" "--each each/out --page 1 each/mh" \
         "--each each/out --verbose each/mh" "--each each/out" "--code mh --width 8 each/mh a b" "--code mh --width 8 --salvage --repair each/mh a" \
         "--code mh --width 8 --from each/mh a b" "--code mh --width 8 --resume each/mh a" "--code mh --width 8"; do
         refuses decode $words
@@ -59,6 +59,7 @@ each/image: no fax: PBM\neach/tiff: no fax: TIFF\neach/zeros: not read: identify
     try_each_names
     try_each_new
     try_one_found
+    try_likely
     cd "$top"
     FAXTOOL=$program timeout 600 python3 -B "$top/bench/fuzz/fuzz_each.py" --times 100 > "$work/output" || fails "fuzz_each.py: $(cat "$work/output")"
     count=$((count + 100))
@@ -264,7 +265,66 @@ try_one_found() {
         done
     done
     refuses decode --code mh each/mh each/new.pbm
-    refuses decode --width 315 each/mh each/new.pbm
+    rm -rf each/out/*
+}
+
+# likely_page WIDTH FILE: T.6 of 300 rows without EOFB, with letters at the left alone, so that it reads in each width above 700.
+likely_page() {
+    python3 -B - "$1" > each/likely.pbm << 'END'
+import sys
+width, rows = int(sys.argv[1]), 300
+out = bytearray()
+for row in range(rows):
+    line = bytearray((width + 7) // 8)
+    if row % 12 > 5:
+        for pixel in range(60, 700):
+            if (pixel * 7 + row // 12 * 5) % 11 < 4:
+                line[pixel // 8] |= 0x80 >> pixel % 8
+    out += line
+sys.stdout.buffer.write(b"P4\n%d %d\n" % (width, rows) + out)
+END
+    works code --code mmr each/likely.pbm each/coded
+    cp each/coded "$2"
+}
+
+# Without --code, --width is the width that is likely: of files that several widths read it decides, and others are decoded as they are
+# identified. By --each it does what it does for one file.
+try_likely() {
+    several="the width is not known: identify names several; give one of them by --width"
+    rm -rf each/out/* each/one.pbm each/new.pbm
+    for width in 2048 1728 1715; do
+        likely_page "$width" each/open
+        tells_each 1 "each/open: $several\n" decode --each each/out each/open
+        works decode --width "$width" each/open each/new.pbm
+        is_same each/new.pbm each/likely.pbm "decode --width $width of a page that several widths read"
+        tells_each 0 "each/mh: whole 1 pages\neach/open: whole 1 pages\n" decode --each each/out --width "$width" each/mh each/open
+        is_same each/out/each/open-0001.pbm each/likely.pbm "decode --each --width $width"
+        is_same each/out/each/mh-0001.pbm "$data/page.pbm" "decode --each --width $width of a file that says another width"
+        rm -r each/out/*
+    done
+    # no way of that width reads it
+    gives 1 decode --width 600 each/open each/none.pbm
+    [ "$(cat "$work/error")" = "each/open: $several" ] && [ ! -e each/none.pbm ] || fails "decode --width 600 said: $(cat "$work/error")"
+    # cut in the middle of a row, it reads equally far in several widths
+    likely_page 2048 each/cut
+    head -c 1500 each/coded > each/cut
+    gives 1 decode --salvage --width 2048 each/cut each/new.pbm
+    [ "$(sed -n 2p each/new.pbm | cut -d' ' -f1)" = 2048 ] || fails "decode --salvage --width 2048 took another width"
+    # a width that isn't tried otherwise
+    works code --code mmr "$data/page.pbm" each/coded
+    works decode --width 315 each/coded each/new.pbm
+    is_same each/new.pbm "$data/page.pbm" "decode --width 315 of T.6"
+    # the list is standard input, and a name in it stands for standard input: only that file fails
+    cp "$data/page.mh.msb" each/mh
+    printf '%s\n' each/mh - ./each/mh each/none > each/list
+    end=0
+    "$program" decode --explain --each each/out --from - < each/list > "$work/output" || end=$?
+    printf '%s\n' "each/mh: whole 1 pages" "-: fault 8" "    standard input: the list of names is read from it" \
+        "./each/mh: page 1 is not written: fault 8" "    each/out/each/mh-0001.pbm: there is a file of this name already" \
+        "each/none: fault 8" "    each/none: no such file or folder" > each/wanted
+    [ "$end" = 1 ] || fails "decode --each --from - with a name - ended with status $end"
+    is_same "$work/output" each/wanted "decode --each --from - with a name -"
+    count=$((count + 1))
     rm -rf each/out/*
 }
 
@@ -407,6 +467,18 @@ try_each_resumed() {
     is_same each/after each/before "the pages that were there"
     is_same each/out/each/x-0003.pbm "$data/page.pbm" "the page that wasn't there"
     tells_each 0 "each/x: whole 3 pages\n" decode $form --resume --most-pages 3 --each each/out each/x
+    # several runs at once: each finds its pages there, whichever run made them
+    for _ in 1 2 3 4 5; do
+        rm -rf each/out/*
+        for run in 1 2 3 4 5 6; do
+            "$program" decode $form --resume --each each/out each/x > "each/said_$run" 2>&1 &
+        done
+        wait
+        for run in 1 2 3 4 5 6; do
+            [ "$(cat "each/said_$run")" = "each/x: whole 3 pages" ] || fails "a run with --resume beside others said: $(cat "each/said_$run")"
+        done
+        count=$((count + 6))
+    done
     for other in other longer shorter empty; do
         case $other in
             other) sed 's/$/x/' "$data/page.pbm" ;;

@@ -332,6 +332,40 @@ try_calls_fail() {
     count=$((count + runs))
 }
 
+# A place at which nothing is when an output is opened: what is there when it is ended stays. So it is with two outputs whose names differ
+# in the case of letters alone, on a disk on which that doesn't count. Each of two runs that write one file waits before it gives its name.
+try_taken() {
+    ${CC:-cc} -std=gnu11 -Wall -Wextra -O1 -shared -fPIC -o "$work/disk.so" "$top/.ci/end_to_end/disk.c" -ldl || fails "disk.c isn't compiled"
+    taken=0
+    for _ in 1 2 3 4 5 6 7 8 9 10; do
+        rm -rf "$work/taken"
+        mkdir "$work/taken"
+        for run in 1 2; do
+            { DISK_SLOW=link LD_PRELOAD=$work/disk.so "$program" decode --explain --code mh --width 315 "$data/page.mh.msb" "$work/taken/new.pbm" \
+                2> "$work/said_$run" || true; } &
+        done
+        wait
+        is_same "$work/taken/new.pbm" "$data/page.pbm" "the file of two runs"
+        [ "$(ls "$work/taken")" = new.pbm ] || fails "two runs that write one file left $(ls "$work/taken")"
+        cat "$work/said_1" "$work/said_2" > "$work/said"
+        [ ! -s "$work/said" ] || { echo "fault 8" && echo "$work/taken/new.pbm: there is a file of this name already"; } | cmp -s - "$work/said" ||
+            fails "two runs that write one file said $(cat "$work/said")"
+        [ ! -s "$work/said" ] || taken=$((taken + 1))
+        count=$((count + 2))
+    done
+    [ "$taken" -gt 0 ] || fails "no run found that its place was taken meanwhile"
+    rm "$work/disk.so"
+    # a file comes to the place of the pages of a call once that reads its script
+    rm -rf "$work/taken" && mkdir "$work/taken" && mkfifo "$work/taken/script"
+    { echo mine > "$work/taken/new.pbm"; cat "$top/docs/examples/one_page.script"; } > "$work/taken/script" &
+    ends 1 call --explain --script "$work/taken/script" --out "$work/taken/new.pbm" "$top/docs/examples/row.pbm"
+    wait
+    [ "$(cat "$work/taken/new.pbm")" = mine ] || fails "call --out wrote over a file that wasn't there at first"
+    [ "$(cat "$work/error")" = "$(printf 'fault 8\n%s: there is a file of this name already' "$work/taken/new.pbm")" ] ||
+        fails "call --out said $(cat "$work/error")"
+    count=$((count + 1))
+}
+
 # Standard output, standard error and the file of `--trace` at the greatest size of a file: no run ends by a signal.
 try_limits() {
     runs=$(python3 -B "$top/.ci/end_to_end/limits.py" "$program" "$top") || fails "commands at the greatest size of a file"

@@ -24,7 +24,7 @@ complete -c faxtool -n '__fish_seen_subcommand_from show' -l order -x -a 'msb ls
 complete -c faxtool -n '__fish_seen_subcommand_from show' -l explain -d 'Explains a fault in words too, on a second line, as on a terminal or with FAXTOOL_EXPLAIN=1 in the environment'
 complete -c faxtool -n '__fish_seen_subcommand_from show' -l help -d 'Print help'
 complete -c faxtool -n '__fish_seen_subcommand_from decode' -l code -x -a 'mh mmr t4 t6' -d 'The code of the page: mh, or t4, codes each row by its runs alone, mmr, or t6, after the row above'
-complete -c faxtool -n '__fish_seen_subcommand_from decode' -l width -x -a '1728 2048 2432' -d 'The width of the page in pixels, 1 to 2432; without --code and --width the page is read as identify says it'
+complete -c faxtool -n '__fish_seen_subcommand_from decode' -l width -x -a '1728 2048 2432' -d 'The width of the page in pixels, 1 to 2432; without --code the one that is taken where identify names several'
 complete -c faxtool -n '__fish_seen_subcommand_from decode' -l order -x -a 'msb lsb' -d 'Which bit of an octet of the code comes first, the most or the least significant'
 complete -c faxtool -n '__fish_seen_subcommand_from decode' -l fine -d 'The page has 7.7 lines a millimetre in place of 3.85'
 complete -c faxtool -n '__fish_seen_subcommand_from decode' -l salvage -d 'Writes the whole rows before the bit where the page can\'t be read, if there is one'

@@ -1,7 +1,7 @@
 -- In which ways octets are read as a page, how an image begins and how many octets it has, which octets of a file are kept, and whether there
 -- is room for more below the greatest size of a file.
 use Rattle.std.specs.Prelude.{◌≡◌, ◌⊎◌, ◌+◌, ◌*◌, ◌++◌, ◌&&◌, ◌-◌, ◌/◌, ◌%◌, ℕ, Bool, true, false, nat_eq, nat_lt, List, Option, None, Some, [], ◌∷◌, Err, length, take}
-use Rattle.std.specs.Prelude.{if◌then◌else◌, option_map}
+use Rattle.std.specs.Prelude.{IfSome, if◌then◌else◌, option_map}
 use Rattle.page_code.specs.PageReaders.{IsPageRead, IsPageRefused}
 use Rattle.page_code.specs.declared.page_reader.RefusedCode.{RefusedCode}
 use Rattle.raster.specs.Packed.{bits_of}
@@ -20,7 +20,7 @@ use Rattle.command_files.specs.declared.files.bounded.Ways.TheVariants.{First, O
 abbrev pub HavePageWidths : Ways → Type 0
 HavePageWidths (First form) = IsWidth form.width
 HavePageWidths (One form) = IsWidth form.width
-HavePageWidths Tried = Unit {0}
+HavePageWidths (Tried likely) = IfSome likely IsWidth
 HavePageWidths Any = Unit {0}
 
 -- the first page is wanted alone, and stands whole at the beginning of octets, or not
@@ -29,7 +29,7 @@ BeginSo (First form) octets true = (page : PagePixels) × (used : ℕ)
     × IsPageRead form.coding form.width form.fine (bits_of form.order octets) page used
 BeginSo (First form) octets false = (refused : RefusedCode) × IsPageRefused form.coding form.width (bits_of form.order octets) refused
 BeginSo (One form) octets begins = begins ≡ false
-BeginSo Tried octets begins = begins ≡ false
+BeginSo (Tried likely) octets begins = begins ≡ false
 BeginSo Any octets begins = begins ≡ false
 
 -- an image begins with P4, so its octets do, or those of them that were read

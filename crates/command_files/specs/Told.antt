@@ -1,7 +1,7 @@
 -- What a fault is in words, with what the program alone knows of it.
 use Rattle.command_files.specs.declared.context.Cause.TheVariants.{Taken}
 use Rattle.std.specs.Prelude.{◌||◌, ℕ, ◌≡◌, ◌+◌, ◌-◌, ◌^◌, ◌++◌, ◌∷◌, Bool, true, false, if◌then◌else◌, nat_eq, List, Option, Some, None}
-use Rattle.std.specs.Prelude.{All, codes, is_some, length, min, option_map, unwrap_or}
+use Rattle.std.specs.Prelude.{All, String, codes, find, is_some, length, min, option_map, string_bytes, unwrap_or}
 use Rattle.raster.specs.Pages.{PagePixels}
 use Rattle.signals.specs.Agreement.{width_of_pixels}
 use Rattle.std.specs.Str.{bytes_eq}
@@ -17,7 +17,7 @@ use Rattle.faults.specs.declared.explain.Explained.{Explained}
 use Rattle.command_files.specs.declared.context.TrialStep.{TrialStep}
 use Rattle.command_files.specs.declared.context.TrialStep.TheVariants.{Make, Name, Remove, Sync, SyncFolder, Write}
 use Rattle.command_files.specs.declared.context.Cause.{Cause}
-use Rattle.command_files.specs.declared.context.Cause.TheVariants.{EmptyRuns, FailedTrial, FewerPages, NextPage, NoEofb, NotCallable, RowsOf, Terminal, TooLong}
+use Rattle.command_files.specs.declared.context.Cause.TheVariants.{EmptyRuns, FailedTrial, FewerPages, Listed, NextPage, NoEofb, NotCallable, RowsOf, Terminal, TooLong}
 
 -- The file that a fault is about: the script for a fault at one of its lines; the file that failed, if one did, for `Io` (8); the file whose
 -- reading was given up, if one was, for `NoMemory` (9); and the input for any other fault, or where no file is known.
@@ -26,6 +26,10 @@ part_of (AtLine line) failed unread = Script
 part_of (AtBit number place) failed unread = Input
 part_of (No number) failed unread = if nat_eq number 8 || nat_eq number 32 then unwrap_or (option_map (λ known. known.0) failed) Input
     else if nat_eq number 9 then unwrap_or unread Input else Input
+
+-- a name is one of these
+abbrev pub is_named_in : {Z : Type 0} → List ℕ → List (String Z) → Bool
+is_named_in name names = is_some (find (λ one. bytes_eq (string_bytes one) name) names)
 
 -- a file's name, or that of the input
 abbrev pub name_or : {A : Type 0} → (A → List ℕ) → Option A → List ℕ → List ℕ
@@ -86,6 +90,7 @@ told words (Some NoEofb) = explained words.fault words.known
     ++ codes "; the file doesn't end with EOFB: nothing marks a page's end then, and another page may begin before this bit"
 told words (Some (FailedTrial step)) = name_text words.known.file.now ++ (codes ": " ++ (step_words step ++ (codes ": "
     ++ reason_words words.known.reason)))
+told words (Some Listed) = name_text words.known.file.now ++ codes ": the list of names is read from it"
 
 -- ---- pages that no call carries
 

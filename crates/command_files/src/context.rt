@@ -2,16 +2,17 @@
 
 ghost use Rattle.faults.specs.Faults.{IsOutside};
 ghost use Rattle.faults.specs.declared.fault.ToolFault.TheVariants.{No};
-ghost use Rattle.command_files.specs.Told.{IsCallable, IsFirstNotCallable, part_of, step_words};
-ghost use Rattle.std.specs.Prelude.{◌≡◌, ◌≢◌, ◌⊎◌, [], All, IfErr, MatchOption, None, Some, option_map, true};
+ghost use Rattle.command_files.specs.Told.{IsCallable, IsFirstNotCallable, is_named_in, part_of, step_words};
+ghost use Rattle.std.specs.Prelude.{◌≡◌, ◌≢◌, ◌⊎◌, ◌∷◌, ◌++◌, [], All, IfErr, MatchOption, None, OnOk, Some, option_map, true};
 
 use crate::notices::is_explained;
 use crate::streams::Streams;
 use faults::{NO_MEMORY, ToolFault};
 use page_code::RefusedCode;
+use page_files::PageForm;
 use raster::Page;
 use signals::PageWidth;
-use std::alloc::Global;
+use std::alloc::{AllocError, Global};
 use std::io;
 use std::io::ErrorKind;
 
@@ -102,6 +103,8 @@ pub enum Cause {
     NoEofb,
     /// This step of storing a page fails in a folder.
     FailedTrial(TrialStep),
+    /// A name in a list stands for standard input, from which the list itself is read.
+    Listed,
 }
 
 /// What is noted of a command while it runs.
@@ -119,6 +122,10 @@ struct Noted {
     refused: Option<RefusedCode>,
     /// What else is known of the fault, if anything is.
     cause: Option<Cause>,
+    /// How the page is read, if that isn't given and is known.
+    form: Option<PageForm>,
+    /// The names of outputs at whose places nothing was at first.
+    free: Vec<String>,
 }
 
 /// How messages are shown.
@@ -149,6 +156,8 @@ impl<'a> Context<'a> {
         ensures script { result.noted.script.items ≡ [] }
         ensures refused { result.noted.refused ≡ None }
         ensures cause { result.noted.cause ≡ None }
+        ensures form { result.noted.form ≡ None }
+        ensures free { result.noted.free.items ≡ [] }
     {
         let rt = streams.rt();
         Context {
@@ -162,6 +171,8 @@ impl<'a> Context<'a> {
                 script: Vec::new(rt.alloc()),
                 refused: None,
                 cause: None,
+                form: None,
+                free: Vec::new(rt.alloc()),
             },
         }
     }
@@ -230,6 +241,31 @@ impl<'a> Context<'a> {
         self.noted.cause = Some(cause);
     }
 
+    /// Notes how the page is read, which isn't given.
+    pub fn note_form(&mut self, form: PageForm)
+        ensures { self.new
+            ≡ record self.old { noted = record self.old.noted { form = Some form } } }
+    {
+        self.noted.form = Some(form);
+    }
+
+    /// Notes that nothing is at the place of an output of this name. Errors: memory was refused.
+    pub fn note_free(&mut self, name: String) -> Result<(), AllocError>
+        ensures { OnOk result (self.new.noted.free.items ≡ self.old.noted.free.items ++ name ∷ []) }
+    {
+        if self.noted.free.push(name).is_err() {
+            return Err(AllocError);
+        }
+        Ok(())
+    }
+
+    /// Returns whether nothing was at the place of an output of this name at first.
+    pub fn was_free(&self, name: &str) -> bool
+        ensures { result ≡ is_named_in name.now self.now.noted.free.items }
+    {
+        is_named_in(name, self.noted.free.as_slice())
+    }
+
     /// Notes that a file's reading was given up before its end.
     pub fn note_unread(&mut self, part: Part)
         ensures { self.new ≡ record self.old { noted = record self.old.noted { unread = Some part } } }
@@ -287,6 +323,13 @@ impl<'a> Context<'a> {
         self.noted.cause
     }
 
+    /// How the page is read, if that isn't given and is known.
+    pub fn form(&self) -> Option<PageForm>
+        ensures { result ≡ self.now.noted.form }
+    {
+        self.noted.form
+    }
+
     /// Why a file could not be read or written, if that is known.
     pub fn reason(&self) -> Option<ErrorKind>
         ensures { result ≡ option_map (λ failed. failed.1) self.now.noted.failed }
@@ -317,6 +360,18 @@ impl<'a> Context<'a> {
             _ => fault,
         }
     }
+}
+
+/// Returns whether a name is one of these.
+fn is_named_in(name: &str, names: &[String]) -> bool
+    ensures { result ≡ is_named_in name.now names.now }
+{
+    for one in names {
+        if one.as_str() == name {
+            return true;
+        }
+    }
+    false
 }
 
 /// Returns the first of these pages that a call can't carry, with its number, from 1, after those that come before them; None if there is

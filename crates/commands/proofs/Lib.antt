@@ -2,3 +2,4 @@
 mod Given
 mod PageReports
 mod RecordData
+mod WaysFound

@@ -90,7 +90,7 @@ EndsBy command octets (Err end) report = IsSaid end report
 
 -- the report of a file of these octets: all pages have the form that is given, or that which `identify` says
 abbrev pub EndsIn : EachCommand → List ℕ → FileReport → Type 0
-EndsIn command octets report = (form : Result PageForm FileEnd) × IsFormOf command.form command.options command.fine octets form
+EndsIn command octets report = (form : Result PageForm FileEnd) × IsFormOf command.form command.likely command.options command.fine octets form
     × EndsBy command octets form report
 
 -- the report of a file: it was read, and its pages decoded and written; or its name isn't UTF-8, or it can't be read
@@ -150,7 +150,7 @@ end_text (file.Lost number fault last) = codes "page " ++ (decimal number
 end_text (file.NotWritten number fault) = codes "page " ++ (decimal number ++ (codes " is not written: " ++ fault_text fault))
 end_text (file.NoFax name) = codes "no fax: " ++ name.now
 end_text file.TwoDims = codes "not read: T.4 in two dimensions (MR)"
-end_text file.NoWidth = codes "the width is not known: decode it by --code, --order and --width in each way that identify names"
+end_text file.NoWidth = codes "the width is not known: identify names several; give one of them by --width"
 end_text file.Nothing = codes "not read: identify may tell what it is"
 end_text file.NoText = codes "its name isn't UTF-8"
 end_text (file.Failed fault) = fault_text fault

@@ -1,13 +1,15 @@
 -- How octets are decoded: as is given, or else as `identify` says it.
-use Rattle.std.specs.Prelude.{ℕ, ◌≡◌, Bool, List, Option, Some, None, Result, Ok, Err, if◌then◌else◌}
-use Rattle.page_files.specs.Found.{Finds}
-use Rattle.page_files.specs.LaterPages.{asks_damaged}
+use Rattle.std.specs.Prelude.{ℕ, ◌≡◌, Bool, IfSome, List, Option, Some, None, Result, Ok, Err, if◌then◌else◌}
+use Rattle.page_files.specs.Found.{FindsBy}
+use Rattle.page_files.specs.LaterPages.{BeginsWith, asks_damaged}
 use Rattle.page_files.specs.declared.found.Found.{Found}
 use Rattle.page_files.specs.declared.found.Found.TheVariants as found
 use Rattle.page_files.specs.declared.options.DecodeOptions.{DecodeOptions}
 use Rattle.page_files.specs.declared.options.PageForm.{PageForm}
 use Rattle.page_files.specs.declared.two_dim.TwoDim.{TwoDim}
 use Rattle.commands.specs.Damaged.{AreTwoDims, is_taken}
+use Rattle.commands.specs.Several.{bits_in}
+use Rattle.commands.specs.declared.decode.found_form.Way.{Way}
 use Rattle.commands.specs.declared.decode.ends.FileEnd.{FileEnd}
 use Rattle.commands.specs.declared.decode.ends.FileEnd.TheVariants as file
 
@@ -24,12 +26,34 @@ form_by asked fine None (found.Format name) = Err (file.NoFax name)
 form_by asked fine None found.Several = Err file.NoWidth
 form_by asked fine None found.Nothing = Err file.Nothing
 
--- octets are identified, and this is how they are decoded then
-abbrev pub IsFoundForm : Bool → Bool → List ℕ → Result PageForm FileEnd → Type 0
-IsFoundForm asked fine octets form = (what : Found) × (two_dims : Option TwoDim) × Finds octets what × AreTwoDims octets what two_dims
-    × (form ≡ form_by asked fine two_dims what)
+-- octets are identified, by a likely width if one is given, and this is how they are decoded then
+abbrev pub IsFoundForm : Option ℕ → Bool → Bool → List ℕ → Result PageForm FileEnd → Type 0
+IsFoundForm likely asked fine octets form = (what : Found) × (two_dims : Option TwoDim) × FindsBy likely octets what
+    × AreTwoDims octets what two_dims × (form ≡ form_by asked fine two_dims what)
+
+-- the bits of the first page's code, if octets are a page that is read to its end
+abbrev pub used_in : Found → Option ℕ
+used_in (found.Page way) = bits_in way.end
+used_in (found.Begun way) = None
+used_in (found.Format name) = None
+used_in found.Several = None
+used_in found.Nothing = None
+
+-- the form of a way to decode octets, or what is said of octets that aren't decoded
+abbrev pub form_in : Result Way FileEnd → Result PageForm FileEnd
+form_in (Ok way) = Ok way.form
+form_in (Err end) = Err end
+
+-- octets begin with a page's code of as many bits as a way knows
+abbrev pub BeginsSo : List ℕ → Way → Type 0
+BeginsSo octets way = IfSome way.used (BeginsWith way.form octets)
 
 -- how octets are decoded: in the form that is given, or else as they are identified
-abbrev pub IsFormOf : Option PageForm → DecodeOptions → Bool → List ℕ → Result PageForm FileEnd → Type 0
-IsFormOf (Some given) options fine octets form = form ≡ Ok given
-IsFormOf None options fine octets form = IsFoundForm (asks_damaged options) fine octets form
+abbrev pub IsFormOf : Option PageForm → Option ℕ → DecodeOptions → Bool → List ℕ → Result PageForm FileEnd → Type 0
+IsFormOf (Some given) likely options fine octets form = form ≡ Ok given
+IsFormOf None likely options fine octets form = IsFoundForm likely (asks_damaged options) fine octets form
+
+-- the width that is given: that of the form, or else the likely one
+abbrev pub given_width : Option PageForm → Option ℕ → Option ℕ
+given_width (Some form) likely = Some form.width
+given_width None likely = likely

@@ -124,6 +124,11 @@ GoesOn mends form octets later end next.Page = Passes mends true form octets lat
 GoesOn mends form octets later end next.Nothing = Passes mends false form octets later
 GoesOn mends form octets later end next.Unknown = (may_go_on mends end ≡ false) ⊎ (IsBroken form octets × HasNoMark mends form octets)
 
+-- what follows a page, if that is known: another page or nothing
+abbrev pub next_of : Bool → Next
+next_of true = next.Page
+next_of false = next.Nothing
+
 -- ---- what is said of the pages
 
 -- the lines of a text, each after this front

@@ -53,18 +53,18 @@ ShowGives command (Ok completeness) = (completeness ≡ Whole)
 ShowGives command (Err fault) = IsUnread fault
     ⊎ ((octets : List ℕ) × RefusesShow command.coding command.order command.width octets fault)
 
--- the ways in which a file is read of which a page of this form is wanted, if one is given, by whether pages are repaired and whether the
--- first one is wanted
-abbrev pub ways_in : Option PageForm → Bool → Bool → Ways
-ways_in None repair first = ways.Tried
-ways_in (Some form) true first = ways.Any
-ways_in (Some form) false true = ways.First form
-ways_in (Some form) false false = ways.One form
+-- the ways in which a file is read of which a page of this form is wanted, if one is given, or perhaps of a likely width, by whether pages
+-- are repaired and whether the first one is wanted
+abbrev pub ways_in : Option PageForm → Option ℕ → Bool → Bool → Ways
+ways_in None likely repair first = ways.Tried likely
+ways_in (Some form) likely true first = ways.Any
+ways_in (Some form) likely false true = ways.First form
+ways_in (Some form) likely false false = ways.One form
 
 -- how the file of `decode` is read, so that no more is than is wanted: where the form is given, by that, and its first page alone if that is
 -- asked for; with `--repair` any rows are wanted
 abbrev pub ways_of : DecodeCommand → Ways
-ways_of command = ways_in command.form command.options.repair (nat_eq command.page 1)
+ways_of command = ways_in command.form command.likely command.options.repair (nat_eq command.page 1)
 
 -- the page of these octets with the number that is asked for was decoded in this form as the options ask, with this end
 abbrev pub AnswersIn : DecodeCommand → PageForm → List ℕ → Result Bool ToolFault → Type 0
@@ -73,12 +73,12 @@ AnswersIn command form octets end = (later : List ℕ) × (page : PagePixels) ×
 
 -- the page with the number that is asked for was decoded in the form that is given, or in which `identify` reads the file, with this end
 abbrev pub IsAnswered : DecodeCommand → Result Bool ToolFault → Type 0
-IsAnswered command end = (octets : List ℕ) × (form : PageForm) × IsFormOf command.form command.options command.fine octets (Ok form)
+IsAnswered command end = (octets : List ℕ) × (form : PageForm) × IsFormOf command.form command.likely command.options command.fine octets (Ok form)
     × AnswersIn command form octets end
 
 -- nothing was decoded, since `identify` reads the file in no form, and this was said of it
 abbrev pub IsUndecoded : DecodeCommand → Type 0
-IsUndecoded command = (octets : List ℕ) × (end : FileEnd) × IsFormOf command.form command.options command.fine octets (Err end)
+IsUndecoded command = (octets : List ℕ) × (end : FileEnd) × IsFormOf command.form command.likely command.options command.fine octets (Err end)
 
 -- the page was decoded, with the end that the engine says, or none is; or reading, writing or memory failed
 abbrev pub DecodeGives : DecodeCommand → Result Completeness ToolFault → Type 0

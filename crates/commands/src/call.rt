@@ -61,13 +61,17 @@ impl<'a> CallFiles<'a> {
         files.prints()
     }
 
-    /// Checks that octets aren't written on a terminal, and that the folder of the octets on the line is there. Errors: `Io` (8), and the
-    /// file is noted.
+    /// Checks that octets aren't written on a terminal, and that the folder of the octets on the line is there; and notes the files at whose
+    /// places nothing is. Errors: `Io` (8), and the file is noted; `NoMemory` (9).
     pub(crate) fn check(self, context: &mut Context<'_>) -> Result<(), ToolFault>
         ensures { IfErr result IsOutside }
     {
         if let Some(name) = self.out {
             output::check_terminal(context, name)?;
+            output::note_place(context, name)?;
+        }
+        if let Some(name) = self.diagram {
+            output::note_place(context, name)?;
         }
         if let Some(folder) = self.bits {
             output::check_folder(context, folder, Part::Bits)?;

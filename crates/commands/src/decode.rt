@@ -2,6 +2,7 @@
 
 ghost use Rattle.command_files.specs.Bounds.{HavePageWidths};
 ghost use Rattle.command_files.specs.Runs.{completeness_of};
+ghost use Rattle.commands.specs.FoundForms.{given_width};
 ghost use Rattle.commands.specs.Runs.{AnswersIn, ways_of};
 ghost use Rattle.faults.specs.Faults.{IsOutside, IsUnread};
 ghost use Rattle.raster.specs.Pixels.{IsWidth};
@@ -13,7 +14,7 @@ pub(crate) mod found_form;
 
 use crate::decode::each::report::{FileReport, report_lines};
 use crate::decode::ends::FileEnd;
-use crate::decode::found_form::form_of;
+use crate::decode::found_form::{FormAsked, form_of};
 use command_files::command::{Completeness, NO_NAMES, Names, Runs};
 use command_files::context::Context;
 use command_files::files::apart::CommandFiles;
@@ -32,6 +33,8 @@ use std::slice;
 pub struct DecodeCommand {
     /// How the page is read; as `identify` says it of the file, if that isn't given.
     pub form: Option<PageForm>,
+    /// The width that the page is likely to have, if its form isn't given: it decides where several widths read.
+    pub likely: Option<u32>,
     /// Whether the lines of a page that is read as `identify` says it are fine, 7.7 a millimeter, and not standard, 3.85.
     pub fine: bool,
     /// What is asked for of the page.
@@ -45,11 +48,11 @@ pub struct DecodeCommand {
 }
 
 impl Runs for DecodeCommand {
-    ghost use Rattle.std.specs.Prelude.{option_map};
+    ghost use Rattle.commands.specs.FoundForms.{given_width};
     ghost use Rattle.commands.specs.Runs.{DecodeGives};
     ghost use Rattle.commands.specs.Files.{decode_files};
 
-    ghost width = { λ command. option_map (λ form. form.width) command.form };
+    ghost width = { λ command. given_width command.form command.likely };
 
     ghost its_files = { decode_files };
 
@@ -74,15 +77,10 @@ impl Runs for DecodeCommand {
     fn run(&self, context: &mut Context<'_>) -> Result<Completeness, ToolFault> {
         output::check_terminal(context, self.output.as_str())?;
         let octets = read_coded(context, self.input.as_str(), self.ways(), Watch::Shown)?;
-        match form_of(
-            context.alloc(),
-            self.form,
-            self.options,
-            self.fine,
-            octets.as_slice(),
-        )? {
-            Ok(form) => {
-                let is_complete = self.decode(context, octets, form)?;
+        match form_of(context.alloc(), self.asked(), octets.as_slice())? {
+            Ok(way) => {
+                context.note_form(way.form);
+                let is_complete = self.decode(context, octets, way.form)?;
                 Ok(Completeness::of(is_complete))
             }
             Err(end) => {
@@ -94,14 +92,29 @@ impl Runs for DecodeCommand {
 }
 
 impl DecodeCommand {
+    /// What is asked for of how the page is decoded.
+    fn asked(&self) -> FormAsked
+        ensures form { result.form ≡ self.now.form }
+        ensures likely { result.likely ≡ self.now.likely }
+        ensures options { result.options ≡ self.now.options }
+        ensures fine { result.fine ≡ self.now.fine }
+    {
+        FormAsked {
+            form: self.form,
+            likely: self.likely,
+            options: self.options,
+            fine: self.fine,
+        }
+    }
+
     /// The way in which the file is read: only the first page, if that is asked for.
     fn ways(&self) -> Ways
-        requires { IfSome self.now.form (λ form. IsWidth form.width) }
+        requires { IfSome (given_width self.now.form self.now.likely) IsWidth }
         ensures ways { result ≡ ways_of self.now }
         ensures widths { HavePageWidths result }
     {
         match self.form {
-            None => Ways::Tried,
+            None => Ways::Tried(self.likely),
             Some(form) => {
                 if self.options.repair {
                     Ways::Any

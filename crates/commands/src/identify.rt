@@ -47,7 +47,12 @@ impl Runs for IdentifyCommand {
 
     // Where the file is of no known format and reads as no page, it prints how far each way reads before that fault.
     fn run(&self, context: &mut Context<'_>) -> Result<Completeness, ToolFault> {
-        let octets = read_coded(context, self.input.as_str(), Ways::Tried, Watch::Shown)?;
+        let octets = read_coded(
+            context,
+            self.input.as_str(),
+            Ways::Tried(None),
+            Watch::Shown,
+        )?;
         let mut writer = printed::print(context)?;
         let identified = identify_engine(context.alloc(), octets.as_slice(), &mut writer);
         context.keep_octets(octets);

@@ -11,7 +11,6 @@ mod row_widths;
 mod told;
 
 use crate::damaged::CHANCE_ROWS;
-use crate::decode::found_form::found_form;
 use crate::names::shown_text;
 use crate::words::row_widths::same_width;
 pub use crate::words::told::Told;
@@ -21,6 +20,7 @@ use command_files::context::{Cause, Context, Messages, Part};
 use faults::{Expected, Explained, FaultKind, Known, LineFault, ToolFault};
 use page_code::Coding;
 use page_files::{PageForm, ends_by_eofb, ends_in_empty_runs, may_follow, refused_at, refused_in};
+use raster::MAX_WIDTH;
 use run_tables::Order;
 use std::alloc::AllocError;
 
@@ -57,18 +57,17 @@ pub fn explained<'a>(
     }
 }
 
-/// Returns how the page was read in which the fault is: in the form that is given, or else as `identify` reads the file.
+/// Returns how the page was read in which the fault is: in the form that is given, or else in the one that is noted.
 fn form_read(given: Option<PageForm>, context: &Context<'_>) -> Option<PageForm>
     requires { IfSome given (λ form. IsWidth form.width) }
     ensures { IfSome result (λ form. IsWidth form.width) }
 {
-    if given.is_some() || context.refused().is_none() {
+    if given.is_some() {
         return given;
     }
-    // a page was decoded, so that it doesn't matter whether damaged ones are asked for
-    match found_form(context.alloc(), context.octets(), true, false) {
-        Ok(Ok(form)) => Some(form),
-        Ok(Err(_)) | Err(_) => None,
+    match context.form() {
+        Some(form) if form.width != 0 && form.width <= MAX_WIDTH => Some(form),
+        _ => None,
     }
 }
 

@@ -1,6 +1,6 @@
 -- The commands of the program, what each command is of the values that clap reads, and why words are refused.
 use Rattle.std.specs.Prelude.{◌≡◌, ◌≢◌, ◌≤◌, ◌<◌, ◌^◌, ◌⊎◌, ℕ, Bool, true, false, List, [], ◌∷◌, Option, Some, None}
-use Rattle.std.specs.Prelude.{IfSome, ◌++◌, length, nat_lt, unwrap_or, codes, map, pos, if◌then◌else◌, is_some, nat_eq, nat_le, option_map, string_bytes, not, ◌&&◌, ◌||◌, ◌+◌, ◌*◌, ◌-◌}
+use Rattle.std.specs.Prelude.{IfSome, ◌++◌, find, length, nat_lt, unwrap_or, codes, map, pos, if◌then◌else◌, is_some, nat_eq, nat_le, option_map, string_bytes, not, ◌&&◌, ◌||◌, ◌+◌, ◌*◌, ◌-◌}
 use Rattle.std.specs.Str.{bytes_eq}
 use Rattle.std.specs.Str.Parse.{IsNumeral, digits_value, without_leading_plus}
 use Rattle.clap.specs.Words.{App, IsAmong, Row, Rule, Text, all_of, fault_of, first_of, kind_of, new_app}
@@ -17,6 +17,7 @@ use Rattle.raster.specs.declared.packed.Order.{Order}
 use Rattle.raster.specs.declared.packed.Order.TheVariants.{LsbFirst, MsbFirst}
 use Rattle.captures.specs.declared.frames.ListForm.{ListForm}
 use Rattle.commands.specs.Runs.{list_form}
+use Rattle.commands.specs.FoundForms.{given_width}
 use Rattle.commands.specs.declared.decode.each.EachCommand.{EachCommand}
 use Rattle.commands.specs.declared.decode.each.listed.NameList.{NameList}
 use Rattle.faults.specs.declared.fault.ToolFault.TheVariants.{No}
@@ -412,10 +413,18 @@ is_for_many rows = is_some (first_of (codes "from") rows) || (is_named (codes "t
 abbrev pub has_files : List Row → Bool
 has_files rows = is_some (first_of (codes "file") rows) || (is_some (first_of (codes "out") rows) || is_some (first_of (codes "from") rows))
 
--- one of the code and the width was given, and not the other
+-- one of these names is that of standard input
+abbrev pub has_standard : List Text → Bool
+has_standard names = is_some (find (λ name. bytes_eq name (codes "-")) names)
+
+-- standard input is the list of the names of files, and one of the files that are named
+abbrev pub lists_itself : List Row → Bool
+lists_itself rows = is_named (codes "-") (first_of (codes "from") rows)
+    && (has_standard (texts_of (codes "file") rows) || has_standard (texts_of (codes "out") rows))
+
+-- the code was given, and not the width
 abbrev pub has_half_form : List Row → Bool
-has_half_form rows = if is_some (first_of (codes "code") rows) then not (is_some (first_of (codes "width") rows))
-    else is_some (first_of (codes "width") rows)
+has_half_form rows = is_some (first_of (codes "code") rows) && not (is_some (first_of (codes "width") rows))
 
 -- how pages are read, if the code and the width are given
 abbrev pub IsFormIn : List Row → Option PageForm → Type 0
@@ -423,6 +432,15 @@ IsFormIn rows None = (coding_named (first_of (codes "code") rows) ≡ None) ⊎ 
 IsFormIn rows (Some form) = (coding_named (first_of (codes "code") rows) ≡ Some form.coding)
     × (form.order ≡ order_named (first_of (codes "order") rows)) × IsWidthIn rows form.width
     × (form.fine ≡ is_named (codes "true") (first_of (codes "fine") rows))
+
+-- a code is given, or none
+abbrev pub is_coded : List Row → Bool
+is_coded rows = is_some (coding_named (first_of (codes "code") rows))
+
+-- the width that pages are likely to have: the one that is given without a code
+abbrev pub IsLikelyIn : List Row → Option ℕ → Type 0
+IsLikelyIn rows None = (is_coded rows ≡ true) ⊎ ((width : ℕ) → IsWidthIn rows width → ⊥)
+IsLikelyIn rows (Some width) = (is_coded rows ≡ false) × IsWidthIn rows width
 
 -- the list of files that is asked for
 abbrev pub IsListIn : List Row → Option NameList → Type 0
@@ -444,11 +462,13 @@ most_octets_of (Some most) = most
 pub record IsEachOf (rows : List Row) (command : EachCommand) : Type 0 where
   pub folder_is : first_of (codes "each") rows ≡ Some (string_bytes command.folder)
   pub form_is : IsFormIn rows command.form
+  pub likely_is : IsLikelyIn rows command.likely
   pub whole_form : has_half_form rows ≡ false
   pub fine_is : command.fine ≡ is_named (codes "true") (first_of (codes "fine") rows)
   pub options_are : AreDecodeOptionsIn rows command.options
   pub alone : has_one rows ≡ false
   pub some_files : has_files rows ≡ true
+  pub apart : lists_itself rows ≡ false
   pub files_are : map string_bytes command.files.items ≡ texts_of (codes "file") rows ++ texts_of (codes "out") rows
   pub list_is : IsListIn rows command.list
   pub resume_is : command.resume ≡ is_named (codes "true") (first_of (codes "resume") rows)
@@ -465,9 +485,10 @@ pub record AreSeveralOf (rows : List Row) (records : Bool) (files : List Text) :
   pub files_are : files ≡ texts_of (codes "file") rows
 
 -- the values of the command `decode` are those that are asked for
-pub record IsDecodeOf (rows : List Row) (form : Option PageForm) (fine : Bool) (options : DecodeOptions) (page : ℕ) (input output : Text)
-    : Type 0 where
+pub record IsDecodeOf (rows : List Row) (form : Option PageForm) (likely : Option ℕ) (fine : Bool) (options : DecodeOptions) (page : ℕ)
+    (input output : Text) : Type 0 where
   pub form_is : IsFormIn rows form
+  pub likely_is : IsLikelyIn rows likely
   pub whole_form : has_half_form rows ≡ false
   pub fine_is : fine ≡ is_named (codes "true") (first_of (codes "fine") rows)
   pub input_is : first_of (codes "file") rows ≡ Some input
@@ -787,7 +808,8 @@ IsCommandOf met (Show command) = (rows : List Row)
     × IsShowOf rows command.coding command.order command.width (string_bytes command.input)
 IsCommandOf met (Decode command) = (rows : List Row)
     × (met ≡ Some (codes "decode", rows))
-    × IsDecodeOf rows command.form command.fine command.options command.page (string_bytes command.input) (string_bytes command.output)
+    × IsDecodeOf rows command.form command.likely command.fine command.options command.page (string_bytes command.input)
+    (string_bytes command.output)
 IsCommandOf met (Each command) = (rows : List Row)
     × (met ≡ Some (codes "decode", rows))
     × IsEachOf rows command
@@ -875,8 +897,8 @@ status_of (Words error) = 2
 abbrev pub HasWidth : Command → Type 0
 HasWidth (Code command) = Unit {0}
 HasWidth (Show command) = IsWidth command.width
-HasWidth (Decode command) = IfSome command.form (λ form. IsWidth form.width)
-HasWidth (Each command) = IfSome command.form (λ form. IsWidth form.width)
+HasWidth (Decode command) = IfSome (given_width command.form command.likely) IsWidth
+HasWidth (Each command) = IfSome (given_width command.form command.likely) IsWidth
 HasWidth (Frames command) = Unit {0}
 HasWidth (Captures command) = Unit {0}
 HasWidth (Identify command) = Unit {0}

@@ -12,7 +12,7 @@ use Rattle.raster.specs.declared.packed.Order.TheVariants.{LsbFirst, MsbFirst}
 use Rattle.page_code.specs.declared.Coding.{Coding}
 use Rattle.page_code.specs.declared.Coding.TheVariants.{T6}
 use Rattle.page_files.specs.Identified.{AreOneDimTried, AreTried, IsTried, SaysOwn, count_of, fits_one, form_in, form_of, forms_in, line_of, lines_of}
-use Rattle.page_files.specs.Identified.{own_forms, tried_widths}
+use Rattle.page_files.specs.Identified.{own_forms}
 use Rattle.page_files.specs.declared.identify.Fit.{Fit}
 use Rattle.page_files.specs.declared.identify.Said.{Said}
 use Rattle.page_files.specs.declared.identify.Tried.{Tried}
@@ -54,15 +54,15 @@ tried_more octets before after one is tried all =
     subst (λ (l : List Tried). All (IsTried octets) l) (sym is) (All-push (IsTried octets) before one all tried)
 
 -- after no way those of T.4, in both orders: these are its ways
-pub one_dim_tried : (octets : List ℕ) (msb lsb : Option ℕ) (none first all : List Tried) → none ≡ []
+pub one_dim_tried : (widths octets : List ℕ) (msb lsb : Option ℕ) (none first all : List Tried) → none ≡ []
     → SaysOwn MsbFirst octets msb → SaysOwn LsbFirst octets lsb
-    → map form_of first ≡ map form_of none ++ own_forms MsbFirst msb
-    → map form_of all ≡ map form_of first ++ own_forms LsbFirst lsb
+    → map form_of first ≡ map form_of none ++ own_forms widths MsbFirst msb
+    → map form_of all ≡ map form_of first ++ own_forms widths LsbFirst lsb
     → (All (IsTried octets) none → All (IsTried octets) first) → (All (IsTried octets) first → All (IsTried octets) all)
-    → AreOneDimTried octets all (record { msb = msb; lsb = lsb })
-one_dim_tried octets msb lsb none first all empty says_msb says_lsb one two each_one each_two =
-    let own_msb : List PageForm = own_forms MsbFirst msb in
-    let own_lsb : List PageForm = own_forms LsbFirst lsb in
+    → AreOneDimTried widths octets all (record { msb = msb; lsb = lsb })
+one_dim_tried widths octets msb lsb none first all empty says_msb says_lsb one two each_one each_two =
+    let own_msb : List PageForm = own_forms widths MsbFirst msb in
+    let own_lsb : List PageForm = own_forms widths LsbFirst lsb in
     let forms_one : map form_of first ≡ own_msb = one ∙ ap (λ (l : List Tried). map form_of l ++ own_msb) empty in
     let no_way : All (IsTried octets) none =
     subst (λ (l : List Tried). All (IsTried octets) l) (sym empty) (λ k d within. absurd (omega (arith, within))) in
@@ -74,16 +74,16 @@ one_dim_tried octets msb lsb none first all empty says_msb says_lsb one two each
     }
 
 -- after those of T.4 those of T.6, in both orders: these are all ways
-pub all_tried : (octets : List ℕ) (own : Said) (first second all : List Tried) → AreOneDimTried octets first own
-    → map form_of second ≡ map form_of first ++ forms_in T6 MsbFirst tried_widths
-    → map form_of all ≡ map form_of second ++ forms_in T6 LsbFirst tried_widths
+pub all_tried : (widths octets : List ℕ) (own : Said) (first second all : List Tried) → AreOneDimTried widths octets first own
+    → map form_of second ≡ map form_of first ++ forms_in T6 MsbFirst widths
+    → map form_of all ≡ map form_of second ++ forms_in T6 LsbFirst widths
     → (All (IsTried octets) first → All (IsTried octets) second) → (All (IsTried octets) second → All (IsTried octets) all)
-    → AreTried octets all own
-all_tried octets own first second all are two three each_two each_three =
-    let own_msb : List PageForm = own_forms MsbFirst own.msb in
-    let own_lsb : List PageForm = own_forms LsbFirst own.lsb in
-    let t6_msb : List PageForm = forms_in T6 MsbFirst tried_widths in
-    let t6_lsb : List PageForm = forms_in T6 LsbFirst tried_widths in
+    → AreTried widths octets all own
+all_tried widths octets own first second all are two three each_two each_three =
+    let own_msb : List PageForm = own_forms widths MsbFirst own.msb in
+    let own_lsb : List PageForm = own_forms widths LsbFirst own.lsb in
+    let t6_msb : List PageForm = forms_in T6 MsbFirst widths in
+    let t6_lsb : List PageForm = forms_in T6 LsbFirst widths in
     let forms_two : map form_of second ≡ (own_msb ++ own_lsb) ++ t6_msb = two ∙ ap (λ (l : List PageForm). l ++ t6_msb) are.forms_are in
     record {
       msb_is = are.msb_is;

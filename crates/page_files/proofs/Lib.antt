@@ -10,6 +10,8 @@ mod Furthest
 mod RepairedLines
 mod Mended
 mod MissingEol
+mod LikelyWidths
+mod PagesFound
 mod LineEnds
 mod MarkEnds
 pub mod NoticeLines

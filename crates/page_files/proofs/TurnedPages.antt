@@ -1,11 +1,13 @@
 -- Pages of octets that are turned, as pages of the octets of the file.
 use Rattle.std.proofs.Common.{ℕ, ◌≡◌, ◌≢◌, ◌+◌, ◌-◌, ◌*◌, ◌/◌, ◌%◌, ◌<◌, ◌≤◌, ◌∙◌, Bool, true, false, List, [], ap, arith, length, map}
-use Rattle.std.proofs.Common.{nat_eq, refl, slice_index, sym, Some, None, inl, inr}
+use Rattle.std.proofs.Common.{nat_eq, refl, slice_index, subst, sym, Some, None, inl, inr}
 use Rattle.std.specs.Prelude.{◌↔◌, Option, Result}
 use Rattle.std.specs.Int.{bit_at, div_ceil, reverse_bits_onto}
 use Rattle.std.proofs.lemmas.Bool.{agree_below_at, cases_lt, eqb-true}
 use Rattle.std.proofs.lemmas.List.{get_or-map, get_or_past, length-map}
 use Rattle.raster.proofs.WordLemmas.{bit_at_turned8}
+use Rattle.page_code.specs.Codings.{ReadsIn}
+use Rattle.raster.specs.declared.row.Color.{Color}
 use Rattle.raster.specs.declared.packed.Order.{Order}
 use Rattle.raster.specs.declared.packed.Order.TheVariants.{LsbFirst, MsbFirst}
 use Rattle.raster.specs.Packed.{bit_in, bits_of}
@@ -119,6 +121,12 @@ after_page form octets later used start small begins is from = (
   is_later form.coding form.order octets used (Some start) small is,
   is_from form.order start octets later from,
 )
+
+-- the page that turned octets begin with
+pub turned_page : (form : PageForm) (octets : List ℕ) (used : ℕ) → BeginsWith form (in_msb form.order octets) used
+    → BeginsWith (msb_form form) octets used
+turned_page form octets used begins =
+    subst (λ (x : List Bool). (rows : List (List Color)) × ReadsIn form.coding form.width x rows used) (same_bits form.order octets) begins
 
 -- none follows
 pub last_page : (form : PageForm) (octets : List ℕ) (used : ℕ) → ((j : ℕ) → slice_index octets j < 256)

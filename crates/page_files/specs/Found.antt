@@ -1,10 +1,11 @@
 -- What octets are, as far as it decides how they are decoded.
-use Rattle.std.specs.Prelude.{ℕ, ◌≡◌, ◌<◌, ◌≤◌, ◌⊎◌, List, [], ◌∷◌, ◌++◌, Option, Some, None, All, IsTrue, codes, find}
+use Rattle.std.specs.Prelude.{ℕ, ◌≡◌, ◌<◌, ◌≤◌, ◌⊎◌, List, [], ◌∷◌, ◌++◌, Option, Some, None, All, IsTrue, codes, find, nat_eq, not}
+use Rattle.std.specs.List.{filter}
 use Rattle.page_code.specs.declared.Coding.{Coding}
 use Rattle.page_code.specs.declared.Coding.TheVariants.{OneDim, T6}
 use Rattle.raster.specs.declared.packed.Order.TheVariants.{LsbFirst, MsbFirst}
 use Rattle.raster.specs.Packed.{bits_of}
-use Rattle.page_files.specs.Identified.{AreOneDimTried, AreTried, AreTwoDim, IsWay, fits_one, format_line, format_of, identity_of, no_eols_line}
+use Rattle.page_files.specs.Identified.{AreOneDimTried, AreTried, AreTwoDim, IsWay, ReadsTo, fits_one, format_line, format_of, identity_of, no_eols_line}
 use Rattle.page_files.specs.Identified.{tried_line, tried_widths, two_dim_line, wide_line}
 use Rattle.page_files.specs.NoEols.{FirstAlone}
 use Rattle.page_files.specs.declared.found.Found.{Found}
@@ -78,19 +79,51 @@ IsFormat name (found.Begun one) = ⊥
 IsFormat name found.Several = ⊥
 IsFormat name found.Nothing = ⊥
 
--- they were tried in all ways, and are what these say
-pub record IsBest (octets : List ℕ) (what : Found) : Type 0 where
+-- they were tried in all ways in these widths, and are what these say
+pub record IsBest (widths : List ℕ) (octets : List ℕ) (what : Found) : Type 0 where
   pub tried : List Tried
   pub own : Said
-  pub are_tried : AreTried octets tried own
+  pub are_tried : AreTried widths octets tried own
   pub furthest : Option Tried
   pub is_furthest : IsFurthest octets tried furthest
   pub found_is : what ≡ found_by (identity_of None octets tried) (best_of octets tried) furthest
 
--- What octets are: the format that they begin as, or what the ways in which they read say, as `identify` says it.
+-- what octets are: the format that they begin as, or what the ways in which they read in these widths say
+abbrev pub FindsIn : List ℕ → List ℕ → Found → Type 0
+FindsIn widths octets what = ((name : List ℕ) × (format_of octets ≡ Some name) × IsFormat name what)
+    ⊎ ((format_of octets ≡ None) × IsBest widths octets what)
+
+-- what octets are, as `identify` says it
 abbrev pub Finds : List ℕ → Found → Type 0
-Finds octets what = ((name : List ℕ) × (format_of octets ≡ Some name) × IsFormat name what)
-    ⊎ ((format_of octets ≡ None) × IsBest octets what)
+Finds octets what = FindsIn tried_widths octets what
+
+-- those widths that aren't this one
+abbrev pub others : ℕ → List ℕ → List ℕ
+others width widths = filter (λ other. not (nat_eq other width)) widths
+
+-- the widths that are tried if one is likely: that one first
+abbrev pub widths_from : ℕ → List ℕ
+widths_from width = width ∷ others width tried_widths
+
+-- octets that several ways read are a page in the best way of the likely width; if no way of this width reads, the width isn't known
+abbrev pub page_or_several : Option Tried → Found
+page_or_several (Some one) = found.Page one
+page_or_several None = found.Several
+
+-- what octets are that are this by the ways in all widths: only where several ways read, the likely width decides
+abbrev pub IsChosen : ℕ → List ℕ → Found → Found → Type 0
+IsChosen width octets found.Several what = (tried : List Tried) × (own : Said) × AreTried (width ∷ []) octets tried own
+    × (what ≡ page_or_several (best_of octets tried))
+IsChosen width octets (found.Format name) what = what ≡ found.Format name
+IsChosen width octets (found.Page one) what = what ≡ found.Page one
+IsChosen width octets (found.Begun one) what = what ≡ found.Begun one
+IsChosen width octets found.Nothing what = what ≡ found.Nothing
+
+-- What octets are if a width is likely, or none. The likely width is tried first, so of damaged octets that read equally far in several
+-- widths it is theirs. It may be one that isn't tried otherwise.
+abbrev pub FindsBy : Option ℕ → List ℕ → Found → Type 0
+FindsBy None octets what = Finds octets what
+FindsBy (Some width) octets what = (all : Found) × FindsIn (widths_from width) octets all × IsChosen width octets all what
 
 -- the line of what octets are, as `identify` writes it
 abbrev pub found_line : List ℕ → Found → List ℕ
@@ -104,10 +137,15 @@ found_line octets found.Nothing = []
 -- read, T.4 without EOLs
 abbrev pub UnreadLines : List ℕ → List ℕ → Type 0
 UnreadLines octets lines = (tried : List Tried) × (own : Said) × (two_msb two_lsb : Option ℕ) × (first_msb first_lsb : Option (ℕ × ℕ))
-    × AreOneDimTried octets tried own × AreTwoDim octets two_msb two_lsb
+    × AreOneDimTried tried_widths octets tried own × AreTwoDim octets two_msb two_lsb
     × FirstAlone (bits_of MsbFirst octets) tried_widths first_msb × FirstAlone (bits_of LsbFirst octets) tried_widths first_lsb
     × (lines ≡ wide_line MsbFirst own.msb ++ (wide_line LsbFirst own.lsb ++ (two_dim_line MsbFirst tried two_msb
     ++ (two_dim_line LsbFirst tried two_lsb ++ (no_eols_line MsbFirst first_msb ++ no_eols_line LsbFirst first_lsb)))))
+
+-- a page reads as far as its way says
+abbrev pub ReadsSo : List ℕ → Found → Type 0
+ReadsSo octets (found.Page one) = ReadsTo octets one.form one.rows one.end
+ReadsSo octets what = Unit {0}
 
 -- the width of a page, also of a damaged one, is one that pages have
 abbrev pub HasItsWidth : Found → Type 0

@@ -83,17 +83,16 @@ form_in coding order width = record { coding = coding; order = order; width = wi
 abbrev pub forms_in : Coding → Order → List ℕ → List PageForm
 forms_in coding order widths = map (form_in coding order) widths
 
--- the ways in T.4: at the width that octets say themselves in this order of bits, if a page can have it; in all widths, if they say none
-abbrev pub own_forms : Order → Option ℕ → List PageForm
-own_forms order None = forms_in OneDim order tried_widths
-own_forms order (Some width) = cond (not (nat_eq width 0) && not (nat_lt max_width width)) (form_in OneDim order width ∷ []) []
+-- the ways in T.4: at the width that octets say themselves in this order of bits, if a page can have it; in these widths, if they say none
+abbrev pub own_forms : List ℕ → Order → Option ℕ → List PageForm
+own_forms widths order None = forms_in OneDim order widths
+own_forms widths order (Some width) = cond (not (nat_eq width 0) && not (nat_lt max_width width)) (form_in OneDim order width ∷ []) []
 
 -- The ways that are tried, in this order: T.4, most and then least significant bit first; and T.6, most and then least significant bit
--- first, for each in the widths of `tried_widths`. The law `own_widths` says that a page that begins with an EOL is missed in no other
--- width.
-abbrev pub tried_forms : Option ℕ → Option ℕ → List PageForm
-tried_forms msb lsb = own_forms MsbFirst msb ++ (own_forms LsbFirst lsb
-    ++ (forms_in T6 MsbFirst tried_widths ++ forms_in T6 LsbFirst tried_widths))
+-- first, for each in these widths. The law `own_widths` says that a page that begins with an EOL is missed in no other width.
+abbrev pub tried_forms : List ℕ → Option ℕ → Option ℕ → List PageForm
+tried_forms widths msb lsb = own_forms widths MsbFirst msb ++ (own_forms widths LsbFirst lsb
+    ++ (forms_in T6 MsbFirst widths ++ forms_in T6 LsbFirst widths))
 
 -- what octets say of their own width in T.4, in this order of bits
 abbrev pub SaysOwn : Order → List ℕ → Option ℕ → Type 0
@@ -137,18 +136,18 @@ IsTried octets tried = IsWay tried × ReadsTo octets tried.form tried.rows tried
 abbrev pub form_of : Tried → PageForm
 form_of tried = tried.form
 
--- the octets were tried in the ways of T.4, in their order, and the result of each is right
-pub record AreOneDimTried (octets : List ℕ) (tried : List Tried) (own : Said) : Type 0 where
+-- the octets were tried in the ways of T.4 in these widths, in their order, and the result of each is right
+pub record AreOneDimTried (widths : List ℕ) (octets : List ℕ) (tried : List Tried) (own : Said) : Type 0 where
   pub msb_is : SaysOwn MsbFirst octets own.msb
   pub lsb_is : SaysOwn LsbFirst octets own.lsb
-  pub forms_are : map form_of tried ≡ own_forms MsbFirst own.msb ++ own_forms LsbFirst own.lsb
+  pub forms_are : map form_of tried ≡ own_forms widths MsbFirst own.msb ++ own_forms widths LsbFirst own.lsb
   pub each : All (IsTried octets) tried
 
--- the octets were tried in all ways of the list, in its order, and the result of each is right
-pub record AreTried (octets : List ℕ) (tried : List Tried) (own : Said) : Type 0 where
+-- the octets were tried in all ways of the list in these widths, in its order, and the result of each is right
+pub record AreTried (widths : List ℕ) (octets : List ℕ) (tried : List Tried) (own : Said) : Type 0 where
   pub msb_is : SaysOwn MsbFirst octets own.msb
   pub lsb_is : SaysOwn LsbFirst octets own.lsb
-  pub forms_are : map form_of tried ≡ tried_forms own.msb own.lsb
+  pub forms_are : map form_of tried ≡ tried_forms widths own.msb own.lsb
   pub each : All (IsTried octets) tried
 
 -- ---- what is written
@@ -324,7 +323,7 @@ page_lines octets tried = format_line (format_of octets) ++ (lines_of Whole octe
 pub record Identifies (octets : List ℕ) (before after : Option (List ℕ)) (identity : Identity) : Type 0 where
   pub tried : List Tried
   pub own : Said
-  pub are_tried : AreTried octets tried own
+  pub are_tried : AreTried tried_widths octets tried own
   pub between : Option (List ℕ)
   pub last : Option (List ℕ)
   pub written : Appends before between (page_lines octets tried)

@@ -266,6 +266,21 @@ impl FilePages {
         Ok(true)
     }
 
+    /// Goes on to the next page if one follows the one that the octets left begin with, whose code has this number of bits, and returns
+    /// whether it did. If none follows, nothing is changed.
+    pub fn pass_read(&mut self, used: u128) -> bool
+        requires { BeginsWith self.now.form self.now.octets used }
+        ensures form { self.new.form ≡ self.old.form }
+        ensures passed { AfterPage result self.old.form self.old.octets self.new.octets }
+    {
+        let left = left_from(&self.octets, self.first);
+        let Some(start) = later_in(left, msb_form(self.form), used) else {
+            return false;
+        };
+        self.first = clear_before(&mut self.octets, self.first, start);
+        true
+    }
+
     /// Goes on to the page that follows the mark of the end of the one that the octets left begin with, RTC or EOFB, if one follows, and
     /// returns whether it did. If none follows, nothing is changed; None, and nothing is changed, if the mark isn't found.
     fn skip_marked(&mut self) -> Option<bool>

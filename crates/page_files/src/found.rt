@@ -1,19 +1,22 @@
 //! What octets are, as far as it decides how they are decoded: a format, or a page that is read in one way.
 
 ghost use Rattle.faults.specs.Faults.{IsOutside};
-ghost use Rattle.page_files.specs.Found.{Finds, HasBegun, least_rows, HasItsWidth, IsFurthest, IsMost, UnreadLines, best_of, found_by};
+ghost use Rattle.page_files.specs.Found.{Finds, FindsBy, FindsIn, IsChosen, ReadsSo, others, page_or_several, widths_from};
+ghost use Rattle.page_files.specs.Found.{HasBegun, least_rows, HasItsWidth, IsFurthest, IsMost, UnreadLines, best_of, found_by};
 ghost use Rattle.page_files.specs.Found.{found_line};
+ghost use Rattle.page_files.specs.declared.found.Found.TheVariants.{Several};
 ghost use Rattle.page_files.specs.declared.identify.Tried.{Tried};
-ghost use Rattle.page_files.specs.Identified.{IsWay, fits_one};
+ghost use Rattle.page_files.specs.Identified.{IsTried, IsWay, fits_one};
 ghost use Rattle.std.specs.Io.KnownBytes.{Appends};
-ghost use Rattle.std.specs.Prelude.{◌≡◌, ◌++◌, ◌∷◌, ◌↔◌, [], List, ℕ, All, IfErr, IfOk, IfSome, IsTrue, OnOk, find};
+ghost use Rattle.raster.specs.Pixels.{IsWidth};
+ghost use Rattle.std.specs.Prelude.{◌≡◌, ◌++◌, ◌∷◌, ◌↔◌, [], List, ℕ, All, IfErr, IfOk, IfSome, IsTrue, OnOk, Some, find};
 
 use crate::identify::{
-    Fit, Identity, Tried, fits, format_of, identity_of, tell_format, tell_tried, tell_two_dim,
-    tell_wide, try_one_dim, try_ways,
+    Fit, Identity, Tried, WIDTHS, fits, format_of, identity_of, tell_format, tell_tried,
+    tell_two_dim, tell_wide, try_one_dim, try_ways,
 };
 use crate::no_eols::tell_order;
-use faults::ToolFault;
+use faults::{NO_MEMORY, ToolFault};
 use page_code::Coding;
 use run_tables::Order;
 use std::alloc::Global;
@@ -38,6 +41,7 @@ pub enum Found {
 fn first_fit(fit: Fit, octets: &[u8], tried: &[Tried]) -> Option<Tried>
     ensures first { result ≡ find (fits_one fit octets.now) tried.now }
     ensures way { All IsWay tried.now → IfSome result IsWay }
+    ensures tried { All (IsTried octets.now) tried.now → IfSome result (IsTried octets.now) }
 {
     for one in tried {
         if fits(fit, octets, one) {
@@ -51,6 +55,7 @@ fn first_fit(fit: Fit, octets: &[u8], tried: &[Tried]) -> Option<Tried>
 fn best_of(octets: &[u8], tried: &[Tried]) -> Option<Tried>
     ensures best { result ≡ best_of octets.now tried.now }
     ensures way { All IsWay tried.now → IfSome result IsWay }
+    ensures tried { All (IsTried octets.now) tried.now → IfSome result (IsTried octets.now) }
 {
     if let Some(one) = first_fit(Fit::Whole, octets, tried) {
         return Some(one);
@@ -138,20 +143,134 @@ fn found_by(identity: Identity, best: Option<Tried>, furthest: Option<Tried>) ->
     }
 }
 
-/// Returns what octets are. Errors: `NoMemory` (9).
-pub fn find_way(alloc: Global, octets: &[u8]) -> Result<Found, ToolFault>
-    ensures found { IfOk result (Finds octets.now) }
+/// Returns what octets are by the ways in these widths. Errors: `NoMemory` (9).
+#[tactic(auto, using(crate::proofs::PagesFound::found_reads))]
+fn find_in(alloc: Global, octets: &[u8], widths: &[u32]) -> Result<Found, ToolFault>
+    requires { All IsWidth widths.now }
+    ensures found { IfOk result (FindsIn widths.now octets.now) }
     ensures width { IfOk result HasItsWidth }
+    ensures reads { IfOk result (ReadsSo octets.now) }
     ensures fault { IfErr result IsOutside }
 {
     if let Some(name) = format_of(octets) {
         return Ok(Found::Format(name));
     }
-    let (tried, _said) = try_ways(alloc, octets)?;
+    let (tried, _said) = try_ways(alloc, octets, widths)?;
     let identity = identity_of(None, octets, &tried);
     let best = best_of(octets, &tried);
     let furthest = furthest_of(octets, &tried);
     Ok(found_by(identity, best, furthest))
+}
+
+/// Returns what octets are. Errors: `NoMemory` (9).
+pub fn find_way(alloc: Global, octets: &[u8]) -> Result<Found, ToolFault>
+    ensures found { IfOk result (Finds octets.now) }
+    ensures width { IfOk result HasItsWidth }
+    ensures reads { IfOk result (ReadsSo octets.now) }
+    ensures fault { IfErr result IsOutside }
+{
+    find_in(alloc, octets, &WIDTHS)
+}
+
+/// Appends a width, unless it is this one. Errors: `NoMemory` (9).
+fn add_other(other: u32, width: u32, list: &mut Vec<u32>) -> Result<(), ToolFault>
+    requires { IsWidth other }
+    ensures other { OnOk result (list.new.items ≡ list.old.items ++ others width (other ∷ [])) }
+    ensures page { OnOk result (All IsWidth list.old.items → All IsWidth list.new.items) }
+    ensures refused { IfErr result IsOutside }
+{
+    if other == width {
+        return Ok(());
+    }
+    if list.push(other).is_err() {
+        return Err(NO_MEMORY);
+    }
+    Ok(())
+}
+
+/// Appends those widths that aren't this one. Errors: `NoMemory` (9).
+fn add_others(widths: &[u32], width: u32, list: &mut Vec<u32>) -> Result<(), ToolFault>
+    requires { All IsWidth widths.now }
+    ensures others { OnOk result (list.new.items ≡ list.old.items ++ others width widths.now) }
+    ensures pages { OnOk result (All IsWidth list.old.items → All IsWidth list.new.items) }
+    ensures refused { IfErr result IsOutside }
+{
+    for other in widths {
+        add_other(*other, width, list)?;
+    }
+    Ok(())
+}
+
+/// Returns the widths that are tried if this one is likely: it is the first. Errors: `NoMemory` (9).
+fn widths_from(alloc: Global, width: u32) -> Result<Vec<u32>, ToolFault>
+    requires { IsWidth width }
+    ensures widths { IfOk result (λ widths. widths.items ≡ widths_from width) }
+    ensures pages { IfOk result (λ widths. All IsWidth widths.items) }
+    ensures refused { IfErr result IsOutside }
+{
+    let mut widths = Vec::new(alloc);
+    if widths.push(width).is_err() {
+        return Err(NO_MEMORY);
+    }
+    add_others(&WIDTHS, width, &mut widths)?;
+    Ok(widths)
+}
+
+/// Returns the best way as a page; of octets that several ways read, none of which is of the likely width, the width isn't known.
+fn page_or_several(best: Option<Tried>) -> Found
+    ensures page { result ≡ page_or_several best }
+    ensures width { IfSome best IsWay → HasItsWidth result }
+{
+    match best {
+        Some(one) => Found::Page(one),
+        None => Found::Several,
+    }
+}
+
+/// Returns what octets are of which several ways read: a page of this width, if one of them has it. Errors: `NoMemory` (9).
+#[tactic(auto, using(crate::proofs::PagesFound::own_reads))]
+fn find_at(alloc: Global, octets: &[u8], width: u32) -> Result<Found, ToolFault>
+    requires { IsWidth width }
+    ensures chosen { IfOk result (IsChosen width octets.now Several) }
+    ensures width { IfOk result HasItsWidth }
+    ensures reads { IfOk result (ReadsSo octets.now) }
+    ensures fault { IfErr result IsOutside }
+{
+    let widths = [width];
+    let (tried, _said) = try_ways(alloc, octets, &widths)?;
+    let best = best_of(octets, &tried);
+    Ok(page_or_several(best))
+}
+
+/// Returns what octets are if this width is likely. Errors: `NoMemory` (9).
+fn find_near(alloc: Global, octets: &[u8], width: u32) -> Result<Found, ToolFault>
+    requires { IsWidth width }
+    ensures found { IfOk result (FindsBy (Some width) octets.now) }
+    ensures width { IfOk result HasItsWidth }
+    ensures reads { IfOk result (ReadsSo octets.now) }
+    ensures fault { IfErr result IsOutside }
+{
+    let widths = widths_from(alloc, width)?;
+    let found = find_in(alloc, octets, widths.as_slice())?;
+    match found {
+        Found::Several => find_at(alloc, octets, width),
+        Found::Format(_) | Found::Page(_) | Found::Begun(_) | Found::Nothing => Ok(found),
+    }
+}
+
+/// Returns what octets are, if a width is likely or if none is: it decides where several ways read, and its ways are tried too. Errors:
+/// `NoMemory` (9).
+pub fn find_way_by(alloc: Global, octets: &[u8], likely: Option<u32>) -> Result<Found, ToolFault>
+    requires { IfSome likely IsWidth }
+    ensures found { IfOk result (FindsBy likely octets.now) }
+    ensures width { IfOk result HasItsWidth }
+    ensures reads { IfOk result (ReadsSo octets.now) }
+    ensures fault { IfErr result IsOutside }
+{
+    match likely {
+        Some(width) => find_near(alloc, octets, width),
+        None => find_way(alloc, octets),
+    }
 }
 
 /// Writes the line of what octets are, as `identify_engine` does; nothing if they begin with no row. Errors: `Io` (8) from the writer,
@@ -178,7 +297,7 @@ pub fn tell_unread<W: Write>(alloc: Global, octets: &[u8], writer: &mut W) -> Re
         × Appends (W.contents writer.old) (W.contents writer.new) lines) }
     ensures fault { IfErr result IsOutside }
 {
-    let (tried, said) = try_one_dim(alloc, octets)?;
+    let (tried, said) = try_one_dim(alloc, octets, &WIDTHS)?;
     tell_wide(Order::MsbFirst, said.msb, writer)?;
     tell_wide(Order::LsbFirst, said.lsb, writer)?;
     tell_two_dim(octets, Order::MsbFirst, &tried, writer)?;

@@ -236,25 +236,27 @@ fn try_widths(
     Ok(())
 }
 
-/// Reads octets in T.4 and one order of bits, at the width that they say themselves, if pages can have it, or else in all widths; appends
+/// Reads octets in T.4 and one order of bits, at the width that they say themselves, if pages can have it, or else in these widths; appends
 /// how far that is, and returns their own width. Errors: `NoMemory` (9).
 fn try_own(
     alloc: Global,
     octets: &[u8],
     order: Order,
+    widths: &[u32],
     tried: &mut Vec<Tried>,
 ) -> Result<Option<u128>, ToolFault>
+    requires { All IsWidth widths.now }
     ensures own { IfOk result (SaysOwn order octets.now) }
-    ensures forms { IfOk result (λ own. map form_of tried.new.items ≡ map form_of tried.old.items ++ own_forms order own) }
+    ensures forms { IfOk result (λ own. map form_of tried.new.items ≡ map form_of tried.old.items ++ own_forms widths.now order own) }
     ensures each { OnOk result (All (IsTried octets.now) tried.old.items → All (IsTried octets.now) tried.new.items) }
     ensures refused { IfErr result IsOutside }
 {
     let own = own_width(octets, order);
     match own {
-        None => try_widths(alloc, octets, Coding::OneDim, order, &WIDTHS, tried)?,
+        None => try_widths(alloc, octets, Coding::OneDim, order, widths, tried)?,
         Some(width) if width != 0 && width <= MAX_WIDTH as u128 => {
-            let widths = [width as u32];
-            try_widths(alloc, octets, Coding::OneDim, order, &widths, tried)?;
+            let said = [width as u32];
+            try_widths(alloc, octets, Coding::OneDim, order, &said, tried)?;
         }
         Some(_) => {}
     }
@@ -268,31 +270,41 @@ pub(crate) struct Said {
     pub(crate) lsb: Option<u128>,
 }
 
-/// Reads octets in T.4, at its own width or in seven, in both bit orders, and returns what `try_ways` does. Errors: `NoMemory` (9).
-pub(crate) fn try_one_dim(alloc: Global, octets: &[u8]) -> Result<(Vec<Tried>, Said), ToolFault>
-    ensures tried { IfOk result (λ ways. AreOneDimTried octets.now ways.0.items ways.1) }
+/// Reads octets in T.4, at its own width or in these, in both bit orders, and returns what `try_ways` does. Errors: `NoMemory` (9).
+pub(crate) fn try_one_dim(
+    alloc: Global,
+    octets: &[u8],
+    widths: &[u32],
+) -> Result<(Vec<Tried>, Said), ToolFault>
+    requires { All IsWidth widths.now }
+    ensures tried { IfOk result (λ ways. AreOneDimTried widths.now octets.now ways.0.items ways.1) }
     ensures refused { IfErr result IsOutside }
 {
     let mut tried = Vec::new(alloc);
-    let msb = try_own(alloc, octets, Order::MsbFirst, &mut tried)?;
-    let lsb = try_own(alloc, octets, Order::LsbFirst, &mut tried)?;
+    let msb = try_own(alloc, octets, Order::MsbFirst, widths, &mut tried)?;
+    let lsb = try_own(alloc, octets, Order::LsbFirst, widths, &mut tried)?;
     Ok((tried, Said { msb, lsb }))
 }
 
-/// Reads octets in all ways that are tried: T.4 at its own width, or in seven as T.6, both in both bit orders; and returns for each how far
+/// Reads octets in all ways that are tried: T.4 at its own width, or in these as T.6, both in both bit orders; and returns for each how far
 /// it reads: the rows and the bits of the page that the octets begin with, or the fault that `decode` gives and the whole rows before it.
 /// Errors: `NoMemory` (9).
-pub(crate) fn try_ways(alloc: Global, octets: &[u8]) -> Result<(Vec<Tried>, Said), ToolFault>
-    ensures tried { IfOk result (λ ways. AreTried octets.now ways.0.items ways.1) }
+pub(crate) fn try_ways(
+    alloc: Global,
+    octets: &[u8],
+    widths: &[u32],
+) -> Result<(Vec<Tried>, Said), ToolFault>
+    requires { All IsWidth widths.now }
+    ensures tried { IfOk result (λ ways. AreTried widths.now octets.now ways.0.items ways.1) }
     ensures refused { IfErr result IsOutside }
 {
-    let (mut tried, said) = try_one_dim(alloc, octets)?;
+    let (mut tried, said) = try_one_dim(alloc, octets, widths)?;
     try_widths(
         alloc,
         octets,
         Coding::T6,
         Order::MsbFirst,
-        &WIDTHS,
+        widths,
         &mut tried,
     )?;
     try_widths(
@@ -300,7 +312,7 @@ pub(crate) fn try_ways(alloc: Global, octets: &[u8]) -> Result<(Vec<Tried>, Said
         octets,
         Coding::T6,
         Order::LsbFirst,
-        &WIDTHS,
+        widths,
         &mut tried,
     )?;
     Ok((tried, said))
@@ -655,7 +667,7 @@ pub fn identify_engine<W: Write>(
 {
     // pages are tried even if a format is known, since a page may begin so by chance
     let format = format_of(octets);
-    let (tried, said) = try_ways(alloc, octets)?;
+    let (tried, said) = try_ways(alloc, octets, &WIDTHS)?;
     tell_format(format, writer)?;
     tell_those(Fit::Whole, octets, &tried, writer)?;
     tell_those(Fit::NoEofb, octets, &tried, writer)?;

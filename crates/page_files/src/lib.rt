@@ -27,7 +27,7 @@ pub use crate::answer::{DecodeAnswer, answer_decoded};
 pub use crate::coded::{read_image, write_code};
 pub use crate::decoding::{Broken, Decoded, ReadTo, decode_page};
 pub use crate::file_pages::FilePages;
-pub use crate::found::{Found, find_way, tell_found, tell_unread};
+pub use crate::found::{Found, find_way, find_way_by, tell_found, tell_unread};
 pub use crate::identify::{Identity, Tried, WIDTHS, identify_engine};
 pub use crate::later_pages::{answer_page, asks_damaged, later_in, without_first};
 pub use crate::next_t6::{ends_by_eofb, may_follow};

@@ -3,7 +3,7 @@
 ghost use Rattle.faults.specs.Faults.{IsOutside, IsUnread};
 ghost use Rattle.raster.specs.Pixels.{IsWidth};
 ghost use Rattle.command_files.specs.Bounds.{BeginSo, HavePageWidths};
-ghost use Rattle.std.specs.Prelude.{IfErr, IfOk};
+ghost use Rattle.std.specs.Prelude.{IfErr, IfOk, IfSome};
 
 use crate::context::{Cause, Context, Part};
 use crate::files::input::{self, Source};
@@ -37,8 +37,8 @@ pub enum Ways {
     First(PageForm),
     /// This one.
     One(PageForm),
-    /// Those that `identify` tries.
-    Tried,
+    /// Those that `identify` tries, and those of a width that is likely, if one is.
+    Tried(Option<u32>),
     /// One that takes rows anywhere in the octets, as `decode --repair` does.
     Any,
 }
@@ -167,7 +167,7 @@ fn begins_with_page(alloc: Global, octets: &[u8], ways: Ways) -> Result<bool, Al
                 PageRead::Refused(_, _) => Ok(false),
             }
         }
-        Ways::One(_) | Ways::Tried | Ways::Any => Ok(false),
+        Ways::One(_) | Ways::Tried(_) | Ways::Any => Ok(false),
     }
 }
 
@@ -177,16 +177,18 @@ fn is_no_page(alloc: Global, octets: &[u8], ways: Ways) -> Result<bool, AllocErr
 {
     match ways {
         Ways::First(form) | Ways::One(form) => is_refused_early(alloc, octets, form),
-        Ways::Tried => is_tried_in_vain(alloc, octets),
+        Ways::Tried(likely) => is_tried_in_vain(alloc, octets, likely),
         Ways::Any => Ok(false),
     }
 }
 
 /// Returns whether `identify` makes nothing of octets, however many follow: they don't begin with a row of T.4 and an EOL, since `decode
 /// --repair` takes rows of T.4 anywhere, and are refused in T.6 and T.4 far before their end. Errors: memory was refused.
-fn is_tried_in_vain(alloc: Global, octets: &[u8]) -> Result<bool, AllocError> {
+fn is_tried_in_vain(alloc: Global, octets: &[u8], likely: Option<u32>) -> Result<bool, AllocError>
+    requires { IfSome likely IsWidth }
+{
     for order in [Order::MsbFirst, Order::LsbFirst] {
-        if !is_order_in_vain(alloc, octets, order)? {
+        if !is_order_in_vain(alloc, octets, order, likely)? {
             return Ok(false);
         }
     }
@@ -194,25 +196,47 @@ fn is_tried_in_vain(alloc: Global, octets: &[u8]) -> Result<bool, AllocError> {
 }
 
 /// Returns the same of one order of bits. Errors: memory was refused.
-fn is_order_in_vain(alloc: Global, octets: &[u8], order: Order) -> Result<bool, AllocError> {
+fn is_order_in_vain(
+    alloc: Global,
+    octets: &[u8],
+    order: Order,
+    likely: Option<u32>,
+) -> Result<bool, AllocError>
+    requires { IfSome likely IsWidth }
+{
     if own_width(octets, order).is_some() {
         return Ok(false);
     }
     for coding in [Coding::T6, Coding::OneDim] {
-        if !are_refused_early(alloc, octets, coding, order)? {
+        if !are_refused_early(alloc, octets, coding, order, likely)? {
             return Ok(false);
         }
     }
     Ok(true)
 }
 
-/// Returns whether octets are refused far before their end in this code in each width that is tried. Errors: memory was refused.
+/// Returns whether octets are refused far before their end in this code in the likely width, if there is one, and in each that is tried.
+/// Errors: memory was refused.
 fn are_refused_early(
     alloc: Global,
     octets: &[u8],
     coding: Coding,
     order: Order,
-) -> Result<bool, AllocError> {
+    likely: Option<u32>,
+) -> Result<bool, AllocError>
+    requires { IfSome likely IsWidth }
+{
+    if let Some(width) = likely {
+        let form = PageForm {
+            coding,
+            order,
+            width,
+            fine: false,
+        };
+        if !is_refused_early(alloc, octets, form)? {
+            return Ok(false);
+        }
+    }
     for width in WIDTHS {
         let form = PageForm {
             coding,

@@ -58,7 +58,8 @@ pub fn save_new_images(
     end_images(context, output, pages)
 }
 
-/// Writes pages as `save_new_images` does, unless the file is there already with the same octets. Errors: as its.
+/// Writes pages as `save_new_images` does, unless the file is there already with the same octets, or another run makes it meanwhile. Errors: as
+/// its.
 pub fn save_missing_images(
     context: &mut Context<'_>,
     name: &str,
@@ -70,7 +71,10 @@ pub fn save_missing_images(
     if are_there(context.rt(), name, pages) {
         return Ok(());
     }
-    save_new_images(context, name, pages)
+    match save_new_images(context, name, pages) {
+        Err(_fault) if are_there(context.rt(), name, pages) => Ok(()),
+        done => done,
+    }
 }
 
 /// Returns whether a regular file of this name, and no link, has the images of pages and no octet more.

@@ -35,9 +35,11 @@ enum Target<'a> {
     Standard(&'a Streams<'a>),
     /// Into a device, a pipe or a link itself.
     Itself(LimitedFile),
-    /// Into a new file beside the place, which replaces what is there.
+    /// Into a new file beside the place, which replaces the regular file that is there.
     Beside(PartFile),
-    /// Into a new file beside the place, which takes it if nothing is there.
+    /// Into a new file beside the place, which nothing was at; it takes the place if that is so still.
+    Free(PartFile),
+    /// Into a new file beside the place, which takes it if nothing is there; the folder isn't synced then.
     New(PartFile),
 }
 
@@ -60,6 +62,26 @@ pub fn check_terminal(context: &mut Context<'_>, name: &str) -> Result<(), ToolF
         return context.checked(Err(io::Error::from(ErrorKind::Unsupported)), Part::Output);
     }
     Ok(())
+}
+
+/// Notes whether nothing is at the place of an output that is opened after others: on a disk on which the case of letters doesn't count it may
+/// be the place of one of these. Errors: `NoMemory` (9).
+pub fn note_place(context: &mut Context<'_>, name: &str) -> Result<(), ToolFault>
+    ensures { IfErr result IsOutside }
+{
+    if name != STANDARD && is_free(context.rt(), name) {
+        let copied = String::from_str(context.alloc(), name)?;
+        context.note_free(copied)?;
+    }
+    Ok(())
+}
+
+/// Returns whether nothing is at a place, not even a link that leads nowhere.
+fn is_free(rt: &HostRuntime, name: &str) -> bool {
+    match fs::symlink_metadata(rt, name) {
+        Ok(_) => false,
+        Err(error) => error.kind() == ErrorKind::NotFound,
+    }
 }
 
 /// Checks that a name is that of a folder. Errors: `Io` (8), and that is noted.
@@ -136,14 +158,19 @@ fn write_whole(
     Ok(())
 }
 
-/// Opens an output. What is at its place stays until it is ended: it is a new file beside the place if that is free or a regular file's. A
-/// device, a pipe or a link is written itself. Errors: `Io` (8) if it can't be made, and that is noted; `NoMemory` (9).
+/// Opens an output. What is at its place stays until it is ended: it is a new file beside the place if that is free or a regular file's. If
+/// nothing was there at first, and something is there when the output is opened or ended, that fails with `Io` (8), of the kind
+/// `AlreadyExists`. A device, a pipe or a link is written itself. Errors: `Io` (8) if it can't be made, and that is noted; `NoMemory` (9).
 pub fn open<'a>(context: &mut Context<'a>, part: Part, name: &str) -> Result<Output<'a>, ToolFault>
     ensures { IfErr result IsOutside }
 {
     // before the file: it would be left if memory were refused after it
     let copied = String::from_str(context.alloc(), name)?;
-    let opened = target_of(context.streams(), name);
+    let opened = if context.was_free(name) && !is_free(context.rt(), name) {
+        Err(io::Error::from(ErrorKind::AlreadyExists))
+    } else {
+        target_of(context.streams(), name)
+    };
     open_as(context, part, copied, opened)
 }
 
@@ -192,7 +219,7 @@ fn target_of<'a>(streams: &'a Streams<'a>, name: &str) -> io::Result<Target<'a>>
     let rt = streams.rt();
     check_writable(rt, name)?;
     match place_of(rt, name)? {
-        Place::Free => Ok(Target::Beside(make_in(rt, folder_of(name), Rights::Umask)?)),
+        Place::Free => Ok(Target::Free(make_in(rt, folder_of(name), Rights::Umask)?)),
         Place::Regular(permissions) => replacing(rt, name, permissions),
         Place::Other => {
             let file = File::create(rt, name)?;
@@ -253,6 +280,7 @@ fn end_target(rt: &HostRuntime, target: Target<'_>, place: &str, is_whole: bool)
             Ok(())
         }
         Target::Beside(made) => end_beside(rt, made, place, is_whole),
+        Target::Free(made) => end_free(rt, made, place, is_whole),
         Target::New(made) => end_new(rt, made, place, is_whole),
     }
 }
@@ -267,6 +295,16 @@ fn end_beside(rt: &HostRuntime, made: PartFile, place: &str, is_whole: bool) -> 
     if !is_whole || ended.is_err() {
         let _removed = made.remove(rt);
     } else {
+        // the file has its place: a folder that can't be read can't be synced either
+        let _synced = sync_folder(rt, folder_of(place));
+    }
+    ended
+}
+
+/// Ends a new file as `end_new` does, and syncs the folder of its place.
+fn end_free(rt: &HostRuntime, made: PartFile, place: &str, is_whole: bool) -> io::Result<()> {
+    let ended = end_new(rt, made, place, is_whole);
+    if is_whole && ended.is_ok() {
         // the file has its place: a folder that can't be read can't be synced either
         let _synced = sync_folder(rt, folder_of(place));
     }
@@ -297,7 +335,7 @@ impl Write for Output<'_> {
             Target::Nowhere => Ok(octets.len()),
             Target::Standard(streams) => streams.print(octets),
             Target::Itself(file) => file.write(octets),
-            Target::Beside(made) | Target::New(made) => made.write(octets),
+            Target::Beside(made) | Target::Free(made) | Target::New(made) => made.write(octets),
         };
         self.failed = why_failed(&written, octets);
         written

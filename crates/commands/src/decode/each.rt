@@ -2,10 +2,12 @@
 
 ghost use Rattle.command_files.specs.Apart.{AddsFiles};
 ghost use Rattle.commands.specs.Files.{file_read, list_read};
+ghost use Rattle.commands.specs.FoundForms.{given_width};
+ghost use Rattle.commands.specs.Listed.{lists_itself};
 ghost use Rattle.commands.specs.Each.{AllEndSo, EndsIn, IsFileReport, IsReported, as_lines};
 ghost use Rattle.faults.specs.Faults.{IsOutside, IsUnread};
 ghost use Rattle.raster.specs.Pixels.{IsWidth};
-ghost use Rattle.std.specs.Prelude.{◌≡◌, ◌≤◌, ◌+◌, ℕ, List, IfErr, IfOk, IfSome, None, OnOk, flat_map, length};
+ghost use Rattle.std.specs.Prelude.{◌≡◌, ◌≤◌, ◌+◌, ℕ, List, IfErr, IfOk, IfSome, None, OnOk, false, flat_map, length, true};
 
 pub(crate) mod facts;
 mod listed;
@@ -21,11 +23,12 @@ use crate::decode::each::places::{page_name, place_under};
 use crate::decode::each::report::{FileReport, tell_report};
 use crate::decode::each::tally::Tally;
 use crate::decode::ends::FileEnd;
-use crate::decode::found_form::form_of;
+use crate::decode::found_form::{FormAsked, form_of};
 use crate::names::is_untold;
 use crate::words::{context_of_file, words_of_file};
 use command_files::command::{Completeness, NO_NAMES, Names, Runs, both};
 use command_files::context::{Cause, Context, Part};
+use command_files::files::STANDARD;
 use command_files::files::apart::CommandFiles;
 use command_files::files::bounded::{Ways, read_coded};
 use command_files::files::output::{check_folder, sync_names};
@@ -40,6 +43,8 @@ use std::io::ErrorKind;
 pub struct EachCommand {
     /// How all pages are read; as `identify` says it of each file, if that isn't given.
     pub form: Option<PageForm>,
+    /// The width that pages are likely to have, if the form isn't given: it decides where several widths read.
+    pub likely: Option<u32>,
     /// Whether the lines of pages that are read as `identify` says it are fine, 7.7 a millimeter, and not standard, 3.85.
     pub fine: bool,
     /// What is asked for of each page. With both, a page that can't be repaired is salvaged.
@@ -59,11 +64,11 @@ pub struct EachCommand {
 }
 
 impl Runs for EachCommand {
-    ghost use Rattle.std.specs.Prelude.{option_map};
     ghost use Rattle.commands.specs.Each.{EachGives};
     ghost use Rattle.commands.specs.Files.{each_files};
+    ghost use Rattle.commands.specs.FoundForms.{given_width};
 
-    ghost width = { λ command. option_map (λ form. form.width) command.form };
+    ghost width = { λ command. given_width command.form command.likely };
 
     ghost its_files = { each_files };
 
@@ -121,7 +126,7 @@ impl EachCommand {
 
     /// Does all files, those that are named and those of the list, and returns whether all are complete. Errors: those of `do_listed`.
     fn do_all(&self, context: &mut Context<'_>, tally: &mut Tally<'_>) -> Result<bool, ToolFault>
-        requires { IfSome self.now.form (λ form. IsWidth form.width) }
+        requires { IfSome (given_width self.now.form self.now.likely) IsWidth }
         ensures complete { IfOk result (λ complete. (listed : ℕ)
             × AllEndSo self.now (length self.now.files.items + listed) complete × (self.now.list ≡ None → listed ≡ 0)) }
         ensures fault { IfErr result IsOutside }
@@ -141,7 +146,7 @@ impl EachCommand {
         before: bool,
         tally: &mut Tally<'_>,
     ) -> Result<bool, ToolFault>
-        requires { IfSome self.now.form (λ form. IsWidth form.width) }
+        requires { IfSome (given_width self.now.form self.now.likely) IsWidth }
         ensures complete { (files : ℕ) → AllEndSo self.now files before → IfOk result (λ complete. (listed : ℕ)
             × AllEndSo self.now (files + listed) complete × (self.now.list ≡ None → listed ≡ 0)) }
         ensures fault { IfErr result IsOutside }
@@ -164,7 +169,7 @@ impl EachCommand {
         before: bool,
         tally: &mut Tally<'_>,
     ) -> Result<bool, ToolFault>
-        requires { IfSome self.now.form (λ form. IsWidth form.width) }
+        requires { IfSome (given_width self.now.form self.now.likely) IsWidth }
         ensures complete { (files : ℕ) → AllEndSo self.now files before
             → IfOk result (λ complete. (listed : ℕ) × AllEndSo self.now (files + listed) complete) }
         ensures fault { IfErr result IsOutside }
@@ -185,7 +190,7 @@ impl EachCommand {
         before: bool,
         tally: &mut Tally<'_>,
     ) -> Result<bool, ToolFault>
-        requires { IfSome self.now.form (λ form. IsWidth form.width) }
+        requires { IfSome (given_width self.now.form self.now.likely) IsWidth }
         ensures complete { (files : ℕ) → AllEndSo self.now files before
             → IfOk result (λ complete. (listed : ℕ) × AllEndSo self.now (files + listed) complete) }
         ensures fault { IfErr result IsOutside }
@@ -211,7 +216,7 @@ impl EachCommand {
         name: &str,
         tally: &mut Tally<'_>,
     ) -> Result<bool, ToolFault>
-        requires { IfSome self.now.form (λ form. IsWidth form.width) }
+        requires { IfSome (given_width self.now.form self.now.likely) IsWidth }
         ensures complete { IfOk result (IsReported self.now) }
         ensures fault { IfErr result IsOutside }
     {
@@ -249,7 +254,7 @@ impl EachCommand {
 
     /// Decodes every page of a file, and returns what is reported of it, also if it fails.
     fn decode_file(&self, own: &mut Context<'_>, name: &str) -> FileReport
-        requires { IfSome self.now.form (λ form. IsWidth form.width) }
+        requires { IfSome (given_width self.now.form self.now.likely) IsWidth }
         ensures report { IsFileReport self.now result }
         ensures form { IfSome result.form (λ form. IsWidth form.width) }
     {
@@ -265,15 +270,16 @@ impl EachCommand {
     /// Reads a file and decodes every page of it. Errors: `Io` (8) if it can't be read, and that is noted; `TooManyOctets` (32);
     /// `NoMemory` (9).
     fn read_file(&self, own: &mut Context<'_>, name: &str) -> Result<FileReport, ToolFault>
-        requires { IfSome self.now.form (λ form. IsWidth form.width) }
+        requires { IfSome (given_width self.now.form self.now.likely) IsWidth }
         ensures report { IfOk result (λ report. (octets : List ℕ) × (length octets ≤ self.now.most_octets) × EndsIn self.now octets report) }
         ensures form { IfOk result (λ report. IfSome report.form (λ form. IsWidth form.width)) }
         ensures fault { IfErr result IsUnread }
     {
         let ways = match self.form {
             Some(form) => Ways::of(form, self.options.repair),
-            None => Ways::Tried,
+            None => Ways::Tried(self.likely),
         };
+        self.check_source(own, name)?;
         let octets = read_coded(own, name, ways, Watch::Silent)?;
         self.check_octets(own, octets.len())?;
         let place = place_under(own.alloc(), self.folder.as_str(), name)?;
@@ -282,6 +288,24 @@ impl EachCommand {
             sync_names(own, place.as_str(), Part::Output)?;
         }
         Ok(report)
+    }
+
+    /// Checks that a file isn't standard input, if the list of names is that: the rest of the list would be read as the file. Errors: `Io`
+    /// (8), and that is noted.
+    fn check_source(&self, own: &mut Context<'_>, name: &str) -> Result<(), ToolFault>
+        ensures other { OnOk result (lists_itself self.now.list name.now ≡ false) }
+        ensures listed { IfErr result (λ fault. lists_itself self.now.list name.now ≡ true) }
+        ensures fault { IfErr result IsOutside }
+    {
+        let Some(list) = &self.list else {
+            return Ok(());
+        };
+        if name != STANDARD || list.file.as_str() != STANDARD {
+            return Ok(());
+        }
+        own.note_cause(Cause::Listed);
+        own.blame(Part::Input, ErrorKind::InvalidInput);
+        Err(FAILED)
     }
 
     /// Checks that a file has no more octets than are asked for. Errors: `TooManyOctets` (32), and that is noted.
@@ -304,18 +328,33 @@ impl EachCommand {
         place: &str,
         octets: Vec<u8>,
     ) -> Result<FileReport, ToolFault>
-        requires { IfSome self.now.form (λ form. IsWidth form.width) }
+        requires { IfSome (given_width self.now.form self.now.likely) IsWidth }
         ensures report { IfOk result (EndsIn self.now octets.items) }
         ensures form { IfOk result (λ report. IfSome report.form (λ form. IsWidth form.width)) }
         ensures fault { IfErr result IsOutside }
     {
         let alloc = own.alloc();
-        match form_of(alloc, self.form, self.options, self.fine, octets.as_slice())? {
-            Ok(form) => {
-                let report = decode_pages(own, self.pages_of(place), octets, form)?;
+        match form_of(alloc, self.asked(), octets.as_slice())? {
+            Ok(way) => {
+                let report = decode_pages(own, self.pages_of(place), octets, way)?;
                 Ok(report)
             }
             Err(end) => Ok(FileReport::of(alloc, end)),
+        }
+    }
+
+    /// What is asked for of how a file is decoded.
+    fn asked(&self) -> FormAsked
+        ensures form { result.form ≡ self.now.form }
+        ensures likely { result.likely ≡ self.now.likely }
+        ensures options { result.options ≡ self.now.options }
+        ensures fine { result.fine ≡ self.now.fine }
+    {
+        FormAsked {
+            form: self.form,
+            likely: self.likely,
+            options: self.options,
+            fine: self.fine,
         }
     }
 

@@ -149,7 +149,7 @@ impl fmt::Display for FileEnd {
             FileEnd::TwoDims => write!(f, "not read: T.4 in two dimensions (MR)"),
             FileEnd::NoWidth => write!(
                 f,
-                "the width is not known: decode it by --code, --order and --width in each way that identify names"
+                "the width is not known: identify names several; give one of them by --width"
             ),
             FileEnd::Nothing => write!(f, "not read: identify may tell what it is"),
             FileEnd::NoText => write!(f, "its name isn't UTF-8"),

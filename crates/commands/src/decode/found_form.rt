@@ -1,6 +1,6 @@
 //! How octets are decoded: as is given, or else as `identify` says it.
 
-ghost use Rattle.commands.specs.FoundForms.{IsFormOf, IsFoundForm, form_by, lined};
+ghost use Rattle.commands.specs.FoundForms.{BeginsSo, IsFormOf, IsFoundForm, form_by, form_in, given_width, lined, used_in};
 ghost use Rattle.faults.specs.Faults.{IsOutside};
 ghost use Rattle.page_files.specs.Found.{HasItsWidth};
 ghost use Rattle.raster.specs.Pixels.{IsWidth};
@@ -8,8 +8,9 @@ ghost use Rattle.std.specs.Prelude.{◌≡◌, IfErr, IfOk, IfSome};
 
 use crate::damaged::{is_taken, two_dims_of};
 use crate::decode::ends::FileEnd;
+use crate::identify::several::bits_in;
 use faults::ToolFault;
-use page_files::{DecodeOptions, Found, PageForm, TwoDim, asks_damaged, find_way};
+use page_files::{DecodeOptions, Found, PageForm, TwoDim, asks_damaged, find_way_by};
 use std::alloc::Global;
 
 /// Returns a way to read pages, with the lines that are asked for.
@@ -49,38 +50,86 @@ fn form_by(
     }
 }
 
-/// Identifies octets, and returns how they are decoded then, with fine lines or standard ones; or what is said of them if they aren't. Those of
-/// a damaged page are decoded if such pages are asked for. Errors: `NoMemory` (9).
-pub(crate) fn found_form(
+/// How octets are decoded.
+#[derive(Clone, Copy)]
+pub(crate) struct Way {
+    /// The form of their pages.
+    pub(crate) form: PageForm,
+    /// The number of bits of the first page's code, if it is read to its end and that is known.
+    pub(crate) used: Option<u128>,
+}
+
+/// What is asked for of how octets are decoded.
+#[derive(Clone, Copy)]
+pub(crate) struct FormAsked {
+    /// The form in which they are, if it is given.
+    pub(crate) form: Option<PageForm>,
+    /// Otherwise the width that they are likely to have, if one is given.
+    pub(crate) likely: Option<u32>,
+    /// What is asked for of each page.
+    pub(crate) options: DecodeOptions,
+    /// Whether the lines of a page whose form isn't given are fine.
+    pub(crate) fine: bool,
+}
+
+/// Returns the number of bits of the first page's code, if octets are a page that is read to its end.
+fn used_in(found: &Found) -> Option<u128>
+    ensures { result ≡ used_in found.now }
+{
+    match found {
+        Found::Page(way) => bits_in(way.end),
+        Found::Begun(_) | Found::Format(_) | Found::Several | Found::Nothing => None,
+    }
+}
+
+/// Identifies octets, by a likely width if one is given, and returns how they are decoded then, with fine lines or standard ones; or what is
+/// said of them if they aren't. Those of a damaged page are decoded if such pages are asked for. Errors: `NoMemory` (9).
+#[tactic(auto, using(crate::proofs::WaysFound::found_begins))]
+fn found_form(
     alloc: Global,
     octets: &[u8],
+    likely: Option<u32>,
     asked: bool,
     fine: bool,
-) -> Result<Result<PageForm, FileEnd>, ToolFault>
-    ensures form { IfOk result (IsFoundForm asked fine octets.now) }
-    ensures width { IfOk result (λ form. IfOk form (λ form. IsWidth form.width)) }
+) -> Result<Result<Way, FileEnd>, ToolFault>
+    requires { IfSome likely IsWidth }
+    ensures form { IfOk result (λ way. IsFoundForm likely asked fine octets.now (form_in way)) }
+    ensures width { IfOk result (λ way. IfOk way (λ way. IsWidth way.form.width)) }
+    ensures used { IfOk result (λ way. IfOk way (BeginsSo octets.now)) }
     ensures fault { IfErr result IsOutside }
 {
-    let found = find_way(alloc, octets)?;
+    let found = find_way_by(alloc, octets, likely)?;
     let two_dims = two_dims_of(octets, &found);
-    Ok(form_by(asked, fine, two_dims, found))
+    match form_by(asked, fine, two_dims, found) {
+        Ok(form) => {
+            let used = used_in(&found);
+            Ok(Ok(Way { form, used }))
+        }
+        Err(end) => Ok(Err(end)),
+    }
 }
 
 /// Returns how octets are decoded: in the form that is given, or else as they are identified. Errors: `NoMemory` (9).
 pub(crate) fn form_of(
     alloc: Global,
-    given: Option<PageForm>,
-    options: DecodeOptions,
-    fine: bool,
+    asked: FormAsked,
     octets: &[u8],
-) -> Result<Result<PageForm, FileEnd>, ToolFault>
-    requires { IfSome given (λ form. IsWidth form.width) }
-    ensures form { IfOk result (IsFormOf given options fine octets.now) }
-    ensures width { IfOk result (λ form. IfOk form (λ form. IsWidth form.width)) }
+) -> Result<Result<Way, FileEnd>, ToolFault>
+    requires { IfSome (given_width asked.form asked.likely) IsWidth }
+    ensures form { IfOk result (λ way.
+        IsFormOf asked.form asked.likely asked.options asked.fine octets.now (form_in way)) }
+    ensures width { IfOk result (λ way. IfOk way (λ way. IsWidth way.form.width)) }
+    ensures used { IfOk result (λ way. IfOk way (BeginsSo octets.now)) }
     ensures fault { IfErr result IsOutside }
 {
-    match given {
-        Some(form) => Ok(Ok(form)),
-        None => found_form(alloc, octets, asks_damaged(options), fine),
+    match asked.form {
+        Some(form) => Ok(Ok(Way { form, used: None })),
+        None => found_form(
+            alloc,
+            octets,
+            asked.likely,
+            asks_damaged(asked.options),
+            asked.fine,
+        ),
     }
 }

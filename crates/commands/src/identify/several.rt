@@ -157,7 +157,7 @@ fn say_of(own: &mut Context<'_>, name: &str) -> Result<Said, ToolFault>
     ensures known { IfOk result (λ said. IsKnownSo said.is_known) }
     ensures fault { IfErr result IsUnread }
 {
-    let octets = read_coded(own, name, Ways::Tried, Watch::Shown)?;
+    let octets = read_coded(own, name, Ways::Tried(None), Watch::Shown)?;
     let alloc = own.alloc();
     let found = find_way(alloc, octets.as_slice())?;
     let two_dims = two_dims_of(octets.as_slice(), &found);
@@ -302,7 +302,7 @@ fn format_of(alloc: Global, two_dims: Option<TwoDim>, found: &Found) -> Result<V
 }
 
 /// Returns the bits of a page's code, if it is read to its end.
-fn bits_in(end: Result<u128, ToolFault>) -> Option<u128>
+pub(crate) fn bits_in(end: Result<u128, ToolFault>) -> Option<u128>
     ensures { result ≡ bits_in end }
 {
     match end {

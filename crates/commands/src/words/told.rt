@@ -66,6 +66,7 @@ impl fmt::Display for Told<'_> {
                 "{words}; the file doesn't end with EOFB: nothing marks a page's end then, and another page may begin before this bit"
             ),
             Some(Cause::FailedTrial(step)) => write!(f, "{name}: {}: {reason}", step.words()),
+            Some(Cause::Listed) => write!(f, "{name}: the list of names is read from it"),
         }
     }
 }

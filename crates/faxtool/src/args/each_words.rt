@@ -1,7 +1,7 @@
 //! The words of the commands for many files: `decode --each`, and `identify` of several files.
 ghost use Rattle.std.specs.Prelude.{◌≡◌, ◌++◌, ◌||◌, IfOk, MatchResult, OnOk, Some, codes, is_some, map, option_map, string_bytes, true};
 ghost use Rattle.clap.specs.Words.{all_of, first_of, found_of, rows_of};
-ghost use Rattle.faxtool.specs.Jobs.{HasNoCommand, IsCommandOf, IsFormIn, IsListIn, has_files, has_half_form, has_more, has_one, is_named, most_octets_of, most_of};
+ghost use Rattle.faxtool.specs.Jobs.{HasNoCommand, IsCommandOf, IsFormIn, IsLikelyIn, IsListIn, has_files, has_half_form, has_more, has_one, has_standard, is_named, lists_itself, most_octets_of, most_of};
 ghost use Rattle.faxtool.specs.Jobs.{is_for_many, texts_of};
 
 use crate::args::unfit::Unfit;
@@ -74,14 +74,50 @@ fn has_one(matches: &ArgMatches<'_>) -> bool
     text_in(matches, "page").is_some() || is_named(text_in(matches, "verbose"), "true")
 }
 
-// Whether one of the code and the width was given, and not the other.
+/// Returns whether one of these names is that of standard input.
+fn is_among(texts: &[&str]) -> bool
+    ensures { result ≡ has_standard (map (λ text. text.now) texts.now) }
+{
+    for text in texts {
+        if *text == "-" {
+            return true;
+        }
+    }
+    false
+}
+
+/// Returns whether a value of an argument is the name of standard input.
+fn has_standard(matches: &ArgMatches<'_>, id: &str) -> bool
+    ensures { result ≡ has_standard (texts_of id.now (rows_of (found_of matches.now))) }
+{
+    match texts_in(matches, id) {
+        Some(texts) => is_among(texts),
+        None => false,
+    }
+}
+
+/// Returns whether standard input is the list of the names of files, and one of the files that are named.
+fn lists_itself(matches: &ArgMatches<'_>) -> bool
+    ensures { result ≡ lists_itself (rows_of (found_of matches.now)) }
+{
+    is_named(text_in(matches, "from"), "-")
+        && (has_standard(matches, "file") || has_standard(matches, "out"))
+}
+
+// Whether the code was given, and not the width.
 pub(crate) fn has_half_form(matches: &ArgMatches<'_>) -> bool
     ensures { result ≡ has_half_form (rows_of (found_of matches.now)) }
 {
-    if text_in(matches, "code").is_some() {
-        text_in(matches, "width").is_none()
-    } else {
-        text_in(matches, "width").is_some()
+    text_in(matches, "code").is_some() && text_in(matches, "width").is_none()
+}
+
+/// Returns the width that pages are likely to have: the one that is given without a code.
+pub(crate) fn likely_in(matches: &ArgMatches<'_>) -> Option<u32>
+    ensures { IsLikelyIn (rows_of (found_of matches.now)) result }
+{
+    match coding_in(matches) {
+        Some(_) => None,
+        None => width_in(matches),
     }
 }
 
@@ -120,12 +156,16 @@ pub(crate) fn each_command(
     if !has_files(matches) {
         return Ok(Err(Unfit::NoFiles));
     }
+    if lists_itself(matches) {
+        return Ok(Err(Unfit::FileAndFromStandard));
+    }
     let mut files = Vec::new(alloc);
     add_names(alloc, matches, "file", &mut files)?;
     add_names(alloc, matches, "out", &mut files)?;
     let list = list_in(alloc, matches)?;
     Ok(Ok(Command::Each(EachCommand {
         form: form_in(matches),
+        likely: likely_in(matches),
         fine: is_named(text_in(matches, "fine"), "true"),
         options: decode_options(matches),
         folder: String::from_str(alloc, folder)?,

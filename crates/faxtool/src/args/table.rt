@@ -147,7 +147,7 @@ const DECODE_ARGUMENTS: &[Argument<'static>] = &[
     },
     Argument {
         required: false,
-        help: "The width of the page in pixels, 1 to 2432; without --code and --width the page is read as identify says it",
+        help: "The width of the page in pixels, 1 to 2432; without --code the one that is taken where identify names several",
         ..WIDTH
     },
     ORDER,

@@ -10,12 +10,14 @@ pub enum Unfit {
     NoOut,
     /// `decode` of one page with several OUT.
     ManyOuts,
-    /// `decode` with `--code` alone, or with `--width` alone.
+    /// `decode` with `--code` and without `--width`.
     HalfForm,
     /// `--each`, and an option for one page.
     EachAndOne,
     /// `--each` without a file.
     NoFiles,
+    /// Standard input is both a file and the list of files.
+    FileAndFromStandard,
     /// One page, and an option for many files.
     OneAndMany,
     /// `decode` of one page without FILE.
@@ -97,10 +99,11 @@ impl Unfit {
         let words = match self {
             Unfit::NoOut => "OUT is missing, or --each, the folder of the pages of many files",
             Unfit::ManyOuts => "one page goes to one OUT: for many files --each is missing",
-            Unfit::HalfForm => "--code and --width go together: give both, or neither",
+            Unfit::HalfForm => "--code needs --width, the width of the page",
             Unfit::EachAndOne =>
                 "--page and --verbose are for one page, and can't be used with --each",
             Unfit::NoFiles => "FILE is missing, or --from, the list of files",
+            Unfit::FileAndFromStandard => "--from and FILE can't both be standard input",
             Unfit::OneAndMany =>
                 "--from, --null, --resume and --most-.. are for many files, with --each",
             Unfit::NoFile => "FILE is missing",

@@ -14,7 +14,7 @@ ghost use Rattle.calls.specs.declared.losses.BadLine.{BadLine as LineValue};
 
 use crate::args::captures_words::{captures_command, has_captures};
 use crate::args::each_words::{
-    each_command, form_in, has_half_form, has_more, is_for_many, several_command,
+    each_command, form_in, has_half_form, has_more, is_for_many, likely_in, several_command,
 };
 use crate::args::judge_words::judge_command;
 use crate::args::parser::{command_alone, entry_named, faxtool_command};
@@ -270,6 +270,7 @@ fn decode_command(
     }
     Ok(Ok(Command::Decode(DecodeCommand {
         form: form_in(matches),
+        likely: likely_in(matches),
         fine: is_named(text_in(matches, "fine"), "true"),
         options,
         page: page_of(number_in(matches, "page")),

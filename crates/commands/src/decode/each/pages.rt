@@ -1,11 +1,13 @@
 //! The pages of a file, one after another: each is decoded as `decode` decodes it alone.
 
 ghost use Rattle.commands.specs.Each.{EndsWithin, is_silent};
+ghost use Rattle.commands.specs.FoundForms.{BeginsSo};
 ghost use Rattle.commands.specs.Pages.{GoesOn, IsCutAt, IsPageReport, IsReadSo, IsRefusal, broken_line, end_of, file_end, have_damage};
-ghost use Rattle.commands.specs.Pages.{is_answered, is_damaged, is_nothing, may_go_on, page_lines};
+ghost use Rattle.commands.specs.Pages.{is_answered, is_damaged, is_nothing, may_go_on, next_of, page_lines};
 ghost use Rattle.commands.specs.Pages.{repaired_end, with_front};
 ghost use Rattle.commands.specs.Places.{page_name};
 ghost use Rattle.faults.specs.Faults.{IsOutside};
+ghost use Rattle.page_files.specs.LaterPages.{BeginsWith};
 ghost use Rattle.page_code.specs.declared.page_reader.RefusedCode.{RefusedCode as RefusedCodeValue};
 ghost use Rattle.raster.specs.Pixels.{IsWidth};
 ghost use Rattle.std.specs.Prelude.{◌≡◌, ◌++◌, ◌∷◌, ◌⊎◌, ◌<◌, ◌^◌, [], IfErr, IfOk, IfSome, None, OnOk, Some, codes, false};
@@ -15,6 +17,7 @@ use crate::decode::each::facts::{PageFacts, bits_of};
 use crate::decode::each::places::page_name;
 use crate::decode::each::report::FileReport;
 use crate::decode::ends::FileEnd;
+use crate::decode::found_form::Way;
 use command_files::command::both;
 use command_files::context::{Context, Part};
 use command_files::files::images::{save_missing_images, save_new_images};
@@ -66,6 +69,15 @@ pub(crate) enum Next {
     Nothing,
     /// That isn't known, since the page can't be read to its end.
     Unknown,
+}
+
+impl Next {
+    /// Returns what follows, if that is known: another page or nothing.
+    fn of(is_page: bool) -> Next
+        ensures { result ≡ next_of is_page }
+    {
+        if is_page { Next::Page } else { Next::Nothing }
+    }
 }
 
 /// What is reported of a page.
@@ -258,20 +270,25 @@ fn may_go_on(mends: bool, end: PageEnd) -> bool
     }
 }
 
-/// Passes the first page that is left, which ended so, if another follows, as `decode --page` does, and returns what follows. Errors:
-/// `NoMemory` (9).
+/// Passes the first page that is left, which ended so, if another follows, as `decode --page` does, and returns what follows. If the number of
+/// bits of its code is known, it isn't read again. Errors: `NoMemory` (9).
 fn next_page(
     alloc: Global,
     left: &mut FilePages,
     mends: bool,
     end: PageEnd,
+    used: Option<u128>,
 ) -> Result<Next, ToolFault>
+    requires { IfSome used (BeginsWith left.old.form left.old.octets) }
     ensures form { left.new.form ≡ left.old.form }
     ensures next { IfOk result (GoesOn mends left.old.form left.old.octets left.new.octets end) }
     ensures fault { IfErr result IsOutside }
 {
     if !may_go_on(mends, end) {
         return Ok(Next::Unknown);
+    }
+    if let Some(used) = used {
+        return Ok(Next::of(left.pass_read(used)));
     }
     let mut kept = None;
     match left.pass(alloc, mends, &mut kept) {
@@ -369,15 +386,18 @@ pub(crate) fn decode_pages(
     own: &mut Context<'_>,
     of: PagesOf<'_>,
     read: Vec<u8>,
-    form: PageForm,
+    way: Way,
 ) -> Result<FileReport, ToolFault>
-    requires { IsWidth form.width }
-    ensures report { IfOk result (EndsWithin of.entry.most of.entry.options form read.items) }
-    ensures form { IfOk result (λ report. report.form ≡ Some form) }
+    requires width { IsWidth way.form.width }
+    requires begins { BeginsSo read.items way }
+    ensures report { IfOk result (EndsWithin of.entry.most of.entry.options way.form read.items) }
+    ensures form { IfOk result (λ report. report.form ≡ Some way.form) }
     ensures fault { IfErr result IsOutside }
 {
     let alloc = own.alloc();
     let mends = asks_damaged(of.options);
+    let form = way.form;
+    let mut used = way.used;
     let mut left = FilePages::new(read, form);
     let mut told = Vec::new(alloc);
     let mut pages = Vec::new(alloc);
@@ -389,7 +409,8 @@ pub(crate) fn decode_pages(
         add_page(alloc, number, page.told.as_slice(), &mut told)?;
         add_facts(&mut pages, page.facts)?;
         are_complete = both(are_complete, page.is_complete);
-        let next = next_page(alloc, &mut left, mends, end)?;
+        let next = next_page(alloc, &mut left, mends, end, used)?;
+        used = None;
         let Next::Page = next else {
             own.keep_read(left.into_octets(), page.refused);
             let is_damaged = have_damage(pages.as_slice());

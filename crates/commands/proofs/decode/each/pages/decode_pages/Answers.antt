@@ -13,7 +13,7 @@ use Rattle.commands.proofs.decode.each.pages.decode_pages.Goals as goal
 pub loop-before-preserved : goal.loop-before-preserved
 loop-before-preserved c =
     let options = c.args.of.options in
-    let form = c.args.form in
+    let form = c.args.way.form in
     let middle = c.loop-before.left.octets in
     let later = c.next_page.new.left.octets in
     let page = c.decode_one-page.result in
@@ -37,6 +37,7 @@ loop-before-preserved c =
     ∙ append_assoc c.loop-before.told.items (page_lines number page.told.items) (broken_line number page.facts.end)) in
     record {
       form = c.in_ok-next.ensures.form ∙ c.loop-before.invariant.form;
+      used = tt;
       pages = subst (λ (n : ℕ). ArePagesTo options form c.args.read.items n later c.add_facts.new.pages.items c.add_broken.new.lines.items
           c.both-are_complete.result) (sym (add-one c.loop-before.before)) (
             middle,
@@ -56,7 +57,7 @@ loop-before-preserved c =
 pub returns-in_default-clause-report : goal.returns-in_default-clause-report
 returns-in_default-clause-report c =
     let options = c.args.of.options in
-    let form = c.args.form in
+    let form = c.args.way.form in
     let last = c.loop-before.left.octets in
     let later = c.next_page.new.left.octets in
     let number = c.loop-before.before + 1 in
@@ -94,7 +95,7 @@ returns-clause-report c =
     inr (record {
       later = c.loop-before.left.octets;
       complete = c.loop-before.are_complete;
-      pages = subst (λ (n : ℕ). ArePagesTo c.args.of.options c.args.form c.args.read.items n c.loop-before.left.octets c.loop-before.pages.items
+      pages = subst (λ (n : ℕ). ArePagesTo c.args.of.options c.args.way.form c.args.read.items n c.loop-before.left.octets c.loop-before.pages.items
           c.loop-before.told.items c.loop-before.are_complete) all c.loop-before.invariant.pages;
       end_is = refl;
       lacks = refl;

@@ -1,10 +1,10 @@
--- What the check asks of `find_way`.
+-- What the check asks of `find_in`.
 use Rattle.std.proofs.Common.{◌≡◌, List, rules, inr, subst}
 use Rattle.std.specs.Prelude.{None}
 use Rattle.page_files.specs.Found.{IsFurthest}
 use Rattle.page_files.specs.Identified.{format_of}
 use Rattle.page_files.specs.declared.identify.Tried.{Tried}
-use Rattle.page_files.proofs.found.find_way.Goals as goal
+use Rattle.page_files.proofs.found.find_in.Goals as goal
 
 pub returns-clause-found : goal.returns-clause-found
 returns-clause-found c =
