@@ -221,6 +221,13 @@ for lost in 0 1 2 3 4 5 6 7 8; do
     gives 0 call "$top/docs/examples/row.pbm" "$work/stored.pbm" "$lost"
     is_same "$work/stored.pbm" "$top/docs/examples/row.pbm" "call without burst $lost"
 done
+# and with a line that goes before the page is confirmed: the caller has its document again, and calls once more
+for last in 1 2 3 4 5 6; do
+    gives 0 call "$top/docs/examples/row.pbm" "$work/stored.pbm" 0 $last
+    is_same "$work/stored.pbm" "$top/docs/examples/row.pbm" "a second call, after burst $last"
+    [ "$(grep '^caller:' "$work/output" | tr '\n' ' ')" = "caller: the line was lost, 0 confirmed caller: all pages went over, 1 confirmed " ] \
+        || fails "a second call, after burst $last: $(cat "$work/output")"
+done
 answerers=0 talks=
 for words in "$top"/.ci/conversations/*.words; do
     talk=${words%.words}
@@ -326,7 +333,7 @@ esac
 "$top/.ci/archive.py" "$work"
 
 # the module for Python, over the shared library
-for test in test_g3fax test_help; do
+for test in test_g3fax test_returned test_help; do
     PYTHONDONTWRITEBYTECODE=1 G3FAX_LIBRARY=$work/libg3fax.so.0 timeout 600 python3 -W error "$top/bindings/python/$test.py" \
         > "$work/output" 2>&1 || { cat "$work/output" >&2; fails "bindings/python/$test.py"; }
 done

@@ -10,6 +10,9 @@ void g3_core_free(handle *);
 /* of what octets are it reaches what is between its size and the name of a format, which is passed beside it */
 g3_status g3_core_identify(const uint8_t *, size_t, void *, uint8_t *, size_t);
 g3_status g3_core_octets_data(handle *, const uint8_t **, uint64_t *);
+/* how reading ended, as the proved function has it */
+typedef struct ended { uint64_t place; uint32_t fault; } ended;
+g3_status g3_core_page_salvage(const uint8_t *, size_t, const g3_code *, handle *, ended *);
 g3_status g3_core_terminal_params(handle *, void *);
 /* of a signal these reach what `said` has, and its octets, which are passed beside it */
 g3_status g3_core_terminal_peer(handle *, void *);
@@ -172,6 +175,14 @@ g3_status g3_identify(const uint8_t *octets, size_t length, g3_found *found)
     OCTETS(octets, length); SIZED(found);
     g3_status status = g3_core_identify(octets, length, REST(found), (uint8_t *)found->format, sizeof found->format - 1);
     if (status == G3_OK) found->format[found->length] = 0;
+    return status;
+}
+g3_status g3_page_salvage(const uint8_t *octets, size_t length, const g3_code *code, g3_page *out, uint32_t *fault, uint64_t *place)
+{
+    ended end = {0, 0};
+    OCTETS(octets, length); SPARE(code); HANDLE(out); PLACE(fault); PLACE(place);
+    g3_status status = g3_core_page_salvage(octets, length, code, (handle *)out, &end);
+    if (status == G3_OK) *fault = end.fault, *place = end.place;
     return status;
 }
 g3_status g3_row_coder_new(g3_row_coder *out, const g3_code *code)

@@ -157,15 +157,18 @@ G3_CHECK g3_status g3_page_encode(const g3_page *page, uint32_t coding, uint32_t
 /* Reads the page that octets begin with; what follows is ignored. *place: the bits used, or, of G3_NO_ROWS and 10 to 18, the bit from 0
  * where no page can go on. */
 G3_CHECK g3_status g3_page_decode(const uint8_t *octets, size_t length, const g3_code *code, g3_page *out, uint64_t *place);
-/* Reads the whole rows that octets begin with, of a page that can't be read: there may be none. */
-G3_CHECK g3_status g3_page_salvage(const uint8_t *octets, size_t length, const g3_code *code, g3_page *out);
+/* Reads the whole rows that octets begin with, of a page that can't be read: there may be none. *fault: why it can't be, G3_NO_ROWS or 10 to
+ * 18, and *place the bit from 0 where no page can go on. Of a page that can be read *fault is G3_OK, and *place the bits used. */
+G3_CHECK g3_status g3_page_salvage(const uint8_t *octets, size_t length, const g3_code *code, g3_page *out, uint32_t *fault, uint64_t *place);
 /* Reads the page whose lines octets of G3_MH begin with, as a receiver without error correction gives it: a row that can't be read is the
  * one before it. *count: how many rows are such. 4 and 10 to 18 where no row can be read. G3_BAD_CHOICE: G3_MMR has no repair. */
 G3_CHECK g3_status g3_page_repair(const uint8_t *octets, size_t length, const g3_code *code, g3_page *out, uint64_t *count);
 
 /* what octets are: a page, or pages, that read in one way; a file of another format; a page whose width isn't known, since several fit;
- * nothing that is known; a page that can't be read to its end */
-enum g3_found_kind { G3_FOUND_PAGE = 1, G3_FOUND_FORMAT = 2, G3_FOUND_SEVERAL = 3, G3_FOUND_NOTHING = 4, G3_FOUND_BEGUN = 5 };
+ * nothing that is known; a page that can't be read to its end; T.4 in two dimensions (MR), which isn't read */
+enum g3_found_kind {
+    G3_FOUND_PAGE = 1, G3_FOUND_FORMAT = 2, G3_FOUND_SEVERAL = 3, G3_FOUND_NOTHING = 4, G3_FOUND_BEGUN = 5, G3_FOUND_TWO_DIM = 6
+};
 
 /* what octets are; what doesn't belong to the kind is 0 */
 typedef struct g3_found {
@@ -173,8 +176,8 @@ typedef struct g3_found {
     uint64_t place;  /* of a page, the bits of its code, the first page's of several; or the bit of the fault, from 0 */
     uint32_t kind;   /* G3_FOUND_.. */
     uint32_t coding; /* of a page: G3_MH or G3_MMR */
-    uint32_t order;  /* G3_MSB_FIRST or G3_LSB_FIRST */
-    uint32_t width;  /* pixels */
+    uint32_t order;  /* G3_MSB_FIRST or G3_LSB_FIRST; of T.4 in two dimensions too */
+    uint32_t width;  /* pixels; of T.4 in two dimensions those of its first row */
     uint32_t rows;   /* of the first page, or those before the fault */
     uint32_t fault;  /* of a page, 0: g3_page_decode reads it. G3_MISSING_EOFB: g3_page_salvage does. Else g3_page_repair, and copies no row */
     uint32_t repaired; /* the rows that g3_page_repair gives */
@@ -273,6 +276,9 @@ G3_CHECK g3_status g3_answerer_new(g3_terminal *out, const g3_caps *caps);
 /* A caller, which waits for a DIS. The document moves in: its handle is empty then. G3_NOTHING: it has no page. G3_NOT_CALLABLE: a page
  * isn't 1728, 2048 or 2432 pixels wide. G3_BAD_CHOICE: a number of wish stands for no choice. */
 G3_CHECK g3_status g3_caller_new(g3_terminal *out, g3_document *document, const g3_wish *wish);
+/* The same, of the pages from `first` on, counted from 0: those that a call before didn't confirm. They are copied for that, so that nothing
+ * is lost where memory is refused; those before them are freed. G3_NOTHING: there is no such page. */
+G3_CHECK g3_status g3_caller_new_from(g3_terminal *out, g3_document *document, uint64_t first, const g3_wish *wish);
 
 /* Hears octets that came by V.21 or by the carrier of a page: flags and frames, the least significant bit of each first, in pieces of any
  * size, but of one burst. While a burst of its own waits to be sent a station takes DCN alone: no other frame can answer what it hasn't said.
@@ -350,21 +356,20 @@ G3_CHECK g3_status g3_terminal_next_burst(g3_terminal *terminal, g3_octets *out,
 /* what a station listens for: V.21 alone; a training check by `carrier`; V.21, and the frames of a page by `carrier`, one of which comes next;
  * or the same where V.21 comes first, and pages only after it: for a modem that hears one carrier at a time */
 enum g3_hears { G3_HEARS_V21 = 1, G3_HEARS_CHECK = 2, G3_HEARS_PAGES = 3, G3_HEARS_V21_THEN_PAGES = 4 };
-/* why a call ended. Another call by a caller may go better after G3_END_NO_ANSWER, _TRAINING, _NO_REPLY, _UNREADABLE, _STILL_BUSY, _PEER_LEFT and
- * _LINE_LOST; after G3_END_NOT_COMPATIBLE only with other pages, or to another station */
+/* why a call ended. "Again": another call by the caller, of the pages that weren't confirmed, may go better; else it ends so once more */
 enum g3_end {
     G3_END_NORMAL = 1,         /* all pages went over */
-    G3_END_NO_ANSWER = 2,      /* no DIS or no DCS came */
-    G3_END_NOT_COMPATIBLE = 3,
-    G3_END_TRAINING = 4,       /* training failed at the lowest speed */
-    G3_END_NO_REPLY = 5,       /* a command had no reply, three times */
-    G3_END_UNREADABLE = 6,     /* a block was asked for a fourth time */
-    G3_END_STILL_BUSY = 7,     /* the answerer was busy for too long */
-    G3_END_PEER_LEFT = 8,      /* it left before all pages were confirmed: an answerer's are by the MCF taken by g3_terminal_next_burst */
-    G3_END_BAD_PAGE = 9,       /* a page couldn't be read */
+    G3_END_NO_ANSWER = 2,      /* again: no DIS or no DCS came */
+    G3_END_NOT_COMPATIBLE = 3, /* again with other pages, or to another station alone: they have no way to send these */
+    G3_END_TRAINING = 4,       /* again: training failed at the lowest speed */
+    G3_END_NO_REPLY = 5,       /* again: a command had no reply, three times */
+    G3_END_UNREADABLE = 6,     /* again: a block was asked for a fourth time */
+    G3_END_STILL_BUSY = 7,     /* again: the answerer was busy for too long */
+    G3_END_PEER_LEFT = 8,      /* again: it left before all pages were confirmed: an answerer's are by the MCF taken by g3_terminal_next_burst */
+    G3_END_BAD_PAGE = 9,       /* an answerer couldn't read a page */
     G3_END_PAGE_TOO_LONG = 10, /* a page's code is too long */
     G3_END_STOPPED = 11,       /* by g3_terminal_stop or _hang_up, by the limit of seconds, or at a page under a used number */
-    G3_END_LINE_LOST = 12      /* by g3_terminal_lost */
+    G3_END_LINE_LOST = 12      /* again: by g3_terminal_lost */
 };
 
 /* Why a call ended, in English; never NULL, and not to be freed. */
@@ -414,6 +419,11 @@ G3_CHECK g3_status g3_terminal_take_page(g3_terminal *terminal, g3_page *out);
 /* The same, and the answerer is busy, so that the caller isn't told that its page has arrived: it hears RNR, and asks again, until
  * g3_terminal_set_busy(terminal, 0) says that the page is stored. G3_BAD_CHOICE: its limit isn't 1, so that pages are confirmed before. */
 G3_CHECK g3_status g3_terminal_hold(g3_terminal *terminal, g3_page *out);
+
+/* Hands back the document of a caller whose call has ended, as g3_caller_new took it, for another call, and how many of its first pages are
+ * confirmed, as *confirmed. The caller's handle is empty then, so ask for its state before. No memory is taken. G3_NOTHING: the call goes on;
+ * g3_terminal_lost ends it. */
+G3_CHECK g3_status g3_terminal_take_document(g3_terminal *terminal, g3_document *out, uint64_t *confirmed);
 
 /* Signals (T.30, 5.3.6 and A.4): what the contents of frames say. A program that has its own frames reads and writes them by these; a
  * terminal needs none of it. */

@@ -35,6 +35,7 @@ static void codes(size_t length, uint32_t coding)
     g3_raster raster = {64, 315, 10, 0};
     g3_found found = G3_INIT(g3_found);
     uint64_t count = 0, size = 0, place = 0;
+    uint32_t fault = 0;
     DOES(g3_page_read_pbm(image, length, 0, &page, &count));
     DOES(g3_page_encode(&page, coding, G3_LSB_FIRST, &octets));
     DOES(g3_octets_copy(&octets, code, sizeof code, &size));
@@ -42,7 +43,11 @@ static void codes(size_t length, uint32_t coding)
     DOES(g3_identify(code, size, &found));
     if (found.kind != (coding == G3_MH ? G3_FOUND_PAGE : G3_FOUND_SEVERAL)) printf("growth %lu refused: another kind\n", refused), bad = 1;
     DOES(g3_page_push_row(&back, image, 40));
-    DOES(g3_page_salvage(code, size / 2, &form, &kept));
+    DOES(g3_page_salvage(code, size / 2, &form, &kept, &fault, &place));
+    if (fault < G3_BAD_CODE || place > size / 2 * 8) printf("growth %lu refused: fault %u at bit %lu\n", refused, fault, place), bad = 1;
+    g3_page_free(&kept);
+    DOES(g3_page_salvage(code, size, &form, &kept, &fault, &place));
+    if (fault != G3_OK || place > size * 8) printf("growth %lu refused: fault %u\n", refused, fault), bad = 1;
     g3_page_free(&kept);
     DOES(g3_page_write_raster(&page, 64, rows, sizeof rows, &size));
     DOES(g3_page_read_raster(rows, size, &raster, &kept));
@@ -256,6 +261,54 @@ static void calls(int by_frames)
     g3_page_free(&page); g3_page_free(&stored); g3_document_free(&document); g3_terminal_free(&caller); g3_terminal_free(&answerer);
 }
 
+/* A call of two pages whose line is lost once the first one is confirmed: the document comes back, which takes no memory, and another call
+ * sends the second one alone. */
+static void redials(void)
+{
+    g3_page page = G3_EMPTY;
+    g3_document document = G3_EMPTY;
+    g3_terminal caller = G3_EMPTY, answerer = G3_EMPTY;
+    g3_caps caps = {G3_V17, 1, 1, 2432, 2};
+    g3_wish wish = {G3_V17, G3_MMR, 256};
+    g3_state here = G3_INIT(g3_state);
+    uint64_t first = 0, count = 0, confirmed = 0;
+    DOES(g3_document_new(&document));
+    for (unsigned number = 0; number < 2; number++) {
+        DOES(g3_page_new(&page, 1728, 1));
+        for (unsigned row = 0; row < 6; row++) DOES(g3_page_push_row(&page, image + 20 * number + row, 216));
+        DOES(g3_document_push(&document, &page));
+    }
+    for (unsigned call = 0; call < 2; call++) {
+        DOES(g3_answerer_new(&answerer, &caps));
+        if (call == 0) DOES(g3_caller_new(&caller, &document, &wish));
+        else DOES(g3_caller_new_from(&caller, &document, first, &wish));
+        here.end = 0;
+        for (uint64_t now = 0; now < 400000 && here.end == 0; now += 3000) {
+            unsigned said = say(&answerer, &caller, 0);
+            said += say(&caller, &answerer, 0);
+            DOES(g3_terminal_state(&caller, &here));
+            if (call == 0 && here.pages == 1) DOES(g3_terminal_lost(&caller));
+            DOES(g3_terminal_state(&caller, &here));
+            DOES(g3_terminal_tick(&caller, now, said == 0 ? G3_QUIET : G3_CARRIER));
+            DOES(g3_terminal_tick(&answerer, now, said == 0 ? G3_QUIET : G3_CARRIER));
+        }
+        DOES(g3_terminal_take_page(&answerer, &page));
+        for (unsigned row = 0; row < 6; row++) {
+            DOES(g3_page_row(&page, row, again, sizeof again, &count));
+            if (memcmp(again, image + 20 * call + row, 216) != 0) printf("growth %lu refused: another row\n", refused), bad = 1;
+        }
+        unsigned long before = grown;
+        g3_status status = g3_terminal_take_document(&caller, &document, &confirmed);
+        if (status != G3_OK || grown != before || confirmed != 1 || caller.at != NULL)
+            printf("growth %lu refused: no document: %u, %lu\n", refused, status, confirmed), bad = 1;
+        DOES(g3_document_pages(&document, &count));
+        if (count != 2 - call) printf("growth %lu refused: %lu pages\n", refused, count), bad = 1;
+        first += confirmed;
+        g3_page_free(&page); g3_terminal_free(&answerer);
+    }
+    g3_document_free(&document); g3_terminal_free(&caller);
+}
+
 int main(int argc, char **argv)
 {
     if (argc != 3) return fprintf(stderr, "usage: memory IN.pbm LINE.bits\n"), 2;
@@ -273,6 +326,7 @@ int main(int argc, char **argv)
         sizes();
         calls(0);
         calls(1);
+        redials();
         if (blocks != before) printf("growth %lu refused: %ld blocks are left\n", refused, blocks - before), bad = 1;
     } while (grown >= refused);
     printf("growths %lu\n", refused - 1);

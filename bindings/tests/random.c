@@ -71,7 +71,7 @@ static g3_status call(uint32_t which, void *a, void *b)
     case 3: return g3_page_row(a, below(4), octets, length, number);
     case 4: return g3_page_encode(a, below(4), below(3), b);
     case 5: return g3_page_decode(octets, length, below(50) ? &code : NULL, a, number);
-    case 6: return g3_page_salvage(octets, length, &code, a);
+    case 6: return g3_page_salvage(octets, length, below(50) ? &code : NULL, a, below(50) ? &why : NULL, number);
     case 7: return g3_page_repair(octets, length, &code, a, number);
     case 8: return g3_page_read_pbm(octets, length, below(2), a, number);
     case 9: return g3_page_write_pbm(a, b);
@@ -139,6 +139,8 @@ static g3_status call(uint32_t which, void *a, void *b)
     case 61: return g3_identify(octets, length, below(50) ? &found : NULL);
     case 63: return g3_terminal_missed(a);
     case 64: return g3_terminal_next(a, below(50) ? &why : NULL, number);
+    case 65: return g3_caller_new_from(a, b, below(4), below(50) ? &wish : NULL);
+    case 66: case 67: return g3_terminal_take_document(a, b, number);
     case 62: return g3_page_next(octets, length, below(50) ? &code : NULL, below(4) ? below(2000) : stride, number);
     default: g3_page_free(a); return G3_OK;
     }
@@ -151,7 +153,7 @@ int main(int argc, char **argv)
     for (int calls = argc == 2 ? atoi(argv[1]) : 0; calls > 0; calls--) {
         uint32_t first = below(8), second = (first + 1 + below(7)) % 8;
         if (below(20) == 0) refused = grown + 1 + below(4);
-        g3_status status = call(below(66), below(50) ? &handles[first] : NULL, below(50) ? &handles[second] : NULL);
+        g3_status status = call(below(69), below(50) ? &handles[first] : NULL, below(50) ? &handles[second] : NULL);
         int is_known = status <= G3_TOO_MANY_CODED_ROWS || (status >= G3_BAD_ADDRESS && status <= G3_SHORT_FIELD)
             || status == G3_NOT_CALLABLE || status == G3_NOT_COMPATIBLE
             || (status >= G3_EMPTY_HANDLE && status <= G3_NO_ADDRESS);

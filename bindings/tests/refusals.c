@@ -46,6 +46,7 @@ static void twice(void)
     g3_row_coder k = G3_EMPTY;
     g3_terminal t = G3_EMPTY;
     g3_document d = G3_EMPTY;
+    uint64_t count = 9;
     for (int full = 0; full < 2; full++) {
         g3_status as = full ? G3_FULL_HANDLE : G3_EMPTY_HANDLE;
         IS(as, g3_row_coder_take(&k, (void *)&k));
@@ -54,6 +55,8 @@ static void twice(void)
         IS(as, g3_terminal_take_page(&t, (void *)&t));
         IS(as, g3_terminal_hold(&t, (void *)&t));
         IS(as, g3_caller_new((void *)&d, &d, &wish));
+        IS(as, g3_caller_new_from((void *)&d, &d, 0, &wish));
+        IS(as, g3_terminal_take_document(&t, (void *)&t, &count));
         IS(full ? G3_OTHER_HANDLE : G3_EMPTY_HANDLE, g3_document_push(&d, (void *)&d));
         if (full) break;
         IS(G3_OK, g3_row_coder_new(&k, &mmr));
@@ -62,7 +65,6 @@ static void twice(void)
     }
     g3_octets none = G3_EMPTY;
     const uint8_t *data = octets;
-    uint64_t count = 9;
     IS(G3_OK, g3_row_coder_take(&k, &none));
     IS(G3_OK, g3_octets_data(&none, &data, &count));
     IS(1, data == NULL && count == 0);

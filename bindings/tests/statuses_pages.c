@@ -100,14 +100,42 @@ static void rasters(void)
     g3_page_free(&a);
 }
 
+/* A page of T.4 of two white rows of 8 pixels, whole, without its end, and with a run that is too long in its second row. */
+static void salvaged(void)
+{
+    static const char text[] = "000000000001" "10011" "000000000001" "10011" "000000000001" "000000000001" "000000000001" "000000000001"
+                               "000000000001" "000000000001";
+    const g3_code mh = {.coding = G3_MH, .order = G3_MSB_FIRST, .width = 8};
+    g3_page a = G3_EMPTY;
+    g3_size size = G3_INIT(g3_size);
+    uint8_t code[16] = {0};
+    uint32_t fault = 77;
+    uint64_t place = 77;
+    for (size_t at = 0; text[at] != 0; at++) code[at / 8] |= (uint8_t)((text[at] - '0') << (7 - at % 8));
+    IS(G3_OK, g3_page_salvage(code, sizeof code, &mh, &a, &fault, &place));
+    IS(G3_OK, g3_page_size(&a, &size));
+    IS(1, size.rows == 2 && fault == G3_OK && place == 12 * 8 + 2 * 5);
+    g3_page_free(&a);
+    IS(G3_OK, g3_page_salvage(code, 4, &mh, &a, &fault, &place)); /* three bits of the second row's code */
+    IS(G3_OK, g3_page_size(&a, &size));
+    IS(1, size.rows == 1 && fault == G3_TRUNCATED && place == 29);
+    g3_page_free(&a);
+    code[3] |= 0x02; /* the second row begins 11011, a white run of 64 pixels */
+    IS(G3_OK, g3_page_salvage(code, sizeof code, &mh, &a, &fault, &place));
+    IS(G3_OK, g3_page_size(&a, &size));
+    IS(1, size.rows == 1 && fault == G3_RUN_TOO_LONG && place == 29);
+    g3_page_free(&a);
+}
+
 static void coded(void)
 {
     g3_page a = G3_EMPTY;
-    uint64_t place = 0;
+    uint64_t place = 77;
+    uint32_t fault = 77;
     g3_code odd = {3, G3_MSB_FIRST, 8, 0}, other = {G3_MH, 2, 8, 0}, wide = {G3_MH, G3_MSB_FIRST, 2433, 0};
     g3_code mh = {G3_MH, G3_MSB_FIRST, 8, 0}, mmr = {G3_MMR, G3_MSB_FIRST, 8, 0};
     SPARES(odd.spare, g3_page_decode(octets, 4, &odd, &a, &place));
-    SPARES(odd.spare, g3_page_salvage(octets, 4, &odd, &a));
+    SPARES(odd.spare, g3_page_salvage(octets, 4, &odd, &a, &fault, &place));
     SPARES(odd.spare, g3_page_repair(octets, 4, &odd, &a, &place));
     SPARES(odd.spare, g3_page_next(octets, 4, &odd, 0, &place));
     IS(G3_BAD_CHOICE, g3_page_decode(octets, 4, &odd, &a, &place));
@@ -120,7 +148,18 @@ static void coded(void)
     IS(G3_NO_ROWS, g3_page_repair(octets, 4, &mh, &a, &place));
     IS(G3_NO_IMAGE, g3_page_read_pbm(octets, 0, 0, &a, &place));
     IS(G3_BAD_HEADER, g3_page_read_pbm(octets, 4, 0, &a, &place));
-    IS(G3_OK, g3_page_salvage(octets, 4, &mh, &a));
+    place = 77;
+    IS(G3_BAD_CHOICE, g3_page_salvage(octets, 4, &odd, &a, &fault, &place));
+    IS(G3_BAD_WIDTH, g3_page_salvage(octets, 4, &wide, &a, &fault, &place));
+    IS(G3_NO_ADDRESS, g3_page_salvage(octets, 4, &mh, &a, NULL, &place));
+    IS(G3_NO_ADDRESS, g3_page_salvage(octets, 4, &mh, &a, &fault, NULL));
+    IS(1, fault == 77 && place == 77 && a.at == NULL);
+    IS(G3_OK, g3_page_salvage(octets, 4, &mh, &a, &fault, &place));
+    IS(1, fault == G3_NO_ROWS && place == 0);
+    IS(G3_FULL_HANDLE, g3_page_salvage(octets, 4, &mh, &a, &fault, &place));
+    g3_page_free(&a);
+    salvaged();
+    IS(G3_OK, g3_page_new(&a, 8, 0));
     IS(G3_FULL_HANDLE, g3_page_decode(octets, 4, &mh, &a, &place));
     g3_page_free(&a);
 }

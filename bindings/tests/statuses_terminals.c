@@ -36,6 +36,58 @@ static void documents(void)
     IS(G3_EMPTY_HANDLE, g3_caller_new(&t, &d, &wish));
 }
 
+/* A document of three pages comes back after its call, and goes into another one from a page on. */
+static void redials(void)
+{
+    g3_document d = G3_EMPTY, other = G3_EMPTY;
+    g3_page a = G3_EMPTY;
+    g3_terminal t = G3_EMPTY, answerer = G3_EMPTY;
+    g3_caps caps = {G3_V17, 1, 1, 2432, 1};
+    g3_wish wish = {G3_V17, G3_MMR, 256}, odd = {4, G3_MMR, 256};
+    uint64_t n = 77, count = 0;
+    IS(G3_EMPTY_HANDLE, g3_terminal_take_document(&t, &d, &n));
+    IS(G3_EMPTY_HANDLE, g3_terminal_take_document(NULL, &d, &n));
+    IS(G3_EMPTY_HANDLE, g3_terminal_take_document(&t, NULL, &n));
+    IS(G3_EMPTY_HANDLE, g3_caller_new_from(&t, &d, 0, &wish));
+    IS(G3_OK, g3_document_new(&d));
+    IS(G3_NOTHING, g3_caller_new_from(&t, &d, 0, &wish));
+    IS(G3_NOTHING, g3_caller_new_from(&t, &d, UINT64_MAX, &wish));
+    for (uint32_t number = 0; number < 3; number++) {
+        IS(G3_OK, g3_page_new(&a, number == 0 ? 8 : 2048, 1));
+        IS(G3_OK, g3_page_push_row(&a, octets, 256));
+        IS(G3_OK, g3_document_push(&d, &a));
+    }
+    IS(G3_NOT_CALLABLE, g3_caller_new(&t, &d, &wish));
+    IS(G3_NOT_CALLABLE, g3_caller_new_from(&t, &d, 0, &wish)); /* its first page, which isn't sent from 1 on */
+    IS(G3_NOTHING, g3_caller_new_from(&t, &d, 3, &wish));
+    IS(G3_BAD_CHOICE, g3_caller_new_from(&t, &d, 1, &odd));
+    SPARES(odd.spare, g3_caller_new_from(&t, &d, 1, &odd));
+    IS(G3_NO_ADDRESS, g3_caller_new_from(&t, &d, 1, NULL));
+    IS(G3_EMPTY_HANDLE, g3_caller_new_from(NULL, &d, 1, &wish));
+    IS(G3_OK, g3_document_pages(&d, &count));
+    IS(3, (g3_status)count);
+    IS(G3_OK, g3_caller_new_from(&t, &d, 1, &wish));
+    IS(1, d.at == NULL);
+    IS(G3_FULL_HANDLE, g3_caller_new_from(&t, &other, 1, &wish));
+    IS(G3_NO_ADDRESS, g3_terminal_take_document(&t, &d, NULL));
+    IS(G3_NOTHING, g3_terminal_take_document(&t, &d, &n)); /* the call goes on */
+    IS(1, n == 77 && d.at == NULL && t.at != NULL);
+    IS(G3_OK, g3_document_new(&other));
+    IS(G3_FULL_HANDLE, g3_terminal_take_document(&t, &other, &n));
+    IS(G3_OK, g3_terminal_stop(&t)); /* the call has ended, and DCN waits to be sent */
+    IS(G3_FULL_HANDLE, g3_terminal_take_document(&t, &other, &n));
+    IS(G3_OTHER_HANDLE, g3_terminal_take_document((g3_terminal *)&other, &d, &n));
+    IS(G3_OK, g3_terminal_take_document(&t, &d, &n));
+    IS(1, n == 0 && t.at == NULL);
+    IS(G3_OK, g3_document_pages(&d, &count));
+    IS(2, (g3_status)count);
+    IS(G3_OK, g3_answerer_new(&answerer, &caps));
+    IS(G3_OK, g3_terminal_lost(&answerer));
+    IS(G3_OTHER_HANDLE, g3_terminal_take_document(&answerer, (g3_document *)&t, &n));
+    IS(G3_OK, g3_caller_new(&t, &d, &wish));
+    g3_document_free(&other); g3_terminal_free(&t); g3_terminal_free(&answerer);
+}
+
 static void terminals(void)
 {
     g3_terminal t = G3_EMPTY;
@@ -580,6 +632,7 @@ static void doubled(void)
 int main(void)
 {
     documents();
+    redials();
     terminals();
     clocks();
     agreed();

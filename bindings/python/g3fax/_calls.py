@@ -37,11 +37,20 @@ class Document(_Owner):
 
     def __init__(self, pages: Iterable[Page] = ()) -> None:
         super().__init__("g3_document_free")
+        #: how many of its first pages are confirmed, where a caller gave it back
+        self.confirmed: Optional[int] = None
         if isinstance(pages, Page):
             raise TypeError("pages is a list of g3fax.Page, and not one")
         _done(_library.g3_document_new(self._at))
         for page in pages:
             self.append(page)
+
+    @classmethod
+    def _empty(cls) -> Document:
+        document = cls.__new__(cls)
+        _Owner.__init__(document, "g3_document_free")
+        document.confirmed = None
+        return document
 
     def append(self, page: Page) -> None:
         """Moves a page to the end: later calls of the page raise Closed."""
@@ -241,13 +250,28 @@ class Terminal(_Owner):
 class Caller(Terminal):
     """The station that calls and sends a document."""
 
-    def __init__(self, document: Document, modems: Modems = Modems.V17, coding: Coding = Coding.MMR, frame: int = 256) -> None:
-        """Waits for a DIS. The document moves in. `frame` is the octets of data in a frame, 256 or 64."""
+    def __init__(self, document: Document, modems: Modems = Modems.V17, coding: Coding = Coding.MMR, frame: int = 256, *,
+                 first: int = 0) -> None:
+        """Waits for a DIS. The document moves in. `frame` is the octets of data in a frame, 256 or 64. `first` is the page, from 0, from
+        which on the pages are sent: those before it are freed."""
         _is(document, Document, "document")
         super().__init__()
-        wish = _wish(modems, coding, frame)
+        wish, first = _wish(modems, coding, frame), _number(first, "first", 64)
         with document._lock:
-            _done(_library.g3_caller_new(self._at, document._at, ctypes.byref(wish)), None, lambda: _library.g3_wish_wrong(ctypes.byref(wish)))
+            if first == 0:
+                status = _library.g3_caller_new(self._at, document._at, ctypes.byref(wish))
+            else:
+                status = _library.g3_caller_new_from(self._at, document._at, first, ctypes.byref(wish))
+            _done(status, None, lambda: _library.g3_wish_wrong(ctypes.byref(wish)))
+
+    def take_document(self) -> Document:
+        """Hands back the document, where the call has ended, for another call; `confirmed` of it are its first pages that are confirmed. The
+        caller is closed then. Fault 106 while the call goes on."""
+        document, confirmed = Document._empty(), _u64()
+        with self._lock:
+            _done(_library.g3_terminal_take_document(self._at, document._at, ctypes.byref(confirmed)))
+        document.confirmed = confirmed.value
+        return document
 
 
 class Answerer(Terminal):

@@ -35,13 +35,14 @@ class Order(_Choice):
 
 class FileKind(_Choice):
     """What octets are: a page, or pages, that read in one way; a file of another format; a page whose width isn't known, since several fit;
-    nothing that is known; a page that can't be read to its end."""
+    nothing that is known; a page that can't be read to its end; T.4 in two dimensions (MR), which isn't read."""
 
     PAGE = 1
     FORMAT = 2
     SEVERAL = 3
     NOTHING = 4
     BEGUN = 5
+    TWO_DIM = 6
 
 
 @shown
@@ -49,7 +50,7 @@ class Found(NamedTuple):
     """What octets are. Of a page: its code, order and width, the rows of the first one, and the bits of its code. Where its code ends by a
     fault, `bits` is None and `fault` the number of that: with 17 its EOFB is missing, and `rows` are those that Page.salvage gives; else
     `repaired` are the rows that Page.repair gives, none of them a copy. Of a page without an end: `rows` are those before its `fault`. Of another
-    format: its name, as "TIFF"."""
+    format: its name, as "TIFF". Of T.4 in two dimensions: its order, and the width of its first row."""
 
     kind: FileKind
     coding: Optional[Coding] = None

@@ -8,7 +8,7 @@ import importlib
 import operator
 from typing import TYPE_CHECKING, Any, Dict, Iterator, Optional, Tuple, Type, Union, cast, overload
 
-from ._native import _MISSING_EOFB, _NOTHING, _Code, _Found, _Handle, _Raster, _Size, _library, _u64
+from ._native import _MISSING_EOFB, _NOTHING, _Code, _Found, _Handle, _Raster, _Size, _library, _u32, _u64
 from ._names import Coding, FileKind, Found, Order
 from ._owning import CodeFault, _done, _flag, _number, _octets, _Owner, _pack, _packed, _room, _row, _taken, _unpack, _width
 
@@ -35,7 +35,7 @@ class Page(_Owner):
         self.coding: Optional[Coding] = None
         self.order: Optional[Order] = None
         self.start: Optional[int] = None
-        #: why its code has no end, where `pages` has all of its rows nevertheless
+        #: why its code has no end, where `pages` has all of its rows nevertheless; why no more rows are read, where it was salvaged
         self.fault: Optional[CodeFault] = None
         _done(_library.g3_page_new(self._at, _width(width), _flag(fine, "fine")))
 
@@ -93,10 +93,16 @@ class Page(_Owner):
     @classmethod
     def salvage(cls, octets: Buffer, width: int = 1728, coding: Coding = Coding.MMR, order: Order = Order.MSB_FIRST,
                 fine: bool = False) -> Page:
-        """The whole rows that octets begin with, of a page that can't be read; there may be none."""
-        page, (address, length) = cls._empty(), _octets(octets)
+        """The whole rows that octets begin with, of a page that can't be read; there may be none. `fault` of it is why it can't be, with its
+        bit; of a page that can, `bits` of it are the bits used."""
+        page, fault, place, (address, length) = cls._empty(), _u32(), _u64(), _octets(octets)
         code = _code(coding, order, width, fine)
-        _done(_library.g3_page_salvage(address, length, ctypes.byref(code), page._at))
+        status = _library.g3_page_salvage(address, length, ctypes.byref(code), page._at, ctypes.byref(fault), ctypes.byref(place))
+        _done(status, None, lambda: _library.g3_code_wrong(ctypes.byref(code)))
+        if fault.value:
+            page.fault = CodeFault(fault.value, place.value)
+        else:
+            page.bits = place.value
         return page
 
     @classmethod
@@ -405,6 +411,8 @@ def identify(octets: Buffer) -> Found:
     found, (address, length) = _Found(), _octets(octets)
     _done(_library.g3_identify(address, length, ctypes.byref(found)))
     kind = FileKind(found.kind)
+    if kind == FileKind.TWO_DIM:
+        return Found(kind, None, Order(found.order), found.width)
     if kind not in (FileKind.PAGE, FileKind.BEGUN):
         return Found(kind, format=found.format.decode())
     bits, fault = (None, found.fault) if found.fault else (found.place, None)
@@ -420,7 +428,7 @@ def _form(octets: Buffer, width: Optional[int], coding: Optional[Coding], order:
     found = identify(octets)
     if found.kind != FileKind.PAGE or found.coding is None or found.order is None:
         why = {FileKind.FORMAT: f"it is {found.format}", FileKind.SEVERAL: "several ways fit", FileKind.NOTHING: "no way fits",
-               FileKind.BEGUN: "no way reads it to a page's end"}
+               FileKind.BEGUN: "no way reads it to a page's end", FileKind.TWO_DIM: "it is T.4 in two dimensions (MR), which isn't read"}
         raise ValueError(f"its code isn't known: {why[found.kind]}")
     return found.width, found.coding, found.order
 

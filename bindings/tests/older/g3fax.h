@@ -103,9 +103,11 @@ G3_CHECK g3_status g3_pixels_pack(const uint8_t *pixels, size_t length, uint32_t
 G3_CHECK g3_status g3_pixels_unpack(const uint8_t *rows, size_t length, uint32_t width, uint8_t *buffer, size_t room, uint64_t *count);
 G3_CHECK g3_status g3_page_encode(const g3_page *page, uint32_t coding, uint32_t order, g3_octets *out);
 G3_CHECK g3_status g3_page_decode(const uint8_t *octets, size_t length, const g3_code *code, g3_page *out, uint64_t *place);
-G3_CHECK g3_status g3_page_salvage(const uint8_t *octets, size_t length, const g3_code *code, g3_page *out);
+G3_CHECK g3_status g3_page_salvage(const uint8_t *octets, size_t length, const g3_code *code, g3_page *out, uint32_t *fault, uint64_t *place);
 G3_CHECK g3_status g3_page_repair(const uint8_t *octets, size_t length, const g3_code *code, g3_page *out, uint64_t *count);
-enum g3_found_kind { G3_FOUND_PAGE = 1, G3_FOUND_FORMAT = 2, G3_FOUND_SEVERAL = 3, G3_FOUND_NOTHING = 4, G3_FOUND_BEGUN = 5 };
+enum g3_found_kind {
+    G3_FOUND_PAGE = 1, G3_FOUND_FORMAT = 2, G3_FOUND_SEVERAL = 3, G3_FOUND_NOTHING = 4, G3_FOUND_BEGUN = 5, G3_FOUND_TWO_DIM = 6
+};
 typedef struct g3_found {
     uint64_t size;
     uint64_t place;
@@ -161,6 +163,7 @@ const char *g3_caps_wrong(const g3_caps *caps);
 const char *g3_wish_wrong(const g3_wish *wish);
 G3_CHECK g3_status g3_answerer_new(g3_terminal *out, const g3_caps *caps);
 G3_CHECK g3_status g3_caller_new(g3_terminal *out, g3_document *document, const g3_wish *wish);
+G3_CHECK g3_status g3_caller_new_from(g3_terminal *out, g3_document *document, uint64_t first, const g3_wish *wish);
 G3_CHECK g3_status g3_terminal_hear(g3_terminal *terminal, const uint8_t *octets, size_t length);
 G3_CHECK g3_status g3_terminal_hear_frame(g3_terminal *terminal, const uint8_t *content, size_t length);
 G3_CHECK g3_status g3_terminal_hear_training(g3_terminal *terminal, const uint8_t *octets, size_t length);
@@ -243,6 +246,7 @@ typedef struct g3_progress {
 G3_CHECK g3_status g3_terminal_progress(const g3_terminal *terminal, g3_progress *progress);
 G3_CHECK g3_status g3_terminal_take_page(g3_terminal *terminal, g3_page *out);
 G3_CHECK g3_status g3_terminal_hold(g3_terminal *terminal, g3_page *out);
+G3_CHECK g3_status g3_terminal_take_document(g3_terminal *terminal, g3_document *out, uint64_t *confirmed);
 enum g3_kind {
     G3_DIS = 1, G3_DCS = 2, G3_CFR = 3, G3_FTT = 4, G3_FCD = 5, G3_RCP = 6, G3_PPS = 7, G3_PPR = 8, G3_MCF = 9, G3_RNR = 10, G3_RR = 11,
     G3_DCN = 12, G3_OTHER = 13

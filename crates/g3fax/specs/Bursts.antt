@@ -3,18 +3,15 @@ use Rattle.std.specs.Prelude.{ℕ, ◌≡◌, ◌≢◌, ◌⊎◌, ◌↔◌, B
 use Rattle.std.specs.declared.alloc.AllocError.{AllocError}
 use Rattle.std.specs.declared.option.Option.{Option}
 use Rattle.std.specs.declared.option.Option.TheVariants.{None, Some}
-use Rattle.stations.specs.Limiting.{LimitedFields}
 use Rattle.terminals.specs.Clocks.{after_burst}
 use Rattle.terminals.specs.Sending.{HasBurst, Sends}
-use Rattle.terminals.specs.Speaking.{is_mcf}
 use Rattle.terminals.specs.Timed.{TimedFields}
 use Rattle.terminals.specs.declared.clock.LineState.TheVariants.{Unsaid}
 use Rattle.terminals.specs.declared.sending.SentBurst.{SentBurst}
-use Rattle.g3fax.specs.Answering.{AnsweringFields, with_confirmed}
 use Rattle.g3fax.specs.Codes.{Tells}
 use Rattle.g3fax.specs.Handles.{Fills, HasOctets}
 use Rattle.g3fax.specs.Numbers.{carrier_number, check_number, flag_number}
-use Rattle.g3fax.specs.Stations.{Behaviour, answerers}
+use Rattle.g3fax.specs.Stations.{Behaviour}
 use Rattle.g3fax.specs.Statuses.{ok, no_memory, nothing_there}
 use Rattle.g3fax.specs.declared.bursts.G3Burst.{G3Burst}
 use Rattle.g3fax.specs.declared.handle.Kept.{Kept}
@@ -48,10 +45,3 @@ pub record NextBurst (S : Type 0) (b : Behaviour S) (old new : TimedFields S) (b
   pub nothing : status ≡ nothing_there → Sends {E = AllocError} b.side b.lends old.terminal.speaking new.terminal.speaking (Ok None)
   pub exactly : before ≡ None → IsNothing b old status
   pub only : before ≡ None → (status ≡ ok) ⊎ ((status ≡ nothing_there) ⊎ (status ≡ no_memory))
-
--- The next burst of an answerer was taken. If it was MCF, all pages stored so far are confirmed.
-pub record AnswererBurst (old new : AnsweringFields) (before after : Option Kept) (burst : G3Burst) (status : ℕ) : Type 0 where
-  pub next : NextBurst LimitedFields answerers old.timed new.timed before after burst status
-  pub confirms : status ≡ ok → new.tally ≡ with_confirmed (is_mcf old.timed.terminal.speaking.turn) old
-  pub kept : status ≢ ok → new.tally ≡ old.tally
-  pub rest : new ≡ record old { timed = new.timed; tally = new.tally }

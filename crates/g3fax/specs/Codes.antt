@@ -10,7 +10,7 @@ use Rattle.raster.specs.declared.packed.Order.TheVariants.{LsbFirst, MsbFirst}
 use Rattle.raster.specs.declared.row.Color.{Color}
 use Rattle.run_tables.specs.Faults.{number_of}
 use Rattle.run_tables.specs.declared.fault.CodeFaultKind.{CodeFaultKind}
-use Rattle.page_code.specs.Codings.{code_of}
+use Rattle.page_code.specs.Codings.{code_of, read_rows}
 use Rattle.page_code.specs.PageCodes.{AppendsCode}
 use Rattle.page_code.specs.RowsSoFar.{AreWholeRows}
 use Rattle.raster.specs.declared.coding.Coding.{Coding}
@@ -19,6 +19,7 @@ use Rattle.g3fax.specs.Handles.{Fills, HasOctets, HasPage}
 use Rattle.g3fax.specs.Pages.{bad_width, is_set}
 use Rattle.g3fax.specs.Statuses.{ok, no_memory, bad_choice}
 use Rattle.g3fax.specs.declared.codes.G3Code.{G3Code}
+use Rattle.g3fax.specs.declared.codes.G3End.{G3End}
 use Rattle.g3fax.specs.declared.handle.Kept.{Kept}
 
 -- the codes by their numbers: 1 is T.4 in one dimension, 2 is T.6
@@ -62,6 +63,16 @@ pub record ReadsForm (code : G3Code) (Holds : PagePixels → Type 0) (old : Opti
   pub no_coding : old ≡ None → coding_of code.coding ≡ None → status ≡ bad_choice
   pub no_order : old ≡ None → order_of code.order ≡ None → status ≡ bad_choice
   pub no_width : old ≡ None → coding_of code.coding ≢ None → order_of code.order ≢ None → ¬ IsWidth code.width → status ≡ bad_width
+
+-- how reading ends is told: 0 and the number of bits used, or the number of the refusal and its bit
+abbrev pub TellsEnd : Result (List (List Color) × ℕ) (ℕ × CodeFaultKind) → G3End → Type 0
+TellsEnd (Ok read) told = (told.fault ≡ ok) × Tells read.1 told.place
+TellsEnd (Err refused) told = (told.fault ≡ number_of refused.1) × Tells refused.0 told.place
+
+-- how reading octets in this form ends is told
+abbrev pub EndsForm : G3Code → List ℕ → G3End → Type 0
+EndsForm code octets told = IfSome (coding_of code.coding) (λ coding. IfSome (order_of code.order) (λ order.
+    TellsEnd (read_rows coding code.width (bits_of order octets)) told))
 
 -- the page has all whole rows that the octets spell from the beginning, in this form
 abbrev pub HasWholeRows : G3Code → List ℕ → PagePixels → Type 0

@@ -2,6 +2,8 @@
 use Rattle.std.specs.Prelude.{ℕ, ◌≡◌, ◌≤◌, ◌<◌, ◌-◌, ◌^◌, ◌++◌, ◌⊎◌, [], List, Result, Ok, Err, drop, length, min}
 use Rattle.std.specs.declared.option.Option.{Option}
 use Rattle.std.specs.declared.option.Option.TheVariants.{None, Some}
+use Rattle.raster.specs.declared.coding.Coding.{Coding}
+use Rattle.raster.specs.declared.coding.Coding.TheVariants.{OneDim, T6}
 use Rattle.raster.specs.declared.packed.Order.{Order}
 use Rattle.raster.specs.declared.packed.Order.TheVariants.{LsbFirst, MsbFirst}
 use Rattle.faults.specs.declared.fault.ToolFault.{ToolFault}
@@ -9,7 +11,9 @@ use Rattle.faults.specs.declared.fault.ToolFault.TheVariants.{No, AtBit, AtLine}
 use Rattle.page_files.specs.Found.{Finds}
 use Rattle.page_files.specs.declared.found.Found.{Found}
 use Rattle.page_files.specs.declared.found.Found.TheVariants.{Format, Page, Begun, Several, Nothing}
+use Rattle.page_files.specs.TwoDims.{SaysTwoDims}
 use Rattle.page_files.specs.declared.identify.Tried.{Tried}
+use Rattle.page_files.specs.declared.two_dim.TwoDim.{TwoDim}
 use Rattle.g3fax.specs.SignalNumbers.{coding_number}
 use Rattle.g3fax.specs.Statuses.{ok, no_memory, no_room}
 use Rattle.g3fax.specs.declared.identifying.G3Found.{G3Found}
@@ -96,7 +100,42 @@ pub record TellsFound (what : Found) (old new : G3Found) (before after : List �
       × (after ≡ format_name what ++ drop (length (format_name what)) before)
   pub refused : length before < length (format_name what) → (status ≡ no_room) × (new ≡ old) × (after ≡ before)
 
+-- what octets whose rows read furthest in this code say of themselves in T.4 in two dimensions, if that is taken for true: rows of T.6 come by
+-- chance
+abbrev pub said_beside : Coding → Option TwoDim → Option TwoDim
+said_beside OneDim said = None
+said_beside T6 said = said
+
+-- what octets say of themselves in T.4 in two dimensions, if that is taken for true: they read as no page, and no two rows of T.4 are read
+abbrev pub said_of : Found → Option TwoDim → Option TwoDim
+said_of (Page one) said = None
+said_of (Begun one) said = said_beside one.form.coding said
+said_of (Format name) said = None
+said_of Several said = None
+said_of Nothing said = said
+
+-- what is told of octets of T.4 in two dimensions: 6, the order of bits, and the width of their first row; 0 for all else
+abbrev pub two_dim_told : TwoDim → G3Found
+two_dim_told said = record {
+  place = 0;
+  kind = 6;
+  coding = 0;
+  order = order_number said.order;
+  width = in_32 said.width;
+  rows = 0;
+  fault = 0;
+  repaired = 0;
+  length = 0;
+}
+
+-- what octets are is told: T.4 in two dimensions, if they say so, or what they are else
+abbrev pub TellsEither : Option TwoDim → Found → G3Found → G3Found → List ℕ → List ℕ → ℕ → Type 0
+TellsEither (Some said) what old new before after status = (status ≡ ok) × (new ≡ two_dim_told said) × (after ≡ before)
+TellsEither None what old new before after status = TellsFound what old new before after status
+
 -- What the octets are is told, as `identify` finds it; or memory is refused, and nothing changes.
 abbrev pub TellsIdentity : List ℕ → G3Found → G3Found → List ℕ → List ℕ → ℕ → Type 0
-TellsIdentity octets old new before after status = ((what : Found) × Finds octets what × TellsFound what old new before after status)
+TellsIdentity octets old new before after status =
+    ((what : Found) × (said : Option TwoDim) × Finds octets what × SaysTwoDims octets said
+    × TellsEither (said_of what said) what old new before after status)
     ⊎ ((status ≡ no_memory) × (new ≡ old) × (after ≡ before))

@@ -10,6 +10,7 @@ pub mod Handles
 pub mod Hearing
 pub mod Identifying
 pub mod Images
+pub mod Kinds
 pub mod NextPages
 pub mod NumberRows
 pub mod Numbers
@@ -17,6 +18,7 @@ pub mod Owned
 pub mod Pages
 pub mod Progress
 pub mod Rasters
+pub mod Redials
 pub mod Repairs
 pub mod RowCoders
 pub mod RowReaders

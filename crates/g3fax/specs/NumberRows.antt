@@ -7,6 +7,7 @@ use Rattle.page_files.specs.Found.{IsFormat}
 use Rattle.page_files.specs.declared.found.Found.{Found}
 use Rattle.page_files.specs.declared.found.Found.TheVariants as found
 use Rattle.page_files.specs.declared.identify.Tried.{Tried}
+use Rattle.page_files.specs.declared.two_dim.TwoDim.{TwoDim}
 use Rattle.signals.specs.Training.{bits_a_second}
 use Rattle.signals.specs.declared.params.Speed.{Speed}
 use Rattle.signals.specs.declared.params.Speed.TheVariants.{V27At2400, V27At4800, V29At7200, V29At9600, V17At7200, V17At9600, V17At12000}
@@ -20,7 +21,7 @@ use Rattle.stations.specs.declared.turn.End.TheVariants.{StillBusy, PeerLeft, Ba
 use Rattle.stations.specs.declared.waiting.Wait.{Wait}
 use Rattle.stations.specs.declared.waiting.Wait.TheVariants.{T1, T2, T4, T5}
 use Rattle.g3fax.specs.Codes.{coding_of, order_of}
-use Rattle.g3fax.specs.Identifying.{found_told, order_number}
+use Rattle.g3fax.specs.Identifying.{found_told, order_number, two_dim_told}
 use Rattle.g3fax.specs.Numbers.{carrier_number, check_number, end_number, listens_carrier, listens_number, millis_of, reason_number}
 use Rattle.g3fax.specs.Numbers.{wait_number, wait_of}
 use Rattle.g3fax.specs.SignalNumbers.{coding_number}
@@ -75,6 +76,7 @@ pub record WaitsByOrder : Type 0 where
 pub record FoundsByOrder : Type 0 where
   pub page : (one : Tried) → (found_told (found.Page one)).kind ≡ 1
   pub begun : (one : Tried) → (found_told (found.Begun one)).kind ≡ 5
+  pub two_dim : (said : TwoDim) → (two_dim_told said).kind ≡ 6
   pub format : (name : List ℕ) (what : Found) → IsFormat name what → (found_told what).kind ≡ 2
   pub others : map (λ what. (found_told what).kind) (found.Several ∷ found.Nothing ∷ []) ≡ 3 ∷ 4 ∷ []
   pub coding : (coding : Coding) → coding_of (coding_number coding) ≡ Some coding

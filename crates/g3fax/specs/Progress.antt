@@ -2,15 +2,11 @@
 use Rattle.std.specs.Prelude.{ℕ, ◌≡◌}
 use Rattle.std.specs.declared.option.Option.{Option}
 use Rattle.std.specs.declared.option.Option.TheVariants.{None, Some}
-use Rattle.stations.specs.CallerFields.{Represents}
-use Rattle.stations.specs.CallerStep.{Caller}
-use Rattle.stations.specs.HowFar.{answerer_progress, caller_progress}
-use Rattle.stations.specs.Stopping.{StoppableCallerFields}
+use Rattle.stations.specs.HowFar.{answerer_progress}
 use Rattle.stations.specs.declared.howfar.AnswererProgress.{AnswererProgress}
 use Rattle.stations.specs.declared.howfar.BlockProgress.{BlockProgress}
 use Rattle.stations.specs.declared.howfar.CallerProgress.{CallerProgress}
 use Rattle.signals.specs.declared.mark.Mark.{Mark}
-use Rattle.terminals.specs.Timed.{TimedFields}
 use Rattle.terminals.specs.Watching.{refusal_of_seen}
 use Rattle.terminals.specs.declared.watching.Refusal.{Refusal}
 use Rattle.terminals.specs.declared.watching.Refusal.TheVariants.{NoErrorCorrection, NotOffered, UsedNumber}
@@ -19,7 +15,6 @@ use Rattle.terminals.specs.declared.watching.Refused.TheVariants.{Never, Once, T
 use Rattle.terminals.specs.declared.watching.Watched.{Watched}
 use Rattle.g3fax.specs.Answering.{AnsweringFields, count_left}
 use Rattle.g3fax.specs.Codes.{Tells}
-use Rattle.g3fax.specs.Statuses.{ok}
 use Rattle.g3fax.specs.declared.progress.G3Progress.{G3Progress}
 
 -- how far a caller is beside its block, by numbers; 0 for all that belongs to an answerer
@@ -105,15 +100,9 @@ with_watch (Some w) told =
 abbrev pub answering_told : AnswererProgress → ℕ → ℕ → G3Progress
 answering_told far pages confirmed = with_mark far.accepted (answering_without far pages confirmed)
 
--- the numbers of a progress say how far a caller is; those of an answerer are 0
-pub record TellsCalling (timed : TimedFields StoppableCallerFields) (progress : G3Progress) (status : ℕ) : Type 0 where
-  pub done : status ≡ ok
-  pub told : (t : Caller) → Represents timed.terminal.speaking.station.station t → progress ≡ calling_told (caller_progress t)
-
 -- the numbers of a progress say how far an answerer is, with the pages stored and not handed out, those confirmed, and what it saw; those of a
 -- caller are 0
-pub record TellsAnswering (answering : AnsweringFields) (progress : G3Progress) (status : ℕ) : Type 0 where
-  pub done : status ≡ ok
+pub record AnsweringTold (answering : AnsweringFields) (progress : G3Progress) : Type 0 where
   pub told : progress ≡
       with_watch answering.timed.watched
       (answering_told (answerer_progress answering.timed.terminal.speaking.station.station) progress.pages answering.tally.confirmed)

@@ -1,19 +1,12 @@
 -- What a call tells of the state of a terminal.
 use Rattle.std.specs.Prelude.{ℕ, ◌≡◌, Bool, false, List, Option, Some}
-use Rattle.stations.specs.CallerFields.{Represents}
-use Rattle.stations.specs.CallerStep.{Caller, confirmed}
-use Rattle.stations.specs.Stopping.{StoppableCallerFields}
 use Rattle.stations.specs.declared.stopping.CallEnd.{CallEnd}
 use Rattle.stations.specs.declared.stopping.CallEnd.TheVariants.{By}
 use Rattle.stations.specs.declared.turn.End.TheVariants.{Normal, PeerLeft}
 use Rattle.terminals.specs.Hearing.{HasHeard}
-use Rattle.terminals.specs.Stopping.{CallerShows, IsShown, LimitedShows}
 use Rattle.terminals.specs.Timed.{TimedFields, all_frames}
 use Rattle.terminals.specs.declared.stopping.Shown.{Shown}
-use Rattle.g3fax.specs.Answering.{AnsweringFields, all_confirmed, count_left}
-use Rattle.g3fax.specs.Codes.{Tells}
 use Rattle.g3fax.specs.Numbers.{end_number, listens_carrier, listens_number, wait_number}
-use Rattle.g3fax.specs.Statuses.{ok}
 use Rattle.g3fax.specs.declared.states.G3State.{G3State}
 
 -- the numbers of what a station shows of its call
@@ -28,27 +21,8 @@ pub record TellsShown (shown : Shown) (state : G3State) : Type 0 where
 abbrev pub TellsFrames : {S : Type 0} → TimedFields S → G3State → Type 0
 TellsFrames timed state = (octets : List ℕ) → HasHeard timed.terminal.framing octets → state.frames ≡ all_frames octets timed.contents
 
--- the numbers of a state are those of what a caller shows of its call, of its confirmed pages, and of the good frames it has heard
-pub record TellsCaller (timed : TimedFields StoppableCallerFields) (state : G3State) (status : ℕ) : Type 0 where
-  pub done : status ≡ ok
-  pub shown : Shown
-  pub shows : IsShown CallerShows timed.terminal.speaking.station shown
-  pub told : TellsShown shown state
-  pub pages : (t : Caller) → Represents timed.terminal.speaking.station.station t → state.pages ≡ confirmed t
-  pub frames : TellsFrames timed state
-
 -- why the call of an answerer ended, by whether each page that it has stored was confirmed: a caller that left after its last page, and wasn't
 -- told that this has arrived, left too soon
 abbrev pub known_end : Bool → Option CallEnd → Option CallEnd
 known_end false (Some (By Normal)) = Some (By PeerLeft)
 known_end _ end = end
-
--- the numbers of a state are those of what an answerer shows of its call, its end as is known by what was confirmed, of the pages stored and
--- not handed out, and of the good frames it has heard
-pub record TellsAnswerer (answering : AnsweringFields) (state : G3State) (status : ℕ) : Type 0 where
-  pub done : status ≡ ok
-  pub shown : Shown
-  pub shows : IsShown LimitedShows answering.timed.terminal.speaking.station shown
-  pub told : TellsShown (record shown { end = known_end (all_confirmed answering) shown.end }) state
-  pub pages : Tells (count_left answering) state.pages
-  pub frames : TellsFrames answering.timed state

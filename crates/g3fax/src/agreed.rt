@@ -1,7 +1,7 @@
 //! What a terminal and the other station have agreed on, for C.
 
-ghost use Rattle.g3fax.specs.Agreed.{AnswererTellsParams, AnswererTellsPeer, CallerTellsParams, CallerTellsPeer, TellsDcs, TellsDis, TellsParams};
-ghost use Rattle.g3fax.specs.Handles.{OfTerminal};
+ghost use Rattle.g3fax.specs.Agreed.{TellsParams, TellsPeer, told_dcs, told_dis};
+ghost use Rattle.g3fax.specs.Kinds.{OfKind, TellsGroup, TellsOther, answerer_kind, caller_kind};
 ghost use Rattle.std.specs.Prelude.{◌≡◌, ◌≢◌};
 
 use crate::answering::Answering;
@@ -29,7 +29,7 @@ fn tell_params(found: Option<Params>, params: &mut G3Params) -> u32
 
 /// Tells the parameters of a caller's group.
 fn caller_params(timed: &TimedTerminal<StoppableCaller>, params: &mut G3Params) -> u32
-    ensures tells { CallerTellsParams timed.now params.old params.new result }
+    ensures tells { TellsGroup caller_kind timed.now params.old params.new result }
     ensures untold { result ≢ 0 → params.new ≡ params.old }
 {
     tell_params(timed.terminal().station().station().params(), params)
@@ -37,7 +37,7 @@ fn caller_params(timed: &TimedTerminal<StoppableCaller>, params: &mut G3Params) 
 
 /// Tells the parameters of an answerer's group.
 fn answerer_params(answering: &Answering, params: &mut G3Params) -> u32
-    ensures tells { AnswererTellsParams answering.now params.old params.new result }
+    ensures tells { TellsGroup answerer_kind answering.now params.old params.new result }
     ensures untold { result ≢ 0 → params.new ≡ params.old }
 {
     tell_params(
@@ -54,8 +54,7 @@ pub extern "C" fn g3_core_terminal_params(
     terminal: &mut G3Handle,
     params: &mut G3Params,
 ) -> u32
-    ensures answers { OfTerminal (λ terminal. CallerTellsParams terminal params.old params.new result) (λ answering.
-        AnswererTellsParams answering params.old params.new result) terminal.old.value result }
+    ensures answers { OfKind (λ S H k it. TellsGroup k it params.old params.new result) terminal.old.value result }
     ensures kept { terminal.new.value ≡ terminal.old.value }
     ensures untold { result ≢ 0 → params.new ≡ params.old }
 {
@@ -73,28 +72,34 @@ pub extern "C" fn g3_core_terminal_params(
     }
 }
 
-/// Tells a DIS, if there is one.
-fn tell_dis(found: Option<Caps>, signal: &mut G3Signal) -> u32
-    ensures tells { TellsDis found signal.old signal.new result }
-    ensures untold { result ≢ 0 → signal.new ≡ signal.old }
+/// A DIS as a signal is told, if there is one.
+fn told_dis(found: Option<Caps>) -> Option<G3Signal>
+    ensures { result ≡ told_dis found }
 {
     match found {
-        Some(caps) => {
-            *signal = told(&Signal::Dis(caps));
-            OK
-        }
-        None => NOTHING,
+        Some(caps) => Some(told(&Signal::Dis(caps))),
+        None => None,
     }
 }
 
-/// Tells a DCS, if there is one.
-fn tell_dcs(found: Option<Params>, signal: &mut G3Signal) -> u32
-    ensures tells { TellsDcs found signal.old signal.new result }
-    ensures untold { result ≢ 0 → signal.new ≡ signal.old }
+/// A DCS as a signal is told, if there is one.
+fn told_dcs(found: Option<Params>) -> Option<G3Signal>
+    ensures { result ≡ told_dcs found }
 {
     match found {
-        Some(params) => {
-            *signal = told(&Signal::Dcs(params));
+        Some(params) => Some(told(&Signal::Dcs(params))),
+        None => None,
+    }
+}
+
+/// Tells what is known of the other station, if anything is.
+fn tell_peer(known: Option<G3Signal>, signal: &mut G3Signal) -> u32
+    ensures tells { TellsPeer known signal.old signal.new result }
+    ensures untold { result ≢ 0 → signal.new ≡ signal.old }
+{
+    match known {
+        Some(peer) => {
+            *signal = peer;
             OK
         }
         None => NOTHING,
@@ -103,19 +108,22 @@ fn tell_dcs(found: Option<Params>, signal: &mut G3Signal) -> u32
 
 /// Tells the DIS of a caller's answerer.
 fn caller_peer(timed: &TimedTerminal<StoppableCaller>, signal: &mut G3Signal) -> u32
-    ensures tells { CallerTellsPeer timed.now signal.old signal.new result }
+    ensures tells { TellsOther caller_kind timed.now signal.old signal.new result }
     ensures untold { result ≢ 0 → signal.new ≡ signal.old }
 {
-    tell_dis(timed.terminal().station().station().peer(), signal)
+    tell_peer(
+        told_dis(timed.terminal().station().station().peer()),
+        signal,
+    )
 }
 
 /// Tells the DCS of an answerer's caller.
 fn answerer_peer(answering: &Answering, signal: &mut G3Signal) -> u32
-    ensures tells { AnswererTellsPeer answering.now signal.old signal.new result }
+    ensures tells { TellsOther answerer_kind answering.now signal.old signal.new result }
     ensures untold { result ≢ 0 → signal.new ≡ signal.old }
 {
-    tell_dcs(
-        answering.timed.terminal().station().station().peer(),
+    tell_peer(
+        told_dcs(answering.timed.terminal().station().station().peer()),
         signal,
     )
 }
@@ -128,8 +136,7 @@ pub extern "C" fn g3_core_terminal_peer(
     terminal: &mut G3Handle,
     signal: &mut G3Signal,
 ) -> u32
-    ensures answers { OfTerminal (λ terminal. CallerTellsPeer terminal signal.old signal.new result) (λ answering.
-        AnswererTellsPeer answering signal.old signal.new result) terminal.old.value result }
+    ensures answers { OfKind (λ S H k it. TellsOther k it signal.old signal.new result) terminal.old.value result }
     ensures kept { terminal.new.value ≡ terminal.old.value }
     ensures untold { result ≢ 0 → signal.new ≡ signal.old }
 {

@@ -145,7 +145,7 @@ pub extern "C" fn g3_core_answerer_new(alloc: Global, out: &mut G3Handle, caps: 
 }
 
 /// Returns whether a call can have the width of each page.
-fn are_callable(pages: &[Page]) -> bool
+pub(crate) fn are_callable(pages: &[Page]) -> bool
     ensures { IsTrue result ↔ AreCallable pages.now }
 {
     for page in pages {
@@ -196,7 +196,7 @@ fn boxed(
 }
 
 /// Returns the terminal of a new caller of a document. Errors: there is none; then the document stays.
-fn calling(
+pub(crate) fn calling(
     alloc: Global,
     document: &mut Option<Document>,
     wish: Wish,

@@ -1,16 +1,17 @@
 //! What terminals have to send, for C.
 
-ghost use Rattle.g3fax.specs.Bursts.{AnswererBurst, NextBurst, TellsBurst};
-ghost use Rattle.g3fax.specs.Handles.{HasOctets, OnStation};
-ghost use Rattle.g3fax.specs.Stations.{behaviour, callers};
+ghost use Rattle.g3fax.specs.Bursts.{NextBurst, TellsBurst};
+ghost use Rattle.g3fax.specs.Handles.{HasOctets};
+ghost use Rattle.g3fax.specs.Kinds.{OnKind, TakesBurst, answerer_kind, caller_kind};
+ghost use Rattle.g3fax.specs.Stations.{behaviour};
 ghost use Rattle.std.specs.Prelude.{◌≡◌, ◌≢◌};
-ghost use Rattle.stations.specs.Stopping.{StoppableCallerFields};
 
 use crate::answering::Answering;
 use crate::codes::in_64_bits;
 use crate::handle::{G3Handle, Kept, opened_station, room};
 use crate::numbers::{carrier_number, check_number};
 use crate::status::{FULL_HANDLE, NO_MEMORY, NOTHING, OK};
+use stations::StoppableCaller;
 use std::alloc::Global;
 use terminals::{SentBurst, Stoppable, TimedTerminal};
 
@@ -82,6 +83,20 @@ fn next_burst<S: Stoppable>(
     }
 }
 
+/// Fills an empty handle with the octets of a caller's next burst.
+fn caller_burst(
+    alloc: Global,
+    timed: &mut TimedTerminal<StoppableCaller>,
+    out: &mut G3Handle,
+    burst: &mut G3Burst,
+) -> u32
+    ensures next { TakesBurst caller_kind timed.old timed.new out.old.value out.new.value burst.new
+        result }
+    ensures untold { result ≢ 0 → burst.new ≡ burst.old }
+{
+    next_burst(alloc, timed, out, burst)
+}
+
 /// Fills an empty handle with the octets of an answerer's next burst. If it is an MCF, that confirms all pages stored so far.
 fn answerer_burst(
     alloc: Global,
@@ -89,7 +104,8 @@ fn answerer_burst(
     out: &mut G3Handle,
     burst: &mut G3Burst,
 ) -> u32
-    ensures next { AnswererBurst answering.old answering.new out.old.value out.new.value burst.new result }
+    ensures next { TakesBurst answerer_kind answering.old answering.new out.old.value out.new.value
+        burst.new result }
     ensures untold { result ≢ 0 → burst.new ≡ burst.old }
 {
     let tally = answering.with_confirmed(answering.timed.terminal().confirms());
@@ -110,12 +126,12 @@ pub extern "C" fn g3_core_terminal_next_burst(
     out: &mut G3Handle,
     burst: &mut G3Burst,
 ) -> u32
-    ensures next { OnStation (λ old new. NextBurst StoppableCallerFields callers old new out.old.value out.new.value burst.new result)
-        (λ old new. AnswererBurst old new out.old.value out.new.value burst.new result) terminal.old.value terminal.new.value result }
+    ensures next { OnKind (λ S H k old new. TakesBurst k old new out.old.value out.new.value burst.new result) terminal.old.value
+        terminal.new.value result }
     ensures out { result ≢ 0 → out.new.value ≡ out.old.value }
     ensures untold { result ≢ 0 → burst.new ≡ burst.old }
 {
     opened_station!(alloc, terminal,
-        calling => next_burst(alloc, calling, out, burst),
+        calling => caller_burst(alloc, calling, out, burst),
         answering => answerer_burst(alloc, answering, out, burst))
 }

@@ -1,19 +1,21 @@
 //! Coded pages, for C.
 
-ghost use Rattle.g3fax.specs.Codes.{Answers, CodesPage, GivesRead, HasWholeRows, ReadsForm, Tells, coding_of, order_of};
-ghost use Rattle.g3fax.specs.Handles.{OfPage};
+ghost use Rattle.g3fax.specs.Codes.{Answers, CodesPage, EndsForm, GivesRead, HasWholeRows, ReadsForm, Tells, TellsEnd, coding_of, order_of};
+ghost use Rattle.g3fax.specs.Handles.{Fills, HasPage, OfPage};
 ghost use Rattle.g3fax.specs.Pages.{is_set};
 ghost use Rattle.page_code.specs.Codings.{code_of, read_rows};
 ghost use Rattle.page_code.specs.PageCodes.{AppendsCode};
+ghost use Rattle.page_code.specs.RowsSoFar.{AreWholeRows};
 ghost use Rattle.raster.specs.Packed.{bits_of};
-ghost use Rattle.std.specs.Prelude.{⊤, [], ◌≡◌, ◌≢◌, ◌<◌, ◌⊎◌, ◌-◌, ◌^◌, IfErr, IfOk, length, min};
+ghost use Rattle.raster.specs.Pixels.{IsWidth};
+ghost use Rattle.std.specs.Prelude.{⊤, [], ◌≡◌, ◌≢◌, ◌<◌, ◌⊎◌, ◌-◌, ◌^◌, IfErr, IfOk, None, length, min};
 
 use crate::handle::{G3Handle, Kept, opened};
-use crate::status::{BAD_CHOICE, BAD_WIDTH, FULL_HANDLE, NO_MEMORY, NO_ROWS};
-use page_code::{CodesPages, Coding};
+use crate::status::{BAD_CHOICE, BAD_WIDTH, FULL_HANDLE, NO_MEMORY, NO_ROWS, OK};
+use page_code::{CodesPages, Coding, PageRead};
 use raster::packed::Order;
 use raster::{MAX_WIDTH, Page};
-use std::alloc::Global;
+use std::alloc::{AllocError, Global};
 
 /// The code of a number: 1 is T.4 in one dimension, 2 is T.6.
 pub(crate) fn coding_of(number: u32) -> Option<Coding>
@@ -164,17 +166,77 @@ pub extern "C" fn g3_core_page_decode(
     decode(alloc, octets, code, out, place)
 }
 
+/// How reading a page ends.
+#[repr(C)]
+#[derive(Clone, Copy)]
+pub struct G3End {
+    /// The number of bits used; or the bit from 0 where no page can go on.
+    pub place: u64,
+    /// 0 at a page's end, or the number of the refusal, `G3_NO_ROWS` (4) or 10 to 18.
+    pub fault: u32,
+}
+
+/// Fills an empty handle with rows, and tells how reading them ended.
+fn give_rows(alloc: Global, rows: Page, ended: G3End, out: &mut G3Handle, end: &mut G3End) -> u32
+    ensures fills { Fills (HasPage (λ page. page ≡ rows)) out.old.value result out.new.value }
+    ensures told { result ≡ 0 → end.new ≡ ended }
+    ensures untold { result ≢ 0 → end.new ≡ end.old }
+    ensures only { out.old.value ≡ None → (result ≡ 0) ⊎ (result ≡ 9) }
+{
+    let status = out.fill(alloc, Kept::Page(rows));
+    if status == OK {
+        *end = ended;
+    }
+    status
+}
+
+/// Returns all whole rows that octets begin with, and how reading ends. Errors: memory is refused.
+fn salvaged(
+    alloc: Global,
+    octets: &[u8],
+    coding: Coding,
+    order: Order,
+    code: &G3Code,
+) -> Result<(Page, G3End), AllocError>
+    requires { IsWidth code.now.width }
+    ensures width { IfOk result (λ read. read.0.width ≡ code.now.width) }
+    ensures fine { IfOk result (λ read. read.0.fine ≡ is_set code.now.fine) }
+    ensures rows { IfOk result (λ read. AreWholeRows coding code.now.width (bits_of order octets.now)
+        read.0.rows) }
+    ensures end { IfOk result (λ read.
+        TellsEnd (read_rows coding code.now.width (bits_of order octets.now)) read.1) }
+{
+    let width = code.width;
+    let fine = code.fine != 0;
+    match coding.page(alloc, octets, order, width, fine)? {
+        PageRead::Page(_page, used) => {
+            let rows = coding.salvage(alloc, octets, order, width, fine)?;
+            let place = in_64_bits(used);
+            Ok((rows, G3End { place, fault: OK }))
+        }
+        PageRead::Refused(refused, rows) => {
+            let place = in_64_bits(refused.fault.place);
+            let fault = refused.fault.kind.number() as u32;
+            Ok((rows, G3End { place, fault }))
+        }
+    }
+}
+
 /// Reads all whole rows that octets begin with into an empty handle: of a page that can't be read those before the refused bit, perhaps
-/// none. Returns `G3_FULL_HANDLE` (102), `G3_BAD_CHOICE` (104) or `G3_BAD_WIDTH` (1) for a wrong form, or `G3_NO_MEMORY` (9).
+/// none. Tells how reading ends: the number and bit of the refusal, or 0 and the bits used. Returns `G3_FULL_HANDLE` (102), `G3_BAD_CHOICE`
+/// (104) or `G3_BAD_WIDTH` (1) for a wrong form, or `G3_NO_MEMORY` (9).
 #[unsafe(no_mangle)]
 pub extern "C" fn g3_core_page_salvage(
     alloc: Global,
     octets: &[u8],
     code: &G3Code,
     out: &mut G3Handle,
+    end: &mut G3End,
 ) -> u32
     ensures form { ReadsForm code.now (HasWholeRows code.now octets.now) out.old.value result out.new.value }
     ensures only { Answers code.now (λ coding order. result ≡ 0) out.old.value result }
+    ensures tells { result ≡ 0 → EndsForm code.now octets.now end.new }
+    ensures untold { result ≢ 0 → end.new ≡ end.old }
 {
     if out.is_full(alloc) {
         return FULL_HANDLE;
@@ -188,8 +250,8 @@ pub extern "C" fn g3_core_page_salvage(
     if code.width == 0 || code.width > MAX_WIDTH {
         return BAD_WIDTH;
     }
-    match coding.salvage(alloc, octets, order, code.width, code.fine != 0) {
-        Ok(page) => out.fill(alloc, Kept::Page(page)),
+    match salvaged(alloc, octets, coding, order, code) {
+        Ok((rows, ended)) => give_rows(alloc, rows, ended, out, end),
         Err(_) => NO_MEMORY,
     }
 }

@@ -18,7 +18,7 @@ pub extern "C" fn g3_core_document_new(alloc: Global, out: &mut G3Handle) -> u32
 }
 
 /// Returns a copy of a page. Errors: 9.
-fn copied(alloc: Global, page: &Page) -> Result<Page, u32>
+pub(crate) fn copied(alloc: Global, page: &Page) -> Result<Page, u32>
     ensures ok { IfOk result (λ copy. copy ≡ page.now) }
     ensures only { IfErr result (λ status. status ≡ 9) }
 {

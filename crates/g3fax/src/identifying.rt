@@ -1,14 +1,15 @@
 //! What octets are, for C: a page, or pages, that read in one way, or another format.
 
-ghost use Rattle.g3fax.specs.Identifying.{TellsFound, TellsIdentity, bare, end_fault, end_place, fault_number, fault_place, format_name};
-ghost use Rattle.g3fax.specs.Identifying.{found_told, in_32, order_number, repaired_rows, way_told};
+ghost use Rattle.g3fax.specs.Identifying.{TellsEither, TellsFound, TellsIdentity, bare, end_fault, end_place, fault_number, fault_place, format_name};
+ghost use Rattle.g3fax.specs.Identifying.{found_told, in_32, order_number, repaired_rows, said_of, two_dim_told, way_told};
 ghost use Rattle.std.specs.Prelude.{◌≡◌};
 
 use crate::codes::in_64_bits;
 use crate::signal::coding_number;
 use crate::status::{NO_MEMORY, NO_ROOM, OK};
 use faults::ToolFault;
-use page_files::{Found, Tried, find_way};
+use page_code::Coding;
+use page_files::{Found, Tried, TwoDim, find_way, two_dim_of};
 use raster::packed::Order;
 use std::alloc::Global;
 
@@ -19,7 +20,7 @@ pub struct G3Found {
     /// The bits of the page's code; or the bit of the fault, from 0.
     pub place: u64,
     /// What they are: 1 a page, or pages, that read in one way; 2 another format; 3 a page of which several widths fit; 4 nothing known; 5 a page
-    /// that reads to no end.
+    /// that reads to no end; 6 T.4 in two dimensions, which isn't read.
     pub kind: u32,
     /// The code of the page.
     pub coding: u32,
@@ -45,6 +46,17 @@ fn in_32_bits(number: usize) -> u32
         u32::MAX
     } else {
         number as u32
+    }
+}
+
+/// Returns a width in 32 bits, or the greatest number of these.
+fn wide_in_32(width: u128) -> u32
+    ensures { result ≡ in_32 width }
+{
+    if width > u32::MAX as u128 {
+        u32::MAX
+    } else {
+        width as u32
     }
 }
 
@@ -183,6 +195,45 @@ fn tell_found(what: &Found, out: &mut G3Found, format: &mut [u8]) -> u32
     OK
 }
 
+/// Returns what octets that are this say of themselves in T.4 in two dimensions, if that is taken for true: they read as no page, and no two
+/// rows of T.4 are read.
+fn said_of(what: &Found, said: Option<TwoDim>) -> Option<TwoDim>
+    ensures { result ≡ said_of what.now said }
+{
+    match what {
+        Found::Begun(one) => match one.form.coding {
+            Coding::OneDim => None,
+            Coding::T6 => said,
+        },
+        Found::Nothing => said,
+        Found::Page(_) | Found::Format(_) | Found::Several => None,
+    }
+}
+
+/// Tells octets of T.4 in two dimensions.
+fn two_dim_told(said: TwoDim) -> G3Found
+    ensures { result ≡ two_dim_told said }
+{
+    G3Found {
+        order: order_number(said.order),
+        width: wide_in_32(said.width),
+        ..bare(6, 0)
+    }
+}
+
+/// Tells that octets are T.4 in two dimensions, if they say so; else what they are.
+fn tell_either(said: Option<TwoDim>, what: &Found, out: &mut G3Found, format: &mut [u8]) -> u32
+    ensures { TellsEither said what.now out.old out.new format.old format.new result }
+{
+    match said {
+        Some(said) => {
+            *out = two_dim_told(said);
+            OK
+        }
+        None => tell_found(what, out, format),
+    }
+}
+
 /// Tells what octets are, as `faxtool identify` finds it: tries them as pages in both codes, both orders of bits and the usual widths.
 /// Copies the name of another format to the beginning of a buffer. Returns `G3_NO_ROOM` (103) if the buffer is too small, or `G3_NO_MEMORY` (9).
 #[unsafe(no_mangle)]
@@ -195,7 +246,7 @@ pub extern "C" fn g3_core_identify(
     ensures { TellsIdentity octets.now out.old out.new format.old format.new result }
 {
     match find_way(alloc, octets) {
-        Ok(what) => tell_found(&what, out, format),
+        Ok(what) => tell_either(said_of(&what, two_dim_of(octets)), &what, out, format),
         Err(_) => NO_MEMORY,
     }
 }

@@ -1,7 +1,7 @@
 //! How far terminals are with their calls, for C.
 
-ghost use Rattle.g3fax.specs.Handles.{OfTerminal};
-ghost use Rattle.g3fax.specs.Progress.{TellsAnswering, TellsCalling, answering_told, calling_told, refused_times, refused_why, with_watch};
+ghost use Rattle.g3fax.specs.Kinds.{OfKind, TellsProgress, answerer_kind, caller_kind};
+ghost use Rattle.g3fax.specs.Progress.{answering_told, calling_told, refused_times, refused_why, with_watch};
 ghost use Rattle.std.specs.Prelude.{◌≡◌, ◌≢◌, ◌≤◌};
 
 use crate::answering::Answering;
@@ -148,7 +148,7 @@ fn answering_told(far: AnswererProgress, pages: u64, confirmed: u64) -> G3Progre
 
 /// Tells how far a caller is.
 fn tell_calling(timed: &TimedTerminal<StoppableCaller>, progress: &mut G3Progress) -> u32
-    ensures { TellsCalling timed.now progress.new result }
+    ensures { TellsProgress caller_kind timed.now progress.new result }
 {
     *progress = calling_told(timed.terminal().station().station().progress());
     OK
@@ -156,7 +156,7 @@ fn tell_calling(timed: &TimedTerminal<StoppableCaller>, progress: &mut G3Progres
 
 /// Tells how far an answerer is.
 fn tell_answering(answering: &Answering, progress: &mut G3Progress) -> u32
-    ensures { TellsAnswering answering.now progress.new result }
+    ensures { TellsProgress answerer_kind answering.now progress.new result }
 {
     let station = answering.timed.terminal().station().station();
     let pages = in_64_bits(answering.count_left());
@@ -173,8 +173,7 @@ pub extern "C" fn g3_core_terminal_progress(
     terminal: &mut G3Handle,
     progress: &mut G3Progress,
 ) -> u32
-    ensures answers { OfTerminal (λ terminal. TellsCalling terminal progress.new result) (λ answering. TellsAnswering answering progress.new
-        result) terminal.old.value result }
+    ensures answers { OfKind (λ S H k it. TellsProgress k it progress.new result) terminal.old.value result }
     ensures kept { terminal.new.value ≡ terminal.old.value }
     ensures untold { result ≢ 0 → progress.new ≡ progress.old }
 {

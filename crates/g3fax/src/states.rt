@@ -1,7 +1,7 @@
 //! The states of terminals, for C.
 
-ghost use Rattle.g3fax.specs.Handles.{OfTerminal};
-ghost use Rattle.g3fax.specs.States.{TellsAnswerer, TellsCaller, TellsShown, known_end};
+ghost use Rattle.g3fax.specs.Kinds.{OfKind, TellsState, answerer_kind, caller_kind};
+ghost use Rattle.g3fax.specs.States.{TellsShown, known_end};
 ghost use Rattle.std.specs.Prelude.{◌≡◌, ◌≢◌};
 
 use crate::answering::Answering;
@@ -52,7 +52,7 @@ fn told(shown: Shown, pages: u64, frames: u64) -> G3State
 
 /// Tells the state of a caller.
 fn tell_caller(timed: &TimedTerminal<StoppableCaller>, state: &mut G3State) -> u32
-    ensures { TellsCaller timed.now state.new result }
+    ensures { TellsState caller_kind timed.now state.new result }
 {
     let confirmed = timed.terminal().station().station().confirmed();
     *state = told(timed.terminal().shown(), confirmed, timed.good_frames());
@@ -61,7 +61,7 @@ fn tell_caller(timed: &TimedTerminal<StoppableCaller>, state: &mut G3State) -> u
 
 /// Tells the state of an answerer.
 fn tell_answerer(answering: &Answering, state: &mut G3State) -> u32
-    ensures { TellsAnswerer answering.now state.new result }
+    ensures { TellsState answerer_kind answering.now state.new result }
 {
     let shown = answering.timed.terminal().shown();
     let shown = Shown {
@@ -91,8 +91,7 @@ pub extern "C" fn g3_core_terminal_state(
     terminal: &mut G3Handle,
     state: &mut G3State,
 ) -> u32
-    ensures answers { OfTerminal (λ terminal. TellsCaller terminal state.new result) (λ answering. TellsAnswerer answering state.new result)
-        terminal.old.value result }
+    ensures answers { OfKind (λ S H k it. TellsState k it state.new result) terminal.old.value result }
     ensures kept { terminal.new.value ≡ terminal.old.value }
     ensures untold { result ≢ 0 → state.new ≡ state.old }
 {

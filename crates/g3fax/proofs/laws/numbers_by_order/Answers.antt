@@ -57,4 +57,4 @@ order MsbFirst = refl
 order LsbFirst = refl
 
 pub returns-clause-founds : goal.returns-clause-founds
-returns-clause-founds c = record { page = λ one. refl; begun = λ one. refl; format = format; others = refl; coding = coding; order = order }
+returns-clause-founds c = record { page = λ one. refl; begun = λ one. refl; two_dim = λ said. refl; format = format; others = refl; coding = coding; order = order }
