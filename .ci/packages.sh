@@ -153,6 +153,7 @@ try_packed() {
     mkdir "$work/unpacked"
     tar -C "$work/unpacked" --strip-components=1 -xzf "$work/out/faxtool-$(cat VERSION)$built-x86_64-linux.tar.gz"
     is_same "$work/unpacked/bin/faxtool" "${FAXTOOL:-crates/faxtool/out/faxtool}" "the program of the tarball"
+    ! grep -rn /unpacked/ "$work/unpacked/lib" || fails "the tarball knows the folder that it was gathered in"
     if command -v pkg-config > /dev/null; then
         folder=$(PKG_CONFIG_LIBDIR=$work/unpacked/lib/pkgconfig pkg-config --variable=includedir g3fax)
         is_same "$folder/g3fax.h" "${G3FAX:-bindings/build}/g3fax.h" "the header by the tarball's g3fax.pc"

@@ -36,7 +36,7 @@ long strtol(const char *text, char **end, int base);
 unsigned long long strtoull(const char *text, char **end, int base);
 #define UINT64_C(number) number##UL
 
-/* fcntl.h, unistd.h, sys/file.h, sys/stat.h, sys/ioctl.h */
+/* fcntl.h, unistd.h, sys/file.h, sys/stat.h, sys/ioctl.h, sys/wait.h */
 typedef int pid_t;
 typedef unsigned mode_t;
 typedef long ssize_t;
@@ -66,6 +66,10 @@ int symlink(const char *to, const char *name);
 int dup2(int from, int to);
 ssize_t readlink(const char *name, char *to, size_t room);
 pid_t getpid(void);
+pid_t fork(void);
+pid_t wait(int *status);
+int pipe(int files[2]);
+_Noreturn void _exit(int status);
 
 /* poll.h, sched.h, time.h */
 enum { POLLIN = 1, POLLOUT = 4, CLOCK_MONOTONIC = 1 };

@@ -14,6 +14,8 @@ kit=${KIT:-/opt/rattle}
 work=$(cd "$1" && pwd)
 here=$top/bindings/c/softfax
 lib=$kit/toolchain/lib
+# After so many seconds a test hangs: each takes some minutes at most, but ten times as long on a machine that does much else.
+longest=3600
 
 fails() {
     cat "$work/output" >&2
@@ -45,26 +47,34 @@ builds() {
 # the headers of POSIX, in a few lines
 mkdir -p "$work/posix/sys"
 cp "$top/.ci/posix.h" "$work/posix/"
-for name in errno fcntl poll sched signal stdarg strings termios time unistd sys/file sys/ioctl sys/stat; do
+for name in errno fcntl poll sched signal stdarg strings termios time unistd sys/file sys/ioctl sys/stat sys/wait; do
     echo '#include <posix.h>' > "$work/posix/$name.h"
 done
 for name in stdio stdlib string; do printf '#include_next <%s.h>\n#include <posix.h>\n' $name > "$work/posix/$name.h"; done
 
 objects=
+compiles lock
+shared=$objects
+builds lock-test
+mkdir "$work/ttys"
+timeout $longest "$work/lock-test" 500 "$work/ttys" > "$work/output" 2>&1 || fails lock-test
+cat "$work/output"
+
+objects=
 compiles behind t31 class1 class1_setup class1_frame class1_words stopped trial line paper terminal identity bits
 shared=$objects
 builds bits-test
-timeout 600 "$work/bits-test" > "$work/output" || fails bits-test
+timeout $longest "$work/bits-test" > "$work/output" || fails bits-test
 echo "softfax: $(grep -c '24 of 24' "$work/output") lines of plain bits carry all calls"
 builds memory-test --wrap=malloc --wrap=realloc --wrap=free
-timeout 600 "$work/memory-test" 40 > "$work/output" || fails memory-test
+timeout $longest "$work/memory-test" 40 > "$work/output" || fails memory-test
 sed 's/^/softfax: /' "$work/output"
 objects=$shared
 compiles on_pty pty call stop told record pages header tty lock inits
 shared=$objects
 builds class1-test
 mkdir "$work/papers"
-timeout 600 "$work/class1-test" "$work/papers" > "$work/output" 2>&1 || fails class1-test
+timeout $longest "$work/class1-test" "$work/papers" > "$work/output" 2>&1 || fails class1-test
 grep '^softfax: ' "$work/output"
 
 objects=$shared
@@ -72,7 +82,7 @@ compiles options
 shared=$objects
 builds header-test --wrap=time
 mkdir "$work/headers"
-timeout 600 python3 "$here/header.py" "$work/header-test" "$work/headers" > "$work/output" 2>&1 || fails header-test
+timeout $longest python3 "$here/header.py" "$work/header-test" "$work/headers" > "$work/output" 2>&1 || fails header-test
 cat "$work/output"
 
 objects=$shared
@@ -80,7 +90,7 @@ compiles service
 shared=$objects
 builds service-test
 mkdir "$work/soak"
-timeout 900 "$work/service-test" "$work/soak" > "$work/output" 2>&1 || { tail -n 20 "$work/soak/records" >> "$work/output"; fails service-test; }
+timeout $longest "$work/service-test" "$work/soak" > "$work/output" 2>&1 || { tail -n 20 "$work/soak/records" >> "$work/output"; fails service-test; }
 grep '^softfax: ' "$work/output"
 
 CC=${CC:-cc}

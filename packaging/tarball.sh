@@ -37,6 +37,9 @@ mv "$work/unpacked" "$work/$name"
 rm "$work/$name/share/doc/faxtool/INSTALLED"
 # shellcheck disable=SC2016
 sed -i 's|^prefix=.*|prefix=${pcfiledir}/../..|' "$work/$name/lib/pkgconfig/g3fax.pc"
+# systemd looks for a program without a path in /usr/local/bin and /usr/bin
+unit=$work/$name/lib/systemd/system/softfax@.service
+[ ! -f "$unit" ] || sed -i 's|^ExecStart=/unpacked/bin/|ExecStart=|' "$unit"
 packs "$name"
 
 name=faxtool-$version-source

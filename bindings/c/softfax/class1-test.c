@@ -111,6 +111,7 @@ static int try_frames(void)
         {OCTETS("\xff\x13\r\nCONNECT\r\n\xff\x03\x20\x01\x02\x10\x03"), NO_RESULT, 1, 5},
         {OCTETS("\x13\x80\x01\x02\x03\x04\x10\x03"), NO_RESULT, 0, 0},
         {OCTETS("\xff\x13\x80\x01\x10\x03"), NO_RESULT, 0, 4},
+        {OCTETS("\xff\x13\x80\x01\x02"), NO_RESULT, 0, 5},
         {OCTETS("\xff\x13\x80\x01\x02\r\nNO CARRIER\r\n"), NO_CARRIER, 0, 0},
         {OCTETS("\r\nOK\r\n"), OK, 0, 0}};
 #undef OCTETS

@@ -12,7 +12,7 @@
 
 static const char FOLDER[] = "/var/lock";
 enum { MOST_TRIES = 1000 }; /* a millisecond each */
-enum { TAKEN, TRY_AGAIN, CANNOT, HELD };
+enum { TAKEN, TRY_AGAIN, CANNOT, HELD, HELD_ALONE };
 
 /* The number of a file on its disk; 0: there is none. */
 static uint64_t file_of(const char *name)
@@ -39,6 +39,15 @@ static long number_of(int file)
     char text[32] = "";
     ssize_t length = read(file, text, sizeof text - 1);
     return length > 0 ? strtol(text, NULL, 10) : 0;
+}
+
+/* The process that has the file of a name; 0: none. */
+static long process_of(const char *name)
+{
+    int file = open(name, O_RDONLY);
+    long process = file >= 0 ? number_of(file) : 0;
+    if (file >= 0) close(file);
+    return process;
 }
 
 /* Whether a process is gone. One with this process's own number is: it has written its lock in an earlier life of the machine. */
@@ -70,20 +79,32 @@ static int try_to_take(const char *own, const char *name, long *process)
     return came;
 }
 
-/* Takes one name; returns TAKEN, HELD by a process, or CANNOT: the file can't be written or read. */
-static int take_name(lock *it, const char *name, long *process)
+/* Finds who has the tty, once its name is held: who has the device's name, which each starter takes last. Another starter that has the name
+ * that it was given alone takes the device's too, or leaves. */
+static int find_holder(const char *device, long *process)
+{
+    long has = process_of(device);
+    if (has <= 0 || is_gone(has)) return HELD_ALONE;
+    *process = has;
+    return HELD;
+}
+
+/* Takes one name of a tty; returns TAKEN, HELD by a process, or CANNOT: the file can't be written or read. `device` is the name of the device,
+ * which another program may leave out: then HELD comes late. */
+static int take_name(lock *it, const char *name, const char *device, long *process)
 {
     char own[40];
     int came = TRY_AGAIN;
     snprintf(own, sizeof own, "%s/LTMP.%ld", FOLDER, (long)getpid());
     if (!write_number(own)) return CANNOT;
     uint64_t number = file_of(own);
-    for (int tries = 0; tries < MOST_TRIES && came == TRY_AGAIN; tries++) {
+    for (int tries = 0; tries < MOST_TRIES && (came == TRY_AGAIN || came == HELD_ALONE); tries++) {
         if (tries > 0) poll(NULL, 0, 1);
         came = try_to_take(own, name, process);
+        if (came == HELD) came = find_holder(device, process);
     }
     unlink(own);
-    if (came != TAKEN) return came == HELD ? HELD : CANNOT;
+    if (came != TAKEN) return came == HELD || came == HELD_ALONE ? HELD : CANNOT;
     strcpy(it->names[it->count], name);
     it->files[it->count++] = number;
     return TAKEN;
@@ -101,10 +122,7 @@ static int name_lock(const char *tty, char name[LOCK_ROOM])
 static long holder(const lock *it)
 {
     for (int i = 0; i < it->count; i++) {
-        if (file_of(it->names[i]) == it->files[i]) continue;
-        int file = open(it->names[i], O_RDONLY);
-        long process = file >= 0 ? number_of(file) : 0;
-        if (file >= 0) close(file);
+        long process = file_of(it->names[i]) == it->files[i] ? 0 : process_of(it->names[i]);
         if (process > 0) return process;
     }
     return 0;
@@ -117,10 +135,11 @@ long lock_take(lock *it, const char *tty)
     long process = 0;
     int came = TAKEN;
     it->count = 0;
+    /* the device's name last: who has that one has the tty */
     int is_named = name_lock(tty, names[0]) && name_lock(device != NULL ? device : tty, names[1]);
     free(device);
     for (int i = 0; i < LOCK_NAMES && is_named && came == TAKEN; i++) {
-        if (i == 0 || strcmp(names[0], names[1]) != 0) came = take_name(it, names[i], &process);
+        if (i == 0 || strcmp(names[0], names[1]) != 0) came = take_name(it, names[i], names[1], &process);
     }
     if (came == TAKEN) process = holder(it);
     if (came != TAKEN || process != 0) lock_leave(it);

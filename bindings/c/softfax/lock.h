@@ -13,7 +13,7 @@ typedef struct lock {
 } lock;
 
 /* Makes the lock files, if this program may write there. A file of a process that is gone is taken over; it is never away meanwhile.
- * Returns the number of a process that has the tty; 0: none has. */
+ * Returns the number of the process that has the tty; 0: none has. Of many that try at once one has it, and the others are told of that. */
 long lock_take(lock *it, const char *tty);
 /* Removes the files that are still this program's. */
 void lock_leave(lock *it);

@@ -1,6 +1,6 @@
 #!/usr/bin/env python3
 """Many starters of softfax on one tty, whose lock files a process has left that is gone: one of them has the tty, and the others say that
-it has, or that one has which had just the link's name. They give the tty by its own name and by a link in turn. Last the lock files are away.
+it has. They give the tty by its own name and by a link in turn. Last the lock files are away. lock-test has more of such races.
 
     locks.py SOFTFAX FOLDER"""
 
@@ -36,8 +36,7 @@ def round_of_starters(device, link):
             program.terminate()
     said = [program.communicate(timeout=60)[1] for program in programs]
     winners = [program for program, text in zip(programs, said) if "has it" not in text]
-    names = [f"process {program.pid} has it" for program in winners + programs[1::2]]
-    if len(winners) != 1 or any("has it" in text and not any(name in text for name in names) for text in said):
+    if len(winners) != 1 or any("has it" in text and f"process {winners[0].pid} " not in text for text in said):
         sys.exit(f"of {STARTERS} starters {len(winners)} have the tty: {said}")
     left = [name for name in (device, link) if os.path.exists(lock(name))]
     if left:

@@ -31,6 +31,7 @@ class Call:
         self.goes_at = more.get("goes_at")       # the tty goes when this is told
         self.kills_at = more.get("kills_at")     # SIGTERM comes half a second after this is told
         self.must_say = more.get("must_say", b"")
+        self.must_not_say = more.get("must_not_say")
         self.floods = more.get("floods", False)  # it says octets without end
         self.kills_by = more.get("kills_by", signal.SIGTERM)
         self.status = more.get("status", 1)
@@ -76,7 +77,8 @@ class Call:
             if is_late:
                 program.kill()
             said = program.stderr.read()
-        if is_late or program.returncode != self.status or self.wanted not in said or self.must_say not in self.told:
+        is_told = self.must_say in self.told and not (self.must_not_say and self.must_not_say in self.told)
+        if is_late or program.returncode != self.status or self.wanted not in said or not is_told:
             late = "too late" if is_late else f"with status {program.returncode}"
             FAULTS.append(f"{self.name}: softfax ended {late} after {time.monotonic() - began:.1f} s, was heard to say {self.told!r}, "
                           f"and told: {said}")
@@ -131,6 +133,15 @@ def says_ctc():
     return reply
 
 
+def damages(told):
+    """An answerer whose DIS ends with ERROR: a frame of another check sequence. What is said to it is taken."""
+    if told.startswith(b"ATD"):
+        return FRAME.removesuffix(OK) + ERROR
+    if told.startswith(b"AT+FT") and not told.endswith(b"?"):
+        return b"\r\nCONNECT\r\n"
+    return b"\r\nNO CARRIER\r\n" if told.startswith(b"AT+FRH") else OK
+
+
 ANSWER = ["--answer", sys.argv[3]]
 CALL = ["--call", "5551234", sys.argv[2]]
 BUSY = replies(D=b"\r\nBUSY\r\n")
@@ -149,6 +160,7 @@ CALLS = [
     Call("a busy line", "the modem says BUSY", BUSY),
     Call("no dial tone", "the modem says NO DIALTONE", replies(D=b"\r\nNO DIALTONE\r\n")),
     Call("a tty that goes", "the tty is gone", lambda told: OK, goes_at=b"ATD"),
+    Call("a frame that ends with ERROR", "end stopped confirmed 0", damages, words=[*CALL, "--most-seconds", "4"], must_not_say=b"AT+FTM=1"),
     Call("a modem that falls silent amid a call", "the modem has fallen silent", until(b"ATD", OK, FRAME), within=90),
     Call("a modem that falls silent while nobody calls", "the modem has fallen silent", until(b"=?", OK, OK), words=ANSWER, within=120),
     Call("SIGTERM while it dials", "end no-call confirmed 0", dials, kills_at=b"ATD", must_say=b"ATH0\r"),

@@ -8,15 +8,15 @@
 #
 # --audio leaves out plain bits; --table adds the table of docs/AUDIO.md, with so many calls by chance of each kind. It wants
 # libspandsp-dev (apt-get install libspandsp-dev), and the library that bindings/build.sh left in the folder LIB, if not bindings/build.
-# OUT is where the programs go.
+# OUT is where the programs go. docs/examples/driver.py is tried with the program that FAXTOOL names, or the one that is proved.
 set -e
 here=$(cd "$(dirname "$0")" && pwd)
 LIB=${LIB:-$here/../../build}
 OUT=${OUT:-$here/build}
 work=$(mktemp -d)
-exchange='' modems='' iaxmodems=''
+exchange='' modems='' iaxmodems='' driven=''
 leaves() {
-    for one in $exchange $modems $iaxmodems; do kill "$one" 2> /dev/null || true; done
+    for one in $exchange $modems $iaxmodems $driven; do kill "$one" 2> /dev/null || true; done
     rm -rf "$work"
 }
 trap leaves EXIT
@@ -50,7 +50,7 @@ refuses() {
     grep -q "$text" "$work/said" || fails "softfax $* said: $(cat "$work/said")"
 }
 
-make -s -C "$here" LIB="$LIB" OUT="$OUT" softfax softfax-test bench
+make -s -C "$here" LIB="$LIB" OUT="$OUT" softfax softfax-test bench driven
 softfax=$OUT/softfax
 # the program runs under the sanitizers, where the compiler has them: status 99 is a report
 if make -s -C "$here" LIB="$LIB" OUT="$OUT" softfax-checked > "$work/said" 2>&1; then
@@ -73,6 +73,14 @@ modems=$!
 mkdir "$work/iax"
 timeout 600 python3 "$here/iax.py" "$softfax" "$work/short.pbm" "$work/iax" > "$work/iaxmodems" 2>&1 &
 iaxmodems=$!
+faxtool=${FAXTOOL:-$here/../../../crates/faxtool/out/faxtool}
+if [ -x "$faxtool" ]; then
+    mkdir "$work/driver"
+    timeout 400 python3 "$here/driven.py" "$OUT/driven" "$faxtool" "$here/../../../docs/examples/driver.py" "$work/driver" > "$work/driven" 2>&1 &
+    driven=$!
+else
+    echo "softfax: driver.py isn't tried over libspandsp's modems: there is no $faxtool" > "$work/driven"
+fi
 "$OUT/softfax-test" "$work"
 "$OUT/bench" "$work"
 
@@ -130,8 +138,10 @@ wait "$answerer" || status=$?
 [ "$status" = 1 ] || fails "the answerer of a caller without error correction ended with status $status"
 has answerer '{"end":"refused","pages":0,"why":"the caller sends without error correction","seconds":'
 
-# a build without libspandsp has modems alone
-make -s -C "$here" LIB="$LIB" OUT="$work/mute" SOUND=no softfax
+# a build without libspandsp's header has modems alone
+mkdir "$work/deaf"
+echo '#error none' > "$work/deaf/spandsp.h"
+make -s -C "$here" LIB="$LIB" OUT="$work/mute" CC="${CC:-cc} -I$work/deaf" softfax
 status=0
 "$work/mute/softfax" --answer "$work" --rx /dev/null --tx /dev/null 2> "$work/said" || status=$?
 { [ "$status" = 1 ] && grep -q "built without libspandsp, and has modems alone" "$work/said"; } \
@@ -313,5 +323,8 @@ cat "$work/iaxmodems"
 wait "$modems" || { cat "$work/modems" >&2; fails "modems.py"; }
 modems=
 cat "$work/modems"
+[ -z "$driven" ] || wait "$driven" || { cat "$work/driven" >&2; fails "driven.py"; }
+driven=
+cat "$work/driven"
 
 if [ "$1" = --table ]; then "$OUT/softfax-test" "$work" --table "${2:-1}"; fi
