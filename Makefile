@@ -63,6 +63,7 @@ book:
 	docs/book.py
 
 plants:
+	@[ -x "$(KIT)/bin/rt" ] || { echo "make plants: there is no Rattle kit in $(KIT): unpack it there, or say by KIT where it is" >&2; exit 1; }
 	bench/plant/try_edits.py --all
 
 .PHONY: all try lib-try test check help install uninstall tarball deb wheel book plants

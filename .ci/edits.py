@@ -5,9 +5,10 @@
 
 Each `old:` text of .ci/must-fail/*/*.edit, and of bench/plant/edits/*/*.edit, which the gate doesn't try, stands exactly once in the file
 that the edit names, after the pairs before it. The texts of bench/plant's wrong definitions, code and bodies that answer no memory stand in
-their files too, and the laws of its tables in their crates. docs/PLANTS.md names bugs that are there, and has a record of those of bench
-that isn't too old; each .rt and .antt file is as the kit's formatter writes it; and no module has the name of a library that its crate
-uses. Prints what is wrong and ends with status 1, or prints one line of counts. It needs Python's standard library and the kit's
+their files too, and the laws of its tables in their crates. docs/PLANTS.md names bugs that are there, the functions that they change and
+clauses of these, and has a record of those of bench that isn't too old; PROOF and CONTRIBUTING say of how many crates the gate's are. Each
+.rt and .antt file is as the kit's formatter writes it; and no module has the name of a library that its crate uses.
+Prints what is wrong and ends with status 1, or prints one line of counts. It needs Python's standard library and the kit's
 `rattle`."""
 
 import os
@@ -85,6 +86,41 @@ def texts_of_plants():
     return len(found), [f"bench/plant: {name}: {fault}" for name, faults in found for fault in faults]
 
 
+def clauses_of(folder, file, name, at):
+    """The names of the clauses of a function that begins before a place of a source; of a trait's, those of the trait's function."""
+    head = rf"^ *(?:pub(?:\(\w+\))? )?fn {name}\b.*?^ *(?:\{{|[^\n]*;)$"
+    own = [found[0] for found in re.finditer(head, (folder / file).read_text(), re.M | re.S) if found.start() <= at][-1:]
+    heads = own if own and "ensures" in own[0] else [
+        found for source in folder.glob("src/**/*.rt") for found in re.findall(head, source.read_text(), re.M | re.S)]
+    return {word or "ensures" for text in heads for word in re.findall(r"^ *ensures (\w*) ?\{", text, re.M)}
+
+
+def body_faults(text):
+    """The rows of the table of wrong bodies that name another function than their bug changes, or a clause that it hasn't."""
+    from must_fail import Bug  # which imports this
+
+    for bug, function, clause in plants.wrong_bodies(text)[1]:
+        crate, edit = bug.split("/")[0], TOP / ".ci" / "must-fail" / f"{bug}.edit"
+        folder, (owner, _, name) = TOP / "crates" / crate, function.rpartition("::")
+        if not edit.is_file():
+            continue  # said by `named_faults`
+        planted = Bug(folder, crate, edit)
+        file, old, _new = planted.pairs[0]
+        its, _, called = (planted.function or "").rpartition("::")
+        if called != name or not (f"::{its}".endswith(f"::{owner}") or its.startswith(owner)):
+            yield f"docs/PLANTS.md: {bug} changes {planted.function}, and not {function}"
+        elif clause not in clauses_of(folder, file, name, (folder / file).read_text().find(old)):
+            yield f"docs/PLANTS.md: {function} has no clause {clause}"
+
+
+def count_faults():
+    """What documents say of how many planted bugs there are, held against these."""
+    import refuted
+
+    texts = {name: (TOP / name).read_text() for name in ("docs/PROOF.md", "CONTRIBUTING.md")}
+    return plants.count_faults(texts, len(list((TOP / ".ci" / "must-fail").iterdir())), len(refuted.all_rows()))
+
+
 def unformatted(crate):
     """The files of a crate that the formatter would write in another way, as it says."""
     files = sorted(str(file) for part in PARTS for file in (crate / part).rglob("*") if file.suffix in (".rt", ".antt"))
@@ -111,6 +147,8 @@ def main():
     for line in (TOP / "crates.txt").read_text().splitlines():
         wrong += shadowed(line)
     wrong += plants.faults_here()
+    wrong += body_faults(plants.PAGE.read_text())
+    wrong += count_faults()
     others, lacking = texts_of_plants()
     wrong += lacking
     for fault in wrong:

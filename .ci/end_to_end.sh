@@ -18,7 +18,7 @@ trap 'rm -rf "$work"' EXIT
 white="50 34 0A 31 37 32 38 20 31 0A$(seq 216 | sed 's/.*/ 00/' | tr -d '\n')"
 count=0
 # How many runs of the program there are at least, so that cases that go missing are seen.
-least=2700
+least=2900
 for part in common code decode frames identify judge each made call drive bits diagram words man files reference station bench try readme; do
     . "$top/.ci/end_to_end/$part.sh"
 done
@@ -81,6 +81,7 @@ for program in "$@"; do
     try_outputs
     try_closed
     try_calls_fail
+    try_taken
     try_limits
     try_scripts
     try_calls

@@ -21,6 +21,7 @@ MOST_EDITS = 200
 # bug that slipped through since is found while it is known who made the change.
 MOST_COMMITS = 30
 MOST_LINES = 60
+NUMBERS = {word: number for number, word in enumerate("one two three four five six seven eight nine ten".split(), 1)} | {"a": 1}
 
 Row = collections.namedtuple("Row", "crate commit date refused edits rows_refused rows goals")
 
@@ -101,14 +102,36 @@ def untried(text, edits):
     return sorted(edits.keys() - rows_of(text).keys())
 
 
-def named_faults(text, is_there):
-    """The bugs of the gate that the table of wrong bodies names and that aren't there."""
+def wrong_bodies(text):
+    """The rows of the table of wrong bodies, and of each that is one its bug, function and clause."""
     rows = re.search(r"^\| Wrong body \|.*\n\|[-|]+\n((?:\|.*\n)+)", text, re.M)
     lines = rows[1].splitlines() if rows else []
-    named = [bug for line in lines for bug in re.findall(r"^\| .* \| `(\w+/\w+)` \| `[\w:]+` \| `\w+` \|$", line)]
+    return lines, [row for line in lines for row in re.findall(r"^\| .* \| `(\w+/\w+)` \| `([\w:]+)` \| `(\w+)` \|$", line)]
+
+
+def named_faults(text, is_there):
+    """The bugs of the gate that the table of wrong bodies names and that aren't there."""
+    lines, named = wrong_bodies(text)
     if len(named) != len(lines) or not named:
         yield "docs/PLANTS.md: a wrong body without a bug, a function and a clause"
-    yield from (f"docs/PLANTS.md names {bug}, which isn't in .ci/must-fail" for bug in named if not is_there(bug))
+    yield from (f"docs/PLANTS.md names {bug}, which isn't in .ci/must-fail" for bug, _function, _clause in named if not is_there(bug))
+
+
+def counts_told(text):
+    """The numbers of crates that a document says the gate's planted bugs are of, and how many hundred wrong definitions it says there are."""
+    crates = re.findall(r"plants\s+bugs\s+in\s+(\w+)\s+crates|must-fail/X`,\s+of\s+(\w+)\s+crates", text)
+    hundreds = re.findall(r"over\s+(\w+)\s+hundred\s+wrong\s+definitions", text)
+    return {NUMBERS.get("".join(word)) for word in crates}, {NUMBERS.get(word) for word in hundreds}
+
+
+def count_faults(texts, crates, definitions):
+    """The documents, by name, that say another number of crates, or of hundreds of wrong definitions, than there are."""
+    for name, text in texts.items():
+        told = counts_told(text)
+        if told[0] - {crates} or told[1] - {definitions // 100}:
+            yield f"{name}: the gate's planted bugs are of {crates} crates, and there are {definitions} wrong definitions"
+    if not any(counts_told(text)[0] for text in texts.values()):
+        yield "no document says of how many crates the gate's planted bugs are"
 
 
 def edits_here():

@@ -1,5 +1,6 @@
 #!/usr/bin/env python3
-"""Sees what .ci/refusals.py makes of each kind of sentence of a check, and .ci/plants.py of each fault of a record:
+"""Sees what .ci/refusals.py makes of each kind of sentence of a check, and .ci/plants.py and edits.py of each fault of a record and
+of what documents tell of planted bugs:
 
     .ci/test_refusals.py
 
@@ -7,6 +8,7 @@ Ends with status 1 at the first one that is taken for another. It needs Python's
 import sys
 
 sys.dont_write_bytecode = True
+import edits
 import plants
 import refusals
 
@@ -92,8 +94,25 @@ def tries_records():
     return len(wrong)
 
 
+def tries_bodies():
+    """A row of wrong bodies with another function or clause, and numbers of documents that aren't those that there are."""
+    page = plants.PAGE.read_text()
+    row = "| `stations/rnr_though_not_busy` | `Answerer::confirm` | `ensures` |"
+    assert row in page and list(edits.body_faults(page)) == []
+    bodies = {"and not Answerer::accept": ("Answerer::confirm", "Answerer::accept"), "has no clause next": ("ensures", "next")}
+    for part, (old, new) in bodies.items():
+        found = list(edits.body_faults(page.replace(row, row.replace(old, new))))
+        assert len(found) == 1 and part in found[0], found
+    texts = {"a": "plants bugs in\n  two crates", "b": "over two hundred wrong\ndefinitions"}
+    assert list(plants.count_faults(texts, 2, 217)) == []
+    assert [len(list(plants.count_faults(texts, *counts))) for counts in ((3, 217), (2, 199), (3, 300))] == [1, 1, 2]
+    assert list(plants.count_faults({"b": texts["b"]}, 2, 217))
+    return 2 + len(texts)
+
+
 def main():
-    print(f"test_refusals: {tries_sentences()} sentences are read right, and {tries_records()} faults of a record are seen")
+    print(f"test_refusals: {tries_sentences()} sentences are read right, and {tries_records()} faults of a record are seen, "
+          f"and {tries_bodies()} of what is told of bugs")
 
 
 if __name__ == "__main__":

@@ -23,6 +23,8 @@ def rate(carrier):
 def carry(mine, other):
     """Carries what one driver sends, in as long as its bits take, until it hangs up."""
     for line in mine.makefile():
+        if line.startswith("hear "):
+            continue
         _tx, carrier, kind, bits, _octets = line.split(" ")
         is_lost = kind == "raw" and not CHECKS
         CHECKS.extend([carrier] * (kind == "raw"))

@@ -390,7 +390,7 @@ try_joined() {
     for words in "--lose 0 --seed 1" "--lose 10% --seed 4" "--lose 1/10 --seed 5" "--lose-frames 25% --seed 3"; do
         rm -rf "$work/stored"
         mkdir "$work/stored"
-        timeout 60 python3 -B "$top/docs/examples/join.py" $words --caller-command "$program station --call" --answerer-command \
+        timeout 600 python3 -B "$top/docs/examples/join.py" $words --caller-command "$program station --call" --answerer-command \
             "$program station --answer" "$top/docs/examples/row.pbm" "$work/stored" > "$work/output" 2> "$work/error" ||
             fails "join.py $words ended with status $?"
         [ "$(grep -c ': end normal ' "$work/output")" = 2 ] || fails "join.py $words: $(tail -2 "$work/output")"
@@ -405,7 +405,7 @@ try_held() {
     for words in "--lose 0 --seed 1 --slow 9000" "--lose 0.1 --seed 4 --slow 9000" "--lose 0.1 --seed 9"; do
         rm -rf "$work/stored"
         mkdir "$work/stored"
-        timeout 60 python3 -B "$top/docs/examples/join.py" $words --caller-command "$program station --call" --answerer-command \
+        timeout 600 python3 -B "$top/docs/examples/join.py" $words --caller-command "$program station --call" --answerer-command \
             "$program station --answer --hold" "$top/docs/examples/row.pbm" "$work/stored" > "$work/output" 2> "$work/error" ||
             fails "join.py $words with a page that is held ended with status $?"
         [ "$(grep -c ': end normal ' "$work/output")" = 2 ] || fails "join.py $words with a page that is held: $(tail -2 "$work/output")"
@@ -501,7 +501,7 @@ pool_by() {
     shift
     rm -rf "$work/stored"
     mkdir "$work/stored"
-    timeout 300 python3 -B "$pool/pool.py" "$@" "$work/stored" --command "$program station" > "$work/output" 2> "$work/error"
+    timeout 1800 python3 -B "$pool/pool.py" "$@" "$work/stored" --command "$program station" > "$work/output" 2> "$work/error"
 }
 
 # 200 calls of five pages, and in each a station is killed if the call lasts; and 100 calls whose three pages are handed over. A line that

@@ -99,7 +99,7 @@ try_first_kit() {
 joins() {
     end=$1 status=0
     shift
-    timeout 60 python3 -B "$top/docs/examples/join.py" "$@" > "$work/output" 2> "$work/error" || status=$?
+    timeout 600 python3 -B "$top/docs/examples/join.py" "$@" > "$work/output" 2> "$work/error" || status=$?
     [ "$status" = "$end" ] || fails "join.py $* ended with status $status, and not $end"
     ! grep ', status -' "$work/output" >&2 || fails "join.py $*: a signal ended a station"
     [ "$end" = 0 ] || [ "$(wc -l < "$work/error")" = 1 ] || fails "join.py $* wrote $(wc -l < "$work/error") lines on standard error"
@@ -116,18 +116,53 @@ try_drivers() {
     count=$((count + 1))
 }
 
+# pools_odd SAYS WORDS: docs/examples/pool.py says in one line what is wrong with its words, with status 2, and begins no call.
+pools_odd() {
+    says=$1 status=0
+    shift
+    timeout 60 python3 -B "$top/docs/examples/pool.py" "$@" > "$work/output" 2> "$work/error" || status=$?
+    [ "$status" = 2 ] || fails "pool.py $* ended with status $status: $(cat "$work/error")"
+    [ "$(cat "$work/error")" = "pool.py: error: $says" ] || fails "pool.py $*: $(cat "$work/error")"
+    [ ! -s "$work/output" ] || fails "pool.py $* printed $(cat "$work/output")"
+    count=$((count + 1))
+}
+
+# Words that pool.py can't take: numbers that are none, files and folders that aren't there, and a folder of a call that is there.
+try_pool_words() {
+    rm -rf "$work/pooled"
+    mkdir -p "$work/pooled/call-2"
+    set -- --calls 2 --command "$program station"
+    pools_odd "the following arguments are required: IN.pbm, DIR"
+    pools_odd "the following arguments are required: DIR" "$row"
+    pools_odd "argument --calls: invalid count value: '0'" --calls 0 "$row" "$work/pooled"
+    pools_odd "argument --lines: invalid count value: '-1'" --lines -1 "$row" "$work/pooled"
+    pools_odd "argument --slow: invalid number value: '-1'" --slow -1 "$row" "$work/pooled"
+    pools_odd "argument --command: invalid command value: ''" --command "" "$row" "$work/pooled"
+    pools_odd "$work/missing can't be run: --command names another program" --command "$work/missing station" "$row" "$work/pooled"
+    pools_odd "$work/missing.pbm: No such file or directory" "$@" "$work/missing.pbm" "$work/pooled"
+    pools_odd "$work/missing/call-1: No such file or directory" "$@" "$row" "$work/missing"
+    pools_odd "$work/pooled/call-2: File exists" "$@" "$row" "$work/pooled"
+    pools_odd "$program: PBM images (P4) are expected here" "$@" "$program" "$work/pooled"
+    rm -r "$work/pooled"
+}
+
 # join.py says in a line that there is no program, no folder or no document, with the station's own words.
 try_joins() {
     row=$top/docs/examples/row.pbm
     set -- --caller-command "$program station --call" --answerer-command "$program station --answer"
     rm -rf "$work/stored"
     mkdir "$work/stored"
-    joins 1 --caller-command "$work/missing station --call" --answerer-command "$program station --answer" "$row" "$work/stored"
+    joins 2 --caller-command "$work/missing station --call" --answerer-command "$program station --answer" "$row" "$work/stored"
     says "join.py: $work/missing can't be run as the caller: No such file or directory" "$work/error"
     joins 1 "$@" "$row" "$work/missing"
     says "join.py: the answerer failed: fault 8; $work/missing: no such file or folder" "$work/error"
     joins 1 "$@" "$work/missing.pbm" "$work/stored"
     says "join.py: the caller failed: fault 8; $work/missing.pbm: no such file or folder" "$work/error"
+    for words in --lose --slow=-1 --slow=x --seed=x --caller-command= --lines=1 "one two three"; do
+        joins 2 $words "$row" "$work/stored"
+    done
+    joins 2 --answerer-command "'" "$row" "$work/stored"
+    try_pool_words
     for rate in 101% 1/0 -1 x; do
         status=0
         python3 -B "$top/docs/examples/join.py" "--lose=$rate" "$row" "$work/stored" > "$work/output" 2> "$work/error" || status=$?

@@ -471,7 +471,7 @@ try_words() {
         "help show" "call --help" paint "code --code mr a b" "code --code mh --order MSB a b" "show --code mh --width 8" \
         "frames --data x a" "frames --data 301 a" "frames --data -1 a" "frames --data 1 --data 1 a" "frames --pages a" "frames --pages a --pages b c" "decode --code mh --width 8 --salvage --salvage a b" "show --code mh --width 8.0 a" "show --code mh --width 4294967304 a" "show --code mh --width 18446744073709551624 a" \
         "call a" "call --script a" "call --script a --frame 128 b" "call --script a --modems v34 b" \
-        "call --script a --fine --fine b" "decode --code mh --width 8 a" "decode --code mh a b" "decode --width 8 a b" \
+        "call --script a --fine --fine b" "decode --code mh --width 8 a" "decode --code mh a b" \
         "decode --code mh --width 8 --verbose --verbose a b" "decode --code mh --width 8 a b c" "decode --help"; do
         refuses $words
     done

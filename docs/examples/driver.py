@@ -4,9 +4,10 @@ that the other side has spoken into.
 
     driver.py SOCKET faxtool station --answer --out DIR --late 2000
 
-To the modem's program goes a line `tx CARRIER KIND BITS HEX` for each burst, one at a time. From it come lines: `sent` once a burst is on the
-line, `busy` when a carrier of the other side begins, `rx CARRIER KIND BITS HEX` when it has ended, and `end` if the line drops. The exit
-status is the station's. It takes each option of a station but --hold, since it keeps no pages."""
+To the modem's program goes a line `tx CARRIER KIND BITS HEX` for each burst, one at a time, and with --hear `hear CARRIER KIND`, what comes
+first, when that changes. From it come lines: `sent` once a burst is on the line, `busy` when a carrier of the other side begins, `rx CARRIER
+KIND BITS HEX` when it has ended, and `end` if the line drops. The exit status is the station's. It takes each option of a station but
+--hold, since it keeps no pages."""
 
 import contextlib
 import select
@@ -19,15 +20,21 @@ PAUSE, EACH = 75, 20  # milliseconds: of silence before a burst; between two `qu
 
 
 def tell(station, line, bursts):
-    """Writes a line to the station, and adds what it sends to the bursts. Whether it has ended."""
-    answer = ""
+    """Writes a line to the station, and adds what it sends to the bursts. Whether it has ended, and what it hears first."""
+    answer, hears = "", []
     # a station that ended by a fault reads no more
     with contextlib.suppress(BrokenPipeError):
         station.stdin.write(line + "\n")
         while (answer := station.stdout.readline().strip()).startswith(("tx ", "hear ")):
-            bursts += [answer[3:]] * answer.startswith("tx ")
+            (bursts if answer.startswith("tx ") else hears).append(answer)
     # with --hear the time stands behind it
-    return not answer.startswith("wait")
+    return not answer.startswith("wait"), hears[:1]
+
+
+def say(modem, line):
+    """Writes a line to the modem's program. That it has left is seen when it is read."""
+    with contextlib.suppress(BrokenPipeError, ConnectionResetError):
+        modem.sendall(f"{line}\n".encode())
 
 
 def heard_of(modem):
@@ -43,7 +50,7 @@ def main():
     modem = socket.socket(socket.AF_UNIX)
     modem.connect(sys.argv[1])
     station = subprocess.Popen(sys.argv[2:], stdin=subprocess.PIPE, stdout=subprocess.PIPE, text=True, bufsize=1)
-    began, free, heard, bursts = time.monotonic(), 0, b"", []
+    began, free, heard, bursts, hears = time.monotonic(), 0, b"", [], []
     is_sending = is_hearing = is_over = False
     while not is_over or is_sending or bursts:
         line, rest, after = heard.partition(b"\n")
@@ -61,11 +68,13 @@ def main():
         if word == "end":
             bursts, is_sending = [], False
         if word == "quiet" and bursts and not is_sending and now >= free:
-            modem.sendall(f"tx {bursts.pop(0)}\n".encode())
+            say(modem, bursts.pop(0))
             is_sending = True
         if is_over or word == "sent" or (word == "quiet" and (is_sending or is_hearing or bursts)):
             continue
-        is_over = tell(station, f"{word} {now} {burst}" if burst else f"{word} {now}", bursts)
+        is_over, first = tell(station, f"{word} {now} {burst}" if burst else f"{word} {now}", bursts)
+        if first and first != hears:
+            say(modem, (hears := first)[0])
     with contextlib.suppress(BrokenPipeError):
         station.stdin.close()
     return station.wait()

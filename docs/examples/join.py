@@ -11,8 +11,8 @@ answerer takes up to that many milliseconds to store a page; a page that it hand
 An answer is sent only if the other side hasn't begun to speak since the line that it answers. What is left of it is dropped before a newer
 `busy` or `rx` is written.
 
-The exit status is 0 if both stations end normally. If one can't be started, or ends with a fault, a line on standard error says which
-one and why."""
+The exit status is 0 if both stations end normally, and 1 if not. If one ends with a fault, a line on standard error says which one and
+why. If one can't be started, or words are wrong, a line says so, with status 2."""
 
 import argparse
 import contextlib
@@ -38,6 +38,29 @@ def rate(text):
     return float(share)
 
 
+def number(text):
+    """A number, 0 or more."""
+    found = int(text)
+    if found < 0:
+        raise ValueError(text)
+    return found
+
+
+def command(text):
+    """The words of a command, as a shell takes them."""
+    words = shlex.split(text)
+    if not words:
+        raise ValueError(text)
+    return words
+
+
+class Words(argparse.ArgumentParser):
+    """The words of a program, which names what is wrong with them in one line."""
+
+    def error(self, message):
+        self.exit(2, f"{self.prog}: error: {message}\n")
+
+
 def without(octets, number, is_lost):
     """The octets of a burst of so many bits, in hex, without some of its frames; and how many were lost."""
     bits, lost = bits_of(bytes.fromhex(octets)), 0
@@ -59,7 +82,8 @@ class Station:
         try:
             self.process = subprocess.Popen(command, stdin=subprocess.PIPE, stdout=subprocess.PIPE, stderr=self.errors, **how)
         except OSError as error:
-            sys.exit(f"join.py: {command[0]} can't be run as the {name}: {error.strerror}; --{name}-command names another program")
+            print(f"join.py: {command[0]} can't be run as the {name}: {error.strerror}; --{name}-command names another program", file=sys.stderr)
+            sys.exit(2)
 
     def tell(self, line):
         """Writes a line, and returns the bursts that the station sends then; `page` is one that it hands over. An ended station hears nothing."""
@@ -176,18 +200,18 @@ class Line:
 
 
 def main():
-    parser = argparse.ArgumentParser(description=__doc__, formatter_class=argparse.RawDescriptionHelpFormatter)
+    parser = Words(description=__doc__, formatter_class=argparse.RawDescriptionHelpFormatter)
     parser.add_argument("--lose", type=rate, default=0.0)
     parser.add_argument("--lose-frames", type=rate, default=0.0)
-    parser.add_argument("--slow", type=int, default=0)
+    parser.add_argument("--slow", type=number, default=0)
     parser.add_argument("--seed", type=int, default=1)
-    parser.add_argument("--caller-command", default="faxtool station --call", help="IN.pbm is put after it")
-    parser.add_argument("--answerer-command", default="faxtool station --answer", help="--out DIR is put after it")
+    parser.add_argument("--caller-command", type=command, default="faxtool station --call", help="IN.pbm is put after it")
+    parser.add_argument("--answerer-command", type=command, default="faxtool station --answer", help="--out DIR is put after it")
     parser.add_argument("document", metavar="IN.pbm")
     parser.add_argument("folder", metavar="DIR")
     asked = parser.parse_args()
-    caller = Station("caller", shlex.split(asked.caller_command) + [asked.document])
-    answerer = Station("answerer", shlex.split(asked.answerer_command) + ["--out", asked.folder])
+    caller = Station("caller", asked.caller_command + [asked.document])
+    answerer = Station("answerer", asked.answerer_command + ["--out", asked.folder])
     Line([Side(caller), Side(answerer, asked.folder, asked.slow)], asked.lose, asked.seed, shows=print, frames=asked.lose_frames).play()
     ended = True
     for station in (caller, answerer):

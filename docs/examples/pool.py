@@ -9,19 +9,19 @@ pages over. COMMAND is `faxtool station` if it isn't said.
 
 Prints how the calls ended and what they left. The exit status is 0 if each page is stored whole, in its place, before the MCF that confirms
 it is sent (and kept, if it was handed over), each page that a caller counts as confirmed is stored once, and no file of a page is anything
-else."""
+else. Words that are wrong, and files and folders that aren't there or are there already, are named in a line, with status 2."""
 
 import argparse
 import collections
 import os
 import random
-import shlex
+import shutil
 import signal
 import sys
 from concurrent.futures import ThreadPoolExecutor
 
 from hdlc import bits_of, content, gaps
-from join import Line, Side, Station, rate
+from join import Line, Side, Station, Words, command, number, rate
 
 # Third octets of signals, and the fourth of a PPS that no page ends with.
 MCF, PPS, NULL = 0x8C, 0xBE, 0x00
@@ -84,12 +84,21 @@ class Watched(Line):
         return None
 
 
+def count(text):
+    """A number, 1 or more."""
+    if number(text) == 0:
+        raise ValueError(text)
+    return number(text)
+
+
 def pages_of(octets):
-    """The PBM images of a document, one after another, each alone."""
+    """The PBM images of a document, one after another, each alone. ValueError if it has none, or they aren't PBM."""
     pages = []
-    while octets:
-        _magic, size, _rest = octets.split(b"\n", 2)
+    while octets or not pages:
+        magic, size, _rest = octets.split(b"\n", 2)
         width, height = map(int, size.split())
+        if magic != b"P4" or width < 1 or height < 1:
+            raise ValueError("no PBM")
         length = len(b"P4\n" + size + b"\n") + (width + 7) // 8 * height
         pages.append(octets[:length])
         octets = octets[length:]
@@ -99,14 +108,12 @@ def pages_of(octets):
 class Call:
     """A call of the pool, and what was left of it."""
 
-    def __init__(self, asked, number, pages):
-        chance = random.Random(f"{asked.seed} {number}")
-        self.folder, self.pages = os.path.join(asked.folder, f"call-{number}"), pages
-        os.mkdir(self.folder)
+    def __init__(self, asked, name, pages):
+        chance = random.Random(f"{asked.seed} {name.removeprefix('call-')}")
+        self.folder, self.pages = os.path.join(asked.folder, name), pages
         dies = chance.choice(["caller", "answerer"]) if chance.random() < asked.kill else None
-        command = shlex.split(asked.command)
         words = {"caller": ["--call", asked.document], "answerer": ["--answer", "--out", self.folder] + ["--hold"] * asked.hold}
-        stations = [Killed(name, command + words[name], chance.randrange(1, 120) if dies == name else None) for name in words]
+        stations = [Killed(name, asked.command + words[name], chance.randrange(1, 120) if dies == name else None) for name in words]
         line = Watched([Side(stations[0]), Side(stations[1], self.folder, asked.slow)], pages, asked.lose, chance.random())
         line.play()
         ends = [station.end() for station in stations]
@@ -142,23 +149,39 @@ class Call:
         return None
 
 
+def prepare(parser, asked):
+    """The names of the calls, for each of which a folder is made, and the pages of the document."""
+    names = [f"call-{place}" for place in range(1, asked.calls + 1)]
+    if not shutil.which(asked.command[0]):
+        parser.error(f"{asked.command[0]} can't be run: --command names another program")
+    try:
+        with open(asked.document, "rb") as file:
+            pages = pages_of(file.read())
+        for name in names:
+            os.mkdir(os.path.join(asked.folder, name))
+    except OSError as error:
+        parser.error(f"{error.filename}: {error.strerror}")
+    except ValueError:
+        parser.error(f"{asked.document}: PBM images (P4) are expected here")
+    return names, pages
+
+
 def main():
-    parser = argparse.ArgumentParser(description=__doc__, formatter_class=argparse.RawDescriptionHelpFormatter)
-    parser.add_argument("--calls", type=int, default=100)
-    parser.add_argument("--lines", type=int, default=8)
+    parser = Words(description=__doc__, formatter_class=argparse.RawDescriptionHelpFormatter)
+    parser.add_argument("--calls", type=count, default=100)
+    parser.add_argument("--lines", type=count, default=8)
     parser.add_argument("--lose", type=rate, default=0.05)
-    parser.add_argument("--slow", type=int, default=12000)
+    parser.add_argument("--slow", type=number, default=12000)
     parser.add_argument("--kill", type=rate, default=0.2)
     parser.add_argument("--hold", action="store_true")
     parser.add_argument("--seed", type=int, default=1)
-    parser.add_argument("--command", default="faxtool station")
+    parser.add_argument("--command", type=command, default="faxtool station")
     parser.add_argument("document", metavar="IN.pbm")
     parser.add_argument("folder", metavar="DIR")
     asked = parser.parse_args()
-    with open(asked.document, "rb") as file:
-        pages = pages_of(file.read())
+    names, pages = prepare(parser, asked)
     with ThreadPoolExecutor(asked.lines) as pool:
-        calls = list(pool.map(lambda number: Call(asked, number, pages), range(1, asked.calls + 1)))
+        calls = list(pool.map(lambda name: Call(asked, name, pages), names))
     ends = collections.Counter(call.end for call in calls)
     print(f"{len(calls)} calls: {', '.join(f'{ends[name]} {name}' for name in sorted(ends))}; {sum(bool(call.dies) for call in calls)} to be killed")
     print(f"{sum(call.confirmed for call in calls)} pages confirmed, {sum(len(call.stored()) for call in calls)} stored")
