@@ -6,6 +6,7 @@
 
 .ci/house.txt has each rule with its count and the names of what breaks it. A count that grew fails, and so does a list that isn't that of
 today: it is written anew, so that a change shows there as a line. The rules are the functions below `RULES`; each says what it counts.
+A line that a merge left, in any file, fails.
 shellcheck and flake8 look at the scripts, each where it is installed; all that they say fails, but the kinds that are listed below with the
 reason. Prints what is wrong and ends with status 1, or prints one line of counts. .ci/test_checks.py sees each rule fail. It needs Python's
 standard library alone."""
@@ -33,6 +34,7 @@ HEADER_LINES = """\
 # What breaks the rules of .ci/house.py, by name: the count of each rule, which may only fall, and below it what is counted.
 # `.ci/house.py --write` writes it anew.
 """
+MERGED = re.compile("(<{7}|>{7}) |={7}$")
 MOST_OF_A_FUNCTION = 40
 MOST_OF_A_FILE = 800
 MOST_PARAMETERS = 5
@@ -409,15 +411,33 @@ RULES = {
 }
 
 
-def house_here():
-    """The house as it lies here: each source, script and document that is committed; of a source tarball, each that isn't built."""
+def files_here():
+    """Each file that is committed, or will be; of a source tarball, each that isn't built."""
     words = ["git", "-c", f"safe.directory={TOP}", "-C", str(TOP), "ls-files", "-z", "-co", "--exclude-standard"]
     listed = subprocess.run(words, capture_output=True, text=True, check=False)
     files = [TOP / name for name in listed.stdout.split("\0") if name]
     if listed.returncode:
         files = [file for file in TOP.rglob("*") if not {"out", "build", ".git"} & set(file.relative_to(TOP).parts)]
+    return [file for file in sorted(files) if file.is_file()]
+
+
+def house_here():
+    """The house as it lies here: each source, script and document."""
     kinds = (".rt", ".antt", ".py", ".sh", ".c", ".h", ".md")
-    return House({str(file.relative_to(TOP)): file.read_text() for file in sorted(files) if file.suffix in kinds and file.is_file()})
+    return House({str(file.relative_to(TOP)): file.read_text() for file in files_here() if file.suffix in kinds})
+
+
+def merge_faults(texts):
+    """Each line that a merge left in a file."""
+    for path, text in texts:
+        for number, line in enumerate(text.splitlines(), 1):
+            if MERGED.match(line):
+                yield f"{path}:{number}: a merge left this line: {line[:20]}"
+
+
+def texts_here():
+    """Each file by name, with its text; octets that are none are replaced."""
+    return [(str(file.relative_to(TOP)), file.read_text(errors="replace")) for file in files_here()]
 
 
 def kept_in(text):
@@ -493,7 +513,7 @@ def main(words):
             KEPT.write_text(written(found, {rule: len(names) for rule, names in found.items()}))
             text = KEPT.read_text()
     notes, missing = script_notes(house)
-    faults = [*count_faults(found, text), *notes]
+    faults = [*count_faults(found, text), *merge_faults(texts_here()), *notes]
     for fault in faults:
         print(f"house: {fault}")
     if not faults:

@@ -252,6 +252,9 @@ def of_house():
     yield refuses("a count that grew", counted, ["a.rt", "b.rt"], ["a.rt", "b.rt", "c.rt"], "long-files: c.rt")
     yield refuses("a count that fell", counted, ["a.rt", "b.rt"], ["a.rt"], "--write")
     yield refuses("another name", counted, ["a.rt", "b.rt"], ["a.rt", "c.rt"], "--write")
+    makefile = "all:\n\ttrue\n"
+    for marker in ("<<<<<<< HEAD", "=======", ">>>>>>> theirs"):
+        yield refuses(marker, house.merge_faults, [("Makefile", makefile)], [("Makefile", f"{makefile}{marker}\n")], "Makefile:3")
     assert house.grown({"long-files": ["a", "b", "c"]}, {"long-files": 2}, []) == ["long-files"]
     assert not house.grown({"long-files": ["a", "b", "c"]}, {"long-files": 2}, ["long-files"])
 
