@@ -242,6 +242,9 @@ G3_CHECK g3_status g3_document_new(g3_document *out);
  * G3_NO_ROWS: it has no row. */
 G3_CHECK g3_status g3_document_push(g3_document *document, g3_page *page);
 G3_CHECK g3_status g3_document_pages(const g3_document *document, uint64_t *count);
+/* Codes each page now, as G3_MH or G3_MMR: no call that agrees on this code codes it again. The document has the codes as long as its pages,
+ * through calls; a page that is pushed later is coded when it is due. G3_NOTHING: there is no page. */
+G3_CHECK g3_status g3_document_code(g3_document *document, uint32_t coding);
 
 /* Terminals: the two stations of a call with error correction (T.30, Annex A), a caller and an answerer. A terminal hears octets of the
  * line and gives the bursts that are to be sent. It has no clock and no modem: the program measures the waits, and listens by the carrier
@@ -276,8 +279,8 @@ G3_CHECK g3_status g3_answerer_new(g3_terminal *out, const g3_caps *caps);
 /* A caller, which waits for a DIS. The document moves in: its handle is empty then. G3_NOTHING: it has no page. G3_NOT_CALLABLE: a page
  * isn't 1728, 2048 or 2432 pixels wide. G3_BAD_CHOICE: a number of wish stands for no choice. */
 G3_CHECK g3_status g3_caller_new(g3_terminal *out, g3_document *document, const g3_wish *wish);
-/* The same, of the pages from `first` on, counted from 0: those that a call before didn't confirm. They are copied for that, so that nothing
- * is lost where memory is refused; those before them are freed. G3_NOTHING: there is no such page. */
+/* The same, of the pages from `first` on, counted from 0: those that a call before didn't confirm. They are copied for that, with their
+ * codes, so that nothing is lost where memory is refused; those before them are freed. G3_NOTHING: there is no such page. */
 G3_CHECK g3_status g3_caller_new_from(g3_terminal *out, g3_document *document, uint64_t first, const g3_wish *wish);
 
 /* Hears octets that came by V.21 or by the carrier of a page: flags and frames, the least significant bit of each first, in pieces of any

@@ -61,7 +61,9 @@ class Documents(unittest.TestCase):
     def test_whole(self):
         """A document goes to one station after another."""
         document = g3fax.Document([page(1), page(2)])
-        for _ in range(3):
+        for coding in Coding.MMR, None, Coding.MH:
+            if coding:
+                document.code(coding)
             with g3fax.Answerer(limit=9) as answerer, g3fax.Caller(document) as caller:
                 self.assertEqual(talk(caller, answerer), End.NORMAL)
                 self.assertEqual([at == page(number) for number, at in enumerate(answerer.pages(), 1)], [True] * 2)
@@ -70,7 +72,10 @@ class Documents(unittest.TestCase):
         self.assertEqual(len(document), 2)
 
     def test_refused(self):
+        self.fault(106, g3fax.Document().code, Coding.MH)
+        self.assertRaises(TypeError, g3fax.Document().code, "mmr")
         document = g3fax.Document([g3fax.Page.of_rows(b"\0", 8), page(1)])
+        self.assertRaises(ValueError, document.code, 3)
         self.assertIsNone(document.confirmed)
         for number, first in (26, 0), (106, 2), (106, (1 << 64) - 1):
             self.fault(number, g3fax.Caller, document, first=first)

@@ -262,8 +262,8 @@ static void calls(int by_frames)
 }
 
 /* A call of two pages whose line is lost once the first one is confirmed: the document comes back, which takes no memory, and another call
- * sends the second one alone. */
-static void redials(void)
+ * sends the second one alone. Counts the growths of each of the two calls, of a document that is coded before, or isn't. */
+static void redials(int is_coded, unsigned long growths[2])
 {
     g3_page page = G3_EMPTY;
     g3_document document = G3_EMPTY;
@@ -278,11 +278,13 @@ static void redials(void)
         for (unsigned row = 0; row < 6; row++) DOES(g3_page_push_row(&page, image + 20 * number + row, 216));
         DOES(g3_document_push(&document, &page));
     }
+    if (is_coded) DOES(g3_document_code(&document, G3_MMR));
     for (unsigned call = 0; call < 2; call++) {
         DOES(g3_answerer_new(&answerer, &caps));
         if (call == 0) DOES(g3_caller_new(&caller, &document, &wish));
         else DOES(g3_caller_new_from(&caller, &document, first, &wish));
         here.end = 0;
+        growths[call] = grown;
         for (uint64_t now = 0; now < 400000 && here.end == 0; now += 3000) {
             unsigned said = say(&answerer, &caller, 0);
             said += say(&caller, &answerer, 0);
@@ -292,6 +294,7 @@ static void redials(void)
             DOES(g3_terminal_tick(&caller, now, said == 0 ? G3_QUIET : G3_CARRIER));
             DOES(g3_terminal_tick(&answerer, now, said == 0 ? G3_QUIET : G3_CARRIER));
         }
+        growths[call] = grown - growths[call];
         DOES(g3_terminal_take_page(&answerer, &page));
         for (unsigned row = 0; row < 6; row++) {
             DOES(g3_page_row(&page, row, again, sizeof again, &count));
@@ -326,7 +329,13 @@ int main(int argc, char **argv)
         sizes();
         calls(0);
         calls(1);
-        redials();
+        unsigned long due[2], coded[2];
+        redials(0, due);
+        redials(1, coded);
+        /* a call that is made again grows again */
+        for (int call = 0; call < 2 && grown < refused; call++) {
+            if (coded[call] >= due[call]) printf("call %d codes a page again: %lu growths\n", call, coded[call]), bad = 1;
+        }
         if (blocks != before) printf("growth %lu refused: %ld blocks are left\n", refused, blocks - before), bad = 1;
     } while (grown >= refused);
     printf("growths %lu\n", refused - 1);

@@ -141,6 +141,7 @@ static g3_status call(uint32_t which, void *a, void *b)
     case 64: return g3_terminal_next(a, below(50) ? &why : NULL, number);
     case 65: return g3_caller_new_from(a, b, below(4), below(50) ? &wish : NULL);
     case 66: case 67: return g3_terminal_take_document(a, b, number);
+    case 68: return g3_document_code(a, below(4));
     case 62: return g3_page_next(octets, length, below(50) ? &code : NULL, below(4) ? below(2000) : stride, number);
     default: g3_page_free(a); return G3_OK;
     }
@@ -153,7 +154,7 @@ int main(int argc, char **argv)
     for (int calls = argc == 2 ? atoi(argv[1]) : 0; calls > 0; calls--) {
         uint32_t first = below(8), second = (first + 1 + below(7)) % 8;
         if (below(20) == 0) refused = grown + 1 + below(4);
-        g3_status status = call(below(69), below(50) ? &handles[first] : NULL, below(50) ? &handles[second] : NULL);
+        g3_status status = call(below(70), below(50) ? &handles[first] : NULL, below(50) ? &handles[second] : NULL);
         int is_known = status <= G3_TOO_MANY_CODED_ROWS || (status >= G3_BAD_ADDRESS && status <= G3_SHORT_FIELD)
             || status == G3_NOT_CALLABLE || status == G3_NOT_COMPATIBLE
             || (status >= G3_EMPTY_HANDLE && status <= G3_NO_ADDRESS);

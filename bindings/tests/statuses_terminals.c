@@ -49,7 +49,11 @@ static void redials(void)
     IS(G3_EMPTY_HANDLE, g3_terminal_take_document(NULL, &d, &n));
     IS(G3_EMPTY_HANDLE, g3_terminal_take_document(&t, NULL, &n));
     IS(G3_EMPTY_HANDLE, g3_caller_new_from(&t, &d, 0, &wish));
+    IS(G3_EMPTY_HANDLE, g3_document_code(&d, G3_MMR));
+    IS(G3_EMPTY_HANDLE, g3_document_code(NULL, G3_MMR));
     IS(G3_OK, g3_document_new(&d));
+    IS(G3_BAD_CHOICE, g3_document_code(&d, 3));
+    IS(G3_NOTHING, g3_document_code(&d, G3_MMR));
     IS(G3_NOTHING, g3_caller_new_from(&t, &d, 0, &wish));
     IS(G3_NOTHING, g3_caller_new_from(&t, &d, UINT64_MAX, &wish));
     for (uint32_t number = 0; number < 3; number++) {
@@ -57,6 +61,9 @@ static void redials(void)
         IS(G3_OK, g3_page_push_row(&a, octets, 256));
         IS(G3_OK, g3_document_push(&d, &a));
     }
+    IS(G3_OK, g3_document_code(&d, G3_MH));
+    IS(G3_OK, g3_document_code(&d, G3_MMR));
+    IS(G3_BAD_CHOICE, g3_document_code(&d, 0));
     IS(G3_NOT_CALLABLE, g3_caller_new(&t, &d, &wish));
     IS(G3_NOT_CALLABLE, g3_caller_new_from(&t, &d, 0, &wish)); /* its first page, which isn't sent from 1 on */
     IS(G3_NOTHING, g3_caller_new_from(&t, &d, 3, &wish));
@@ -69,6 +76,7 @@ static void redials(void)
     IS(G3_OK, g3_caller_new_from(&t, &d, 1, &wish));
     IS(1, d.at == NULL);
     IS(G3_FULL_HANDLE, g3_caller_new_from(&t, &other, 1, &wish));
+    IS(G3_OTHER_HANDLE, g3_document_code((g3_document *)&t, G3_MMR));
     IS(G3_NO_ADDRESS, g3_terminal_take_document(&t, &d, NULL));
     IS(G3_NOTHING, g3_terminal_take_document(&t, &d, &n)); /* the call goes on */
     IS(1, n == 77 && d.at == NULL && t.at != NULL);

@@ -58,6 +58,13 @@ class Document(_Owner):
         with self._lock, page._lock:
             _done(_library.g3_document_push(self._at, page._at))
 
+    def code(self, coding: Coding) -> None:
+        """Codes each page now: no call that agrees on this code codes it again. The document has the codes as long as its pages, through
+        calls; a page that is appended later is coded when it is due. Fault 106 without a page."""
+        coding = _number(coding, "coding")
+        with self._lock:
+            _done(_library.g3_document_code(self._at, coding))
+
     def __len__(self) -> int:
         """The number of pages."""
         count = _u64()

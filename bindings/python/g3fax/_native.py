@@ -140,6 +140,7 @@ _FUNCTIONS: Dict[str, Tuple[Any, List[Any]]] = {
     "g3_document_new": (_u32, [_address]),
     "g3_document_push": (_u32, [_address, _address]),
     "g3_document_pages": (_u32, [_address, _address]),
+    "g3_document_code": (_u32, [_address, _u32]),
     "g3_code_wrong": (_text, [_address]),
     "g3_caps_wrong": (_text, [_address]),
     "g3_wish_wrong": (_text, [_address]),

@@ -3,8 +3,9 @@ use Rattle.std.specs.Prelude.{ℕ, ◌≡◌, ◌≢◌, ◌<◌, ◌++◌, ◌�
 use Rattle.std.specs.declared.option.Option.{Option}
 use Rattle.std.specs.declared.option.Option.TheVariants.{None, Some}
 use Rattle.raster.specs.Pages.{PagePixels}
+use Rattle.raster.specs.declared.coding.Coding.{Coding}
 use Rattle.g3fax.specs.Handles.{OnDocument}
-use Rattle.g3fax.specs.Statuses.{ok, no_memory, empty_handle, other_handle}
+use Rattle.g3fax.specs.Statuses.{ok, no_memory, bad_choice, empty_handle, nothing_there, other_handle}
 use Rattle.g3fax.specs.declared.handle.Kept.{Kept}
 use Rattle.g3fax.specs.declared.handle.Kept.TheVariants.{Octets, Page, Deframer, Document, Caller, Answerer, RowCoder, RowReader}
 
@@ -19,6 +20,12 @@ pub record AppendsPage (old : Option (List PagePixels)) (page : PagePixels) (new
   pub kept : status ≢ ok → new ≡ old
   pub no_rows : length page.rows ≡ 0 → status ≡ 4
   pub only : 0 < length page.rows → (status ≡ ok) ⊎ (status ≡ no_memory)
+
+-- each page is coded, in a code that is known: 104 without one, else 106 without a page; else 0, or 9
+abbrev pub CodesAll : Option Coding → Option (List PagePixels) → ℕ → Type 0
+CodesAll None pages status = status ≡ bad_choice
+CodesAll (Some coding) None status = status ≡ nothing_there
+CodesAll (Some coding) (Some pages) status = (status ≡ ok) ⊎ (status ≡ no_memory)
 
 -- a value leaves its handle by status 0, and by any other it stays
 pub record IsMoved (status : ℕ) (old new : Option Kept) : Type 0 where

@@ -14,9 +14,9 @@ use crate::status::{
     BAD_CHOICE, EMPTY_HANDLE, FULL_HANDLE, NO_MEMORY, NOT_CALLABLE, NOTHING, OK, OTHER_HANDLE,
 };
 use crate::ticking::{durations, limit_of};
-use raster::{Document, Page};
+use raster::Page;
 use signals::{Caps, Modems, PageWidth, Wish};
-use stations::{Caller, LimitedAnswerer, Limits, StoppableCaller, Turn};
+use stations::{Caller, CodedDocument, LimitedAnswerer, Limits, StoppableCaller, Turn};
 use std::alloc::Global;
 use terminals::{Terminal, TimedTerminal, Watched};
 
@@ -164,7 +164,7 @@ fn is_callable(page: &Page) -> bool
 }
 
 /// Returns the status for making a caller of a document: 0; 106 without a page, 26 if a call can't have the width of a page.
-fn test_document(document: &Option<Document>) -> u32
+fn test_document(document: &Option<CodedDocument>) -> u32
     ensures { AnswersDocument document.now result }
 {
     let Some(pages) = document else {
@@ -181,7 +181,7 @@ fn test_document(document: &Option<Document>) -> u32
 fn boxed(
     alloc: Global,
     timed: TimedTerminal<StoppableCaller>,
-) -> Result<Box<TimedTerminal<StoppableCaller>>, Document>
+) -> Result<Box<TimedTerminal<StoppableCaller>>, CodedDocument>
     ensures ok { IfOk result (λ boxed. boxed.value ≡ timed) }
     ensures err { IfErr result (λ document. document ≡ timed.terminal.speaking.station.station.document) }
 {
@@ -189,8 +189,7 @@ fn boxed(
         Ok(boxed) => Ok(boxed),
         Err(refused) => {
             let station = refused.value.into_terminal().into_station().into_station();
-            let (document, _confirmed) = station.into_document();
-            Err(document)
+            Err(station.into_coded())
         }
     }
 }
@@ -198,7 +197,7 @@ fn boxed(
 /// Returns the terminal of a new caller of a document. Errors: there is none; then the document stays.
 pub(crate) fn calling(
     alloc: Global,
-    document: &mut Option<Document>,
+    document: &mut Option<CodedDocument>,
     wish: Wish,
 ) -> Result<Box<TimedTerminal<StoppableCaller>>, u32>
     ensures ok { IfOk result (λ timed. IsNewCaller (pages_of document.old) wish timed.value) }
@@ -213,7 +212,7 @@ pub(crate) fn calling(
     let Some(pages) = document.take() else {
         return Err(NOTHING);
     };
-    let Ok(caller) = Caller::new(alloc, pages, wish) else {
+    let Ok(caller) = Caller::of_coded(alloc, pages, wish) else {
         return Err(NOT_CALLABLE);
     };
     let terminal = Terminal::new(alloc, StoppableCaller::new(caller), Turn::Silent);

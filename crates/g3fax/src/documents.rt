@@ -1,12 +1,15 @@
 //! Documents, for C: the pages of a call, in order.
 
-ghost use Rattle.g3fax.specs.Documents.{AppendsPage, MovesPage, pages_of};
+ghost use Rattle.g3fax.specs.Codes.{coding_of};
+ghost use Rattle.g3fax.specs.Documents.{AppendsPage, CodesAll, MovesPage, pages_of};
 ghost use Rattle.g3fax.specs.Handles.{Fills, HasDocument, OfDocument};
 ghost use Rattle.std.specs.Prelude.{◌≡◌, ◌≢◌, IfErr, IfOk, None, length};
 
+use crate::codes::coding_of;
 use crate::handle::{G3Handle, Kept, opened};
-use crate::status::{EMPTY_HANDLE, NO_ROWS, OK, OTHER_HANDLE};
+use crate::status::{BAD_CHOICE, EMPTY_HANDLE, NO_MEMORY, NO_ROWS, NOTHING, OK, OTHER_HANDLE};
 use raster::{Document, Page};
+use stations::CodedDocument;
 use std::alloc::Global;
 
 /// Makes a document without pages in an empty handle. Returns `G3_FULL_HANDLE` (102) or `G3_NO_MEMORY` (9).
@@ -36,7 +39,7 @@ pub(crate) fn copied(alloc: Global, page: &Page) -> Result<Page, u32>
 }
 
 /// Appends a copy of a page.
-fn append(alloc: Global, document: &mut Option<Document>, page: &Page) -> u32
+fn append(alloc: Global, document: &mut Option<CodedDocument>, page: &Page) -> u32
     ensures { AppendsPage document.old page.now document.new result }
 {
     if page.rows().is_empty() {
@@ -55,7 +58,7 @@ fn append(alloc: Global, document: &mut Option<Document>, page: &Page) -> u32
     }
     match Document::new(alloc, copy) {
         Ok(pages) => {
-            *document = Some(pages);
+            *document = Some(CodedDocument::uncoded(alloc, pages));
             OK
         }
         Err(fault) => fault.number() as u32,
@@ -90,7 +93,7 @@ pub extern "C" fn g3_core_document_push(
 }
 
 /// Returns the number of pages.
-fn count_pages(document: &Option<Document>) -> u64
+fn count_pages(document: &Option<CodedDocument>) -> u64
     ensures { result ≡ length (pages_of document.now) }
 {
     match document {
@@ -114,4 +117,33 @@ pub extern "C" fn g3_core_document_pages(
             *count = count_pages(pages);
             OK
         })
+}
+
+/// Codes each page of a document.
+fn code_all(alloc: Global, document: &mut Option<CodedDocument>, coding: u32) -> u32
+    ensures answers { CodesAll (coding_of coding) document.old result }
+    ensures kept { document.new ≡ document.old }
+{
+    let Some(coding) = coding_of(coding) else {
+        return BAD_CHOICE;
+    };
+    let Some(pages) = document else {
+        return NOTHING;
+    };
+    match pages.code(alloc, coding) {
+        Ok(()) => OK,
+        Err(_) => NO_MEMORY,
+    }
+}
+
+/// Codes each page of a document now, so that no call which agrees on this code codes one: the document has the codes as long as its pages.
+/// Returns `G3_EMPTY_HANDLE` (100), `G3_OTHER_HANDLE` (101), `G3_BAD_CHOICE` (104) for an unknown code, `G3_NOTHING` (106) without a page, or
+/// `G3_NO_MEMORY` (9). By any of these the document keeps the codes that it had.
+#[unsafe(no_mangle)]
+pub extern "C" fn g3_core_document_code(alloc: Global, document: &mut G3Handle, coding: u32) -> u32
+    ensures answers { OfDocument (λ pages. CodesAll (coding_of coding) pages result)
+        document.old.value result }
+    ensures kept { document.new.value ≡ document.old.value }
+{
+    opened!(alloc, document, Document, pages => code_all(alloc, pages, coding))
 }

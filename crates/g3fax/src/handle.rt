@@ -9,8 +9,8 @@ use crate::loose::Loose;
 use crate::status::{FULL_HANDLE, NO_MEMORY, OK};
 use hdlc::Deframer;
 use page_code::{RowCoder, RowReader};
-use raster::{Document, Page};
-use stations::StoppableCaller;
+use raster::Page;
+use stations::{CodedDocument, StoppableCaller};
 use std::alloc::Global;
 use std::marker::Model;
 use std::{mem, ptr};
@@ -27,7 +27,7 @@ pub enum Kept {
     /// A deframer.
     Deframer(Box<Deframer>),
     /// The pages of a call; None before the first.
-    Document(Option<Document>),
+    Document(Option<CodedDocument>),
     /// The terminal of a caller, with its clock.
     Caller(Box<TimedTerminal<StoppableCaller>>),
     /// The terminal of an answerer, with its clock, and with pages that were taken out of it.

@@ -15,7 +15,7 @@ use crate::status::{
 };
 use raster::{Document, Page};
 use signals::Wish;
-use stations::StoppableCaller;
+use stations::{CodedDocument, StoppableCaller};
 use std::alloc::Global;
 use std::mem;
 use terminals::TimedTerminal;
@@ -29,13 +29,14 @@ fn goes_on(timed: &TimedTerminal<StoppableCaller>) -> bool
 }
 
 /// Returns the document of a caller, and how many of its first pages are confirmed; the terminal is given up.
-fn handed_back(timed: TimedTerminal<StoppableCaller>) -> (Document, u64)
+fn handed_back(timed: TimedTerminal<StoppableCaller>) -> (CodedDocument, u64)
     ensures document { result.0 ≡ (station_of timed).station.document }
     ensures confirmed { (t : CallerTuple) → Represents (station_of timed).station t
         → result.1 ≡ confirmed t }
 {
     let station = timed.into_terminal().into_station().into_station();
-    station.into_document()
+    let confirmed = station.confirmed();
+    (station.into_coded(), confirmed)
 }
 
 /// Hands back the document of a caller whose call has ended, in an empty handle, as `g3_core_caller_new` took it, and tells how many of its
@@ -105,7 +106,7 @@ fn copied_pages(alloc: Global, pages: &[Page]) -> Result<Document, u32>
 /// Returns the terminal of a new caller of a copy of the pages of a document from one on. Errors: there is none.
 fn calling_from(
     alloc: Global,
-    document: &Option<Document>,
+    document: &Option<CodedDocument>,
     first: u64,
     wish: Wish,
 ) -> Result<Box<TimedTerminal<StoppableCaller>>, u32>
@@ -126,13 +127,16 @@ fn calling_from(
     if !are_callable(rest) {
         return Err(NOT_CALLABLE);
     }
-    let mut copy = Some(copied_pages(alloc, rest)?);
-    calling(alloc, &mut copy, wish)
+    let copy = copied_pages(alloc, rest)?;
+    let Ok(coded) = whole.with_codes(alloc, copy, first as usize) else {
+        return Err(NO_MEMORY);
+    };
+    calling(alloc, &mut Some(coded), wish)
 }
 
 /// Makes the terminal of a caller in an empty handle, which sends the pages of a document from this one on, from 0: those that a call before
-/// didn't confirm. They are copied, so that nothing is lost if memory is refused. The document moves in, with the pages before, and its handle
-/// is empty then. Returns what `g3_core_caller_new` returns; `G3_NOTHING` (106) if it has no such page.
+/// didn't confirm. They are copied, with their codes, so that nothing is lost if memory is refused. The document moves in, with the pages
+/// before, and its handle is empty then. Returns what `g3_core_caller_new` returns; `G3_NOTHING` (106) if it has no such page.
 #[unsafe(no_mangle)]
 pub extern "C" fn g3_core_caller_new_from(
     alloc: Global,

@@ -1,6 +1,7 @@
 pub mod LayerLaws
 pub mod SignalLaws
 pub mod CallerRows
+pub mod CodedPages
 pub mod PageReads
 pub mod Progress
 pub mod ItemLaws

@@ -21,7 +21,7 @@ ghost use Rattle.stations.specs.declared.turn.End.TheVariants.{PeerLeft};
 ghost use Rattle.stations.specs.declared.turn.Turn.TheVariants.{Silent};
 ghost use Rattle.signals.specs.declared.signal.PageEnd.TheVariants.{Mps};
 
-use crate::coded::{CodedDocument, code_page};
+use crate::coded::{CodedDocument, code_page, copied};
 use crate::fault::CallerFault;
 use crate::input::CallerIn;
 use crate::laws::{callers_end, callers_keep, steps_spend};
@@ -769,13 +769,4 @@ fn encoded(
         Some(made) => copied(alloc, made),
         None => code_page(alloc, params.coding, page),
     }
-}
-
-/// A copy of octets.
-fn copied(alloc: Global, octets: &[u8]) -> Result<Vec<u8>, AllocError>
-    ensures { IfOk result (λ copy. copy.items ≡ octets.now) }
-{
-    let mut copy = Vec::new(alloc);
-    copy.extend_from_slice(octets)?;
-    Ok(copy)
 }

@@ -1,15 +1,15 @@
 //! A document whose pages can be coded before a call, so that several calls code it once.
 
 ghost use Rattle.raster.specs.Packed.{FillsOctets};
-ghost use Rattle.raster.specs.Pages.{IsDocument};
+ghost use Rattle.raster.specs.Pages.{IsDocument, PushesPage};
 ghost use Rattle.raster.specs.Octets.{packed};
 ghost use Rattle.raster.specs.declared.packed.Order.TheVariants.{LsbFirst};
-ghost use Rattle.std.specs.Prelude.{◌≡◌, ◌<◌, Bool, List, length, slice_get, IfOk, IfSome};
+ghost use Rattle.std.specs.Prelude.{◌≡◌, ◌<◌, Bool, List, drop, length, map, slice_get, IfOk, IfSome};
 ghost use Rattle.stations.specs.CodedDocuments.{AreCodes, IsCodeAt, coded_page};
 
 use page_code::{CodesPages, Coding};
 use raster::packed::Order;
-use raster::{Document, Page};
+use raster::{Document, Page, RasterFault};
 use std::alloc::{AllocError, Global};
 use std::marker::Model;
 
@@ -27,7 +27,7 @@ impl Model for PageOctets {
     ghost view = { λ code. code.octets.items };
 }
 
-/// A document, and the code of each of its pages in one coding, if these were made. Contracts see the document alone: a
+/// A document, and the codes of its first pages in one coding, as many as were made. Contracts see the document alone: a
 /// caller sends the same with the codes as without them.
 #[derive(Debug, Drop)]
 pub struct CodedDocument {
@@ -76,6 +76,53 @@ impl CodedDocument {
         })
     }
 
+    /// Appends a page, which isn't coded. Errs with `NoRows` if it has no row, and with `NoMemory`; after an error the
+    /// document is as it was, and the page is dropped.
+    #[tactic(auto, using(crate::proofs::CodedPages::pushed))]
+    pub fn push(&mut self, page: Page) -> Result<(), RasterFault>
+        ensures { PushesPage self.old page self.new result }
+    {
+        self.document.push(page)
+    }
+
+    /// Codes each page, unless all are coded so; codes in another coding are dropped then. `AllocError` if memory is
+    /// refused, and the document keeps the codes that it had.
+    pub fn code(&mut self, alloc: Global, coding: Coding) -> Result<(), AllocError>
+        ensures { self.new ≡ self.old }
+    {
+        if coding == self.coding && self.codes.len() == self.document.pages().len() {
+            return Ok(());
+        }
+        self.codes = codes_of(alloc, self.document.pages(), coding)?;
+        self.coding = coding;
+        Ok(())
+    }
+
+    /// Returns a document, whose pages are those of this one from a number on, with copies of their codes. `AllocError`
+    /// if memory is refused.
+    #[tactic(auto, using(crate::proofs::CodedPages::dropped))]
+    pub fn with_codes(
+        &self,
+        alloc: Global,
+        document: Document,
+        first: usize,
+    ) -> Result<CodedDocument, AllocError>
+        requires { document ≡ drop first self.now }
+        ensures { IfOk result (λ coded. coded ≡ document) }
+    {
+        let codes = if first < self.codes.len() {
+            let (_before, after) = self.codes.split_at(first);
+            copied_codes(alloc, after)?
+        } else {
+            Vec::new(alloc)
+        };
+        Ok(CodedDocument {
+            document,
+            coding: self.coding,
+            codes,
+        })
+    }
+
     /// The pages in order, borrowed.
     pub fn pages(&self) -> &[Page]
         ensures pages { result.now ≡ self.now }
@@ -92,6 +139,7 @@ impl CodedDocument {
     }
 
     /// The octets of the code of the page at a number, from 0, in a coding, if they were made.
+    #[tactic(auto, using(crate::proofs::CodedPages::got))]
     pub(crate) fn made(&self, number: usize, coding: Coding) -> Option<&[u8]>
         ensures { IfSome result (λ octets. IsCodeAt coding self.now number octets.now) }
     {
@@ -106,7 +154,7 @@ impl CodedDocument {
 /// The octets of the code of each page.
 fn codes_of(alloc: Global, pages: &[Page], coding: Coding) -> Result<Vec<PageOctets>, AllocError>
     requires { IsDocument pages.now }
-    ensures { IfOk result (λ codes. AreCodes coding pages.now codes.items) }
+    ensures { IfOk result (λ codes. codes.items ≡ map (coded_page coding) pages.now) }
 {
     let mut codes = Vec::new(alloc);
     for page in pages {
@@ -114,6 +162,18 @@ fn codes_of(alloc: Global, pages: &[Page], coding: Coding) -> Result<Vec<PageOct
         codes.push(PageOctets { octets })?;
     }
     Ok(codes)
+}
+
+/// A copy of codes.
+fn copied_codes(alloc: Global, codes: &[PageOctets]) -> Result<Vec<PageOctets>, AllocError>
+    ensures { IfOk result (λ copy. copy.items ≡ codes.now) }
+{
+    let mut copy = Vec::new(alloc);
+    for code in codes {
+        let octets = copied(alloc, &code.octets)?;
+        copy.push(PageOctets { octets })?;
+    }
+    Ok(copy)
 }
 
 /// The octets of a page's code, the least significant bit of each first.
@@ -125,6 +185,15 @@ pub(crate) fn code_page(alloc: Global, coding: Coding, page: &Page) -> Result<Ve
     coding.encode(alloc, page, Order::LsbFirst, &mut octets)?;
     are_packed(&octets);
     Ok(octets)
+}
+
+/// A copy of octets.
+pub(crate) fn copied(alloc: Global, octets: &[u8]) -> Result<Vec<u8>, AllocError>
+    ensures { IfOk result (λ copy. copy.items ≡ octets.now) }
+{
+    let mut copy = Vec::new(alloc);
+    copy.extend_from_slice(octets)?;
+    Ok(copy)
 }
 
 /// Octets that bits fill are the packed bits. Nothing runs.
