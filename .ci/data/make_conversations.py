@@ -140,15 +140,15 @@ REFUSED_TWICE = [
 NOT_REFUSED = [*REFUSED_TWICE[:3], (REFUSED_TWICE[3][0], ["wait"]), ("stop 8000", [("v21", ["FF13FA"]), "done"]), "end stopped pages 0"]
 STORED = '{"at":14000,"code":"mmr","file":"page-1.pbm","height":1,"lines":"standard","page":1,"speed":"v17-14400","width":1728}'
 NORMAL = ['{"pages":1,"whole":true}', '{"end":"normal","pages":1}']
-UNKNOWN = [f'{{"at":{at},"heard":{{"control_field":"83","signal":"other"}}}}' for at in (2000, 7000)]
+UNKNOWN = [f'{{"at":{at},"heard":{{"control_field":"83","name":"DCS","signal":"other"}},"words":"DCS"}}' for at in (2000, 7000)]
 WHY = '{"pages":0,"whole":false,"why":"the caller sends without error correction"}'
 worked("answerer", "--answer --out DIR", ANSWERED, pages=[WHITE], records=[STORED, *NORMAL])
 # The same call, with TSI (X100 0010, its 20 signs from the last to the first) and a NSS (X010 0010) before the DCS.
 TSI, NSS = "FF0343" + b"321 03 94+".ljust(20).hex(), "FF0323AD00"
 NAMED = [*ANSWERED[:7], (("rx 10200", "v21", [TSI, NSS, DCS]), []), *ANSWERED[8:]]
 OTHERS = [
-    '{"at":10200,"heard":{"control_field":"43","signal":"other"},"words":"TSI: +49 30 123"}',
-    '{"at":10200,"heard":{"control_field":"23","signal":"other"},"words":"NSS"}',
+    '{"at":10200,"heard":{"control_field":"43","name":"TSI","signal":"other"},"words":"TSI: +49 30 123"}',
+    '{"at":10200,"heard":{"control_field":"23","name":"NSS","signal":"other"},"words":"NSS"}',
 ]
 worked("answerer_of_a_caller_with_a_name", "--answer --out DIR", NAMED, pages=[WHITE], records=[*OTHERS, STORED, *NORMAL])
 # A DIS without bit 27: no error correction.

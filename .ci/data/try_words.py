@@ -7,6 +7,7 @@ The words of each frame are put together here, from the bit numbers of T.30, tab
 same octets with their bits in the other order are listed alike by `--order msb`. Ends with status 1 where something differs. It needs
 Python's standard library alone."""
 
+import json
 import random
 import subprocess
 import sys
@@ -25,7 +26,12 @@ ENDS = {
 NAMES = {
     "0000 0100": "NSF", "1000 0100": "NSC", "X100 0100": "NSS", "0000 0010": "CSI", "1000 0010": "CIG", "X100 0010": "TSI",
     "1000 0001": "DTC", "1000 0101": "SEP", "X100 0101": "SID", "1000 0011": "PWD", "X100 0011": "SUB",
-    "X111 0001": "EOM", "X111 0010": "MPS", "X111 0100": "EOP",
+    "1000 0110": "PSA", "1000 0111": "CIA", "1000 1000": "ISP", "X100 0110": "TSA", "X100 0111": "IRA", "X100 1000": "CTC",
+    "X100 0001": "DCS", "X010 0011": "CTR", "X010 0100": "CSA",
+    "X111 0001": "EOM", "X111 0010": "MPS", "X111 0100": "EOP", "X111 1001": "PRI-EOM", "X111 1010": "PRI-MPS", "X111 1100": "PRI-EOP",
+    "X111 0011": "EOR", "X111 1000": "EOS", "X111 1101": "PPS",
+    "X011 0011": "RTP", "X011 0010": "RTN", "X011 0101": "PIP", "X011 0100": "PIN", "X011 1000": "ERR", "X011 1111": "FDM",
+    "X101 1000": "CRP", "X101 0111": "TNR", "X101 0110": "TR", "X101 0011": "FNV",
 }
 WITH_SIGNS = {"CSI", "CIG", "TSI", "SEP", "SID", "PWD", "SUB"}
 
@@ -38,6 +44,7 @@ def octet_of(bits, x):
 
 
 OTHERS = {octet_of(bits, x): name for bits, name in NAMES.items() for x in "01"}
+UNREAD = sorted(OTHERS.keys() - OWN)
 
 
 def bit(fields, number):
@@ -68,10 +75,10 @@ def dis_words(fields):
 
 
 def dcs_words(fields):
-    """None of a DCS that the program doesn't know."""
+    """Its name of a DCS that no station here reads."""
     speed, width = SPEEDS.get(some(fields, 11, 14)), {"00": 1728, "10": 2048, "01": 2432}.get(some(fields, 17, 18))
     if speed is None or width is None or not late(fields, 27) or bit(fields, 16) and not late(fields, 31):
-        return None
+        return "DCS"
     words = [f"{speed} bit/s", "fine lines" if bit(fields, 15) else "standard lines", f"{width} pixels",
              "T.6" if late(fields, 31) else "T.4 one-dimensional", f"frames of {64 if late(fields, 28) else 256} octets"]
     return "; ".join(words) + others(fields, {11, 12, 13, 14, 15, 16, 17, 18, 24, 27, 28, 31})
@@ -133,10 +140,11 @@ def random_content(draw):
         lambda: b"\xFF\x13\x80" + draw.randbytes(draw.choice((3, 4, 4, 7, 12))),
         lambda: b"\xFF\x13\x83" + bytes((0, draw.randrange(256) & 0x7F, draw.randrange(256) & 0xFC | 0x80, draw.randrange(256) | 4)),
         lambda: b"\xFF\x13\xBF" + bytes((draw.choice(list(ENDS)), draw.randrange(256), draw.randrange(256), draw.randrange(256))),
+        lambda: b"\xFF\x13\xBF" + bytes((draw.choice((0x9F, 0x5F, 0x3F, 0xFF)), 0, 0, 255)),
         lambda: b"\xFF\x13\xBC" + map_of,
         lambda: b"\xFF\x13\x8C",
-        lambda: b"\xFF\x13" + bytes((draw.choice(list(OTHERS)),)) + "+49 30 12 34*#".rjust(20).encode()[::-1],
-        lambda: b"\xFF\x13" + bytes((draw.choice(list(OTHERS)),)) + draw.randbytes(draw.choice((0, 1, 5, 20))),
+        lambda: b"\xFF\x13" + bytes((draw.choice(UNREAD),)) + "+49 30 12 34*#".rjust(20).encode()[::-1],
+        lambda: b"\xFF\x13" + bytes((draw.choice(UNREAD),)) + draw.randbytes(draw.choice((0, 1, 5, 20))),
     ))()
 
 
@@ -173,6 +181,10 @@ def main(program, work):
             sys.exit(f"other words:\n{have}\n{want}")
     if explained.splitlines() != wanted:
         sys.exit("lines are missing")
+    records = [json.loads(line) for line in run(program, "--json", lsb)[0].splitlines()]
+    others = [(record["content"][4:6], record["says"].get("name")) for record in records if record.get("says", {}).get("signal") == "other"]
+    if [(field, OTHERS.get(int(field, 16))) for field, _ in others] != others or len(others) < len(UNREAD):
+        sys.exit("--json has other names")
     for words in ((), ("--explain",)):
         turned, error = run(program, *words, "--order", "msb", msb)
         if turned != (explained if words else plain) or error:

@@ -65,7 +65,7 @@ try_judged() {
     # contents that are no signal, and one that T.30 knows: the first ones aren't judged, and have numbers
     log_is "1 caller ff13" "2 caller 00" "3 answerer ff0340" "4 caller ff138c" "5 answerer ff13fb" "6 answerer ff0340"
     judges 1 "4 4 caller MCF: it is a signal of the other station [wrong-side]" \
-        "6 6 answerer other 40: its station has said DCN before [ended]" "frames 6 broken 2 readings 0 unread 2"
+        "6 6 answerer other 40 CSI: its station has said DCN before [ended]" "frames 6 broken 2 readings 0 unread 2"
     gives 1 judge --explain "$work/log"
     sed -n 2p "$work/output" > "$work/judge-found"
     echo "    T.30, 5.3.6.1: DIS, CFR, FTT, MCF, PPR and RNR are the answerer's; DCS, FCD, RCP, PPS and RR are the caller's" > "$work/wanted"
@@ -73,7 +73,7 @@ try_judged() {
     [ "$(wc -l < "$work/output")" = 5 ] || fails "judge --explain has other lines"
     gives 1 judge --json "$work/log"
     printf '%s\n' '{"at":"4","by":"caller","frame":4,"reading":false,"rule":"wrong-side","said":{"signal":"MCF"}}' \
-        '{"at":"6","by":"answerer","frame":6,"reading":false,"rule":"ended","said":{"control_field":"40","signal":"other"}}' \
+        '{"at":"6","by":"answerer","frame":6,"reading":false,"rule":"ended","said":{"control_field":"40","name":"CSI","signal":"other"}}' \
         '{"broken":2,"frames":6,"readings":0,"unread":2}' > "$work/wanted"
     is_same "$work/output" "$work/wanted" "judge --json"
 }

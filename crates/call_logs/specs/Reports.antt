@@ -7,7 +7,7 @@ use Rattle.faults.specs.RecordLines.{count, record_line, words}
 use Rattle.signals.specs.declared.signal.Side.{Side}
 use Rattle.signals.specs.declared.signal.Side.TheVariants.{Caller, Answerer}
 use Rattle.captures.specs.Records.{signal_record}
-use Rattle.captures.specs.Texts.{content_text}
+use Rattle.captures.specs.Texts.{named_text}
 use Rattle.captures.specs.declared.frames.ListForm.{ListForm}
 use Rattle.captures.specs.declared.frames.ListForm.TheVariants.{Plain, Explained, Records}
 use Rattle.referee.specs.declared.rule.Rule.{Rule}
@@ -29,7 +29,7 @@ reading_text false = codes "]"
 -- The line of a frame that breaks a rule: its number, its time, its station, what it says, what is wrong, and the rule's name in brackets.
 abbrev pub broken_line : PlainTold → Rule → List ℕ
 broken_line told rule = decimal told.number ++ (codes " " ++ (told.frame.at ++ (codes " " ++ (side_name told.frame.by ++ (codes " "
-    ++ (content_text told.frame.content ++ (codes ": " ++ (rule_words rule ++ (codes " [" ++ (rule_name rule
+    ++ (named_text told.frame.content ++ (codes ": " ++ (rule_words rule ++ (codes " [" ++ (rule_name rule
     ++ (reading_text (is_reading rule) ++ 10 ∷ [])))))))))))
 
 -- the line that says why that is a rule

@@ -12,7 +12,7 @@ ghost use Rattle.std.specs.Prelude.{◌≡◌, IfErr, IfOk, OnOk, map};
 use crate::rule_words::{is_reading, rule_name, rule_reason, rule_words};
 use crate::tally::Tally;
 use crate::verdicts::Told;
-use captures::{ContentText, ListForm, signal_record};
+use captures::{ListForm, NamedText, signal_record};
 use faults::{ToolFault, write_record};
 use referee::Rule;
 use serde_json::{Value, json};
@@ -49,7 +49,7 @@ fn write_broken<W: Write>(told: &Told<'_, '_>, rule: Rule, writer: &mut W) -> Re
         told.number,
         told.frame.at,
         side_name(told.frame.by),
-        ContentText(&told.frame.content),
+        NamedText(&told.frame.content),
         rule_words(rule),
         rule_name(rule),
         reading_text(is_reading(rule)),

@@ -9,7 +9,8 @@ use Rattle.signals.specs.Reading.{read_content}
 use Rattle.signals.specs.Signals.{PlainSignal, dis, dcs, cfr, ftt, fcd, rcp, pps, ppr, mcf, rnr, rr, dcn, other}
 use Rattle.signals.specs.declared.fault.SignalFault.{SignalFault}
 use Rattle.faults.specs.RecordLines.{count}
-use Rattle.captures.specs.Records.{frame_record, marked_below, says_record, signal_record}
+use Rattle.captures.specs.OtherWords.{other_name}
+use Rattle.captures.specs.Records.{frame_record, marked_below, record_by_name, says_record, signal_record}
 use Rattle.captures.specs.SignalWords.{is_in_map}
 use Rattle.captures.specs.TraceRecords.{traced}
 
@@ -39,6 +40,10 @@ counts_whole : (numbers : List ℕ) → items_have_float (items_of (map count nu
 counts_whole [] = refl
 counts_whole (n ∷ numbers) = counts_whole numbers
 
+name_whole : (octet : ℕ) (name : List ℕ) → has_float (record_by_name octet name) ≡ false
+name_whole octet [] = refl
+name_whole octet (first ∷ name) = refl
+
 signal_whole : (signal : PlainSignal) → has_float (signal_record signal) ≡ false
 signal_whole (dis caps) = refl
 signal_whole (dcs params) = refl
@@ -52,7 +57,7 @@ signal_whole mcf = refl
 signal_whole rnr = refl
 signal_whole rr = refl
 signal_whole dcn = refl
-signal_whole (other octet) = refl
+signal_whole (other octet) = name_whole octet (other_name octet)
 
 -- what a content says has no float
 pub says_whole : (read : Result PlainSignal SignalFault) → has_float (says_record read) ≡ false

@@ -3,17 +3,65 @@ use Rattle.std.specs.Prelude.{ℕ, ◌+◌, ◌-◌, ◌++◌, ◌∷◌, ◌&&�
 use Rattle.captures.specs.Below.{some_below, texts_below}
 use Rattle.faults.specs.Explanations.{words_in}
 
--- the names by the facsimile control field as an octet, the first bit that is sent the least significant (T.30, 5.3.6.1; the first bit of
--- NSS, TSI, SID and SUB is that of the station): phase B, and a page's end without error correction
-abbrev pub other_names : List (ℕ × List ℕ)
-other_names = (32, codes "NSF") ∷ (33, codes "NSC") ∷ (34, codes "NSS") ∷ (35, codes "NSS") ∷ (64, codes "CSI") ∷ (65, codes "CIG")
-    ∷ (66, codes "TSI") ∷ (67, codes "TSI") ∷ (129, codes "DTC") ∷ (161, codes "SEP") ∷ (162, codes "SID") ∷ (163, codes "SID")
-    ∷ (193, codes "PWD") ∷ (194, codes "SUB") ∷ (195, codes "SUB") ∷ (142, codes "EOM") ∷ (143, codes "EOM") ∷ (78, codes "MPS")
-    ∷ (79, codes "MPS") ∷ (46, codes "EOP") ∷ (47, codes "EOP") ∷ []
+-- The names of frames by their facsimile control fields as octets, the first bit that is sent the least significant (T.30, 5.3.6.1 and A.4), in
+-- five groups; the first bit of most is that of the station. First those by which a station tells what it is, or asks for a page.
+abbrev pub asking_names : List (ℕ × List ℕ)
+asking_names = (32, codes "NSF") ∷ (33, codes "NSC") ∷ (64, codes "CSI") ∷ (65, codes "CIG") ∷ (129, codes "DTC")
+    ∷ (161, codes "SEP") ∷ (193, codes "PWD") ∷ (97, codes "PSA") ∷ (225, codes "CIA") ∷ (17, codes "ISP") ∷ []
 
--- the name of a frame; none of one that has no name here
+-- Commands before a page. DCS is here, and PPS below: a station reads only those that it can send by.
+abbrev pub command_names : List (ℕ × List ℕ)
+command_names = (34, codes "NSS") ∷ (35, codes "NSS") ∷ (66, codes "TSI") ∷ (67, codes "TSI") ∷ (162, codes "SID")
+    ∷ (163, codes "SID") ∷ (194, codes "SUB") ∷ (195, codes "SUB") ∷ (98, codes "TSA") ∷ (99, codes "TSA") ∷ (226, codes "IRA")
+    ∷ (227, codes "IRA") ∷ (18, codes "CTC") ∷ (19, codes "CTC") ∷ (130, codes "DCS") ∷ (131, codes "DCS") ∷ []
+
+-- responses to these, and what controls the line
+abbrev pub line_names : List (ℕ × List ℕ)
+line_names = (196, codes "CTR") ∷ (197, codes "CTR") ∷ (36, codes "CSA") ∷ (37, codes "CSA") ∷ (26, codes "CRP") ∷ (27, codes "CRP")
+    ∷ (234, codes "TNR") ∷ (235, codes "TNR") ∷ (106, codes "TR") ∷ (107, codes "TR") ∷ (202, codes "FNV") ∷ (203, codes "FNV") ∷ []
+
+-- commands after a page
+abbrev pub after_names : List (ℕ × List ℕ)
+after_names = (142, codes "EOM") ∷ (143, codes "EOM") ∷ (78, codes "MPS") ∷ (79, codes "MPS") ∷ (46, codes "EOP")
+    ∷ (47, codes "EOP") ∷ (158, codes "PRI-EOM") ∷ (159, codes "PRI-EOM") ∷ (94, codes "PRI-MPS") ∷ (95, codes "PRI-MPS")
+    ∷ (62, codes "PRI-EOP") ∷ (63, codes "PRI-EOP") ∷ (206, codes "EOR") ∷ (207, codes "EOR") ∷ (30, codes "EOS")
+    ∷ (31, codes "EOS") ∷ (190, codes "PPS") ∷ (191, codes "PPS") ∷ []
+
+-- responses to these
+abbrev pub response_names : List (ℕ × List ℕ)
+response_names = (204, codes "RTP") ∷ (205, codes "RTP") ∷ (76, codes "RTN") ∷ (77, codes "RTN") ∷ (172, codes "PIP")
+    ∷ (173, codes "PIP") ∷ (44, codes "PIN") ∷ (45, codes "PIN") ∷ (28, codes "ERR") ∷ (29, codes "ERR") ∷ (252, codes "FDM")
+    ∷ (253, codes "FDM") ∷ []
+
+-- the name of a frame of that group; none of others
+abbrev pub asking_name : ℕ → List ℕ
+asking_name octet = words_in asking_names [] octet
+
+-- the name of a frame of that group; none of others
+abbrev pub command_name : ℕ → List ℕ
+command_name octet = words_in command_names [] octet
+
+-- the name of a frame of that group; none of others
+abbrev pub line_name : ℕ → List ℕ
+line_name octet = words_in line_names [] octet
+
+-- the name of a frame of that group; none of others
+abbrev pub after_name : ℕ → List ℕ
+after_name octet = words_in after_names [] octet
+
+-- the name of a frame of that group; none of others
+abbrev pub response_name : ℕ → List ℕ
+response_name octet = words_in response_names [] octet
+
+-- the first of two names, unless it is none
+abbrev pub either_name : List ℕ → List ℕ → List ℕ
+either_name [] other = other
+either_name name other = name
+
+-- the name of a frame; none of one that has no name
 abbrev pub other_name : ℕ → List ℕ
-other_name octet = words_in other_names [] octet
+other_name octet = either_name (either_name (asking_name octet) (command_name octet))
+    (either_name (line_name octet) (either_name (after_name octet) (response_name octet)))
 
 -- the information field is a number or a name by the signs of a telephone: CSI, CIG, TSI, SEP, SID, PWD and SUB
 abbrev pub has_signs : ℕ → Bool

@@ -17,6 +17,7 @@ use Rattle.signals.specs.declared.signal.PageEnd.{PageEnd}
 use Rattle.faults.specs.RecordLines.{count, words}
 use Rattle.captures.specs.SignalWords.{is_in_map}
 use Rattle.captures.specs.Names.{carrier_name, code_name}
+use Rattle.captures.specs.OtherWords.{other_name}
 use Rattle.captures.specs.Texts.{lines_text, modems_text, page_end_text}
 
 -- the record of a signal that has no fields: its name as `signal`
@@ -66,10 +67,17 @@ abbrev pub ppr_record : List ℕ → Data
 ppr_record marks = object (member (codes "frames") (array (items_of (map count (marked_below marks 256))))
     (member (codes "signal") (words (codes "PPR")) no_members))
 
--- another signal, by its facsimile control field in hex
-abbrev pub other_record : ℕ → Data
-other_record octet = object (member (codes "control_field") (words (encode_lower (octet ∷ [])))
+-- another signal, by its facsimile control field in hex, and its name, if it has one
+abbrev pub record_by_name : ℕ → List ℕ → Data
+record_by_name octet [] = object (member (codes "control_field") (words (encode_lower (octet ∷ [])))
     (member (codes "signal") (words (codes "other")) no_members))
+record_by_name octet name = object (member (codes "control_field") (words (encode_lower (octet ∷ [])))
+    (member (codes "name") (words name)
+    (member (codes "signal") (words (codes "other")) no_members)))
+
+-- another signal, by its facsimile control field
+abbrev pub other_record : ℕ → Data
+other_record octet = record_by_name octet (other_name octet)
 
 -- the record of what a signal says: its name as `signal`, and its fields, if it has any
 abbrev pub signal_record : PlainSignal → Data

@@ -1,5 +1,5 @@
 -- The texts of signals and contents, as the command that lists frames shows them.
-use Rattle.std.specs.Prelude.{ℕ, ◌+◌, ◌∷◌, [], Bool, List, Result, Ok, Err, codes, cond, length}
+use Rattle.std.specs.Prelude.{ℕ, ◌+◌, ◌++◌, ◌∷◌, [], Bool, List, Result, Ok, Err, codes, cond, length}
 use Rattle.std.specs.Fmt.{decimal}
 use Rattle.std.specs.List.{fold, join_with_byte}
 use Rattle.hex.specs.Hex.{encode_lower}
@@ -21,6 +21,7 @@ use Rattle.signals.specs.declared.params.Speed.TheVariants.{V17At12000, V17At144
 use Rattle.signals.specs.declared.signal.PageEnd.{PageEnd}
 use Rattle.signals.specs.declared.signal.PageEnd.TheVariants.{Null, Mps, Eom, Eop}
 use Rattle.signals.specs.declared.fault.SignalFault.{SignalFault}
+use Rattle.captures.specs.OtherWords.{other_name}
 use Rattle.faults.specs.Faults.{fault_text}
 use Rattle.faults.specs.declared.fault.ToolFault.TheVariants.{No}
 
@@ -108,3 +109,33 @@ read_text (Err fault) = fault_text (No (number_of fault))
 -- what a content says; if it is no signal, `fault` and the number of its fault
 abbrev pub content_text : List ℕ → List ℕ
 content_text content = read_text (read_content content)
+
+-- the name of a frame that is no signal of these stations; none if it has none, and of their signals
+abbrev pub name_of : PlainSignal → List ℕ
+name_of (dis caps) = []
+name_of (dcs params) = []
+name_of cfr = []
+name_of ftt = []
+name_of (fcd number octets) = []
+name_of rcp = []
+name_of (pps ends page block last) = []
+name_of (ppr map) = []
+name_of mcf = []
+name_of rnr = []
+name_of rr = []
+name_of dcn = []
+name_of (other octet) = other_name octet
+
+-- a text, and a name after it, if there is one
+abbrev pub with_name : List ℕ → List ℕ → List ℕ
+with_name text [] = text
+with_name text name = text ++ (codes " " ++ name)
+
+-- what was read of a content, with its name
+abbrev pub read_named : Result PlainSignal SignalFault → List ℕ
+read_named (Ok signal) = with_name (signal_text signal) (name_of signal)
+read_named (Err fault) = fault_text (No (number_of fault))
+
+-- what a content says, and the name of one that is no signal of these stations
+abbrev pub named_text : List ℕ → List ℕ
+named_text content = read_named (read_content content)

@@ -27,5 +27,5 @@ pub use crate::missing::{Missing, Stored, StoredFront};
 pub use crate::numbers::PageNumbers;
 pub use crate::records::signal_record;
 pub use crate::signal_words::write_signal;
-pub use crate::texts::ContentText;
+pub use crate::texts::{ContentText, NamedText};
 pub use crate::trace_records::{write_ended, write_traced, write_traced_check};

@@ -3,7 +3,7 @@
 ghost use Rattle.faults.specs.Faults.{IsOutside};
 ghost use Rattle.captures.specs.Records.{counts_record, dcs_record, dis_record, fcd_record, frame_record, named, other_record, ppr_record};
 ghost use Rattle.faults.specs.RecordLines.{count, record_line};
-ghost use Rattle.captures.specs.Records.{marked_below, pps_record, says_record, shown_front, signal_record};
+ghost use Rattle.captures.specs.Records.{marked_below, pps_record, record_by_name, says_record, shown_front, signal_record};
 ghost use Rattle.captures.specs.SignalWords.{is_in_map};
 ghost use Rattle.serde_json.specs.View.{view};
 ghost use Rattle.signals.specs.Reading.{read_content};
@@ -12,6 +12,7 @@ ghost use Rattle.std.specs.Io.KnownBytes.{Appends};
 ghost use Rattle.std.specs.Prelude.{◌≡◌, ◌++◌, ◌∷◌, [], cond, map, IfErr, IfOk, OnOk};
 
 use crate::names::{carrier, code};
+use crate::other_words::other_name;
 use crate::signal_words::is_in_map;
 use crate::texts::{either, lines, modems, page_end};
 use faults::{ToolFault, write_record};
@@ -111,12 +112,22 @@ fn ppr_record(alloc: Global, marks: &[u8; 32]) -> Result<Value, AllocError>
     json!(in alloc; {"signal": "PPR", "frames": frames})
 }
 
-/// Another signal, by its facsimile control field in hex.
+/// Returns the record of another signal: its facsimile control field in hex, and its name, if it isn't empty.
+fn record_by_name(alloc: Global, octet: u8, name: &str) -> Result<Value, AllocError>
+    ensures { IfOk result (λ value. view value ≡ record_by_name octet name.now) }
+{
+    let digits = hex::encode(alloc, &[octet])?;
+    if name.is_empty() {
+        return json!(in alloc; {"signal": "other", "control_field": digits});
+    }
+    json!(in alloc; {"signal": "other", "control_field": digits, "name": name})
+}
+
+/// Returns the record of another signal, by its facsimile control field.
 fn other_record(alloc: Global, octet: u8) -> Result<Value, AllocError>
     ensures { IfOk result (λ value. view value ≡ other_record octet) }
 {
-    let digits = hex::encode(alloc, &[octet])?;
-    json!(in alloc; {"signal": "other", "control_field": digits})
+    record_by_name(alloc, octet, other_name(octet))
 }
 
 /// A signal of which only the name is said.

@@ -1,10 +1,11 @@
 //! The texts of signals and contents, as `frames` shows them.
 
-ghost use Rattle.captures.specs.Texts.{coding_text, lines_text, marked_frames, modems_text, page_end_text, signal_text, speed_text};
-ghost use Rattle.signals.specs.Signals.{other};
+ghost use Rattle.captures.specs.Texts.{coding_text, lines_text, marked_frames, modems_text, name_of, page_end_text, signal_text, speed_text, with_name};
+ghost use Rattle.signals.specs.Signals.{other, plain};
 ghost use Rattle.std.specs.Fmt.{DisplaysOnOk};
 ghost use Rattle.std.specs.Prelude.{◌≡◌, cond};
 
+use crate::other_words::other_name;
 use faults::ToolFault;
 use page_code::Coding;
 use raster::packed::{Order, bit_of};
@@ -163,6 +164,51 @@ impl fmt::Display for ContentText<'_> {
     fn fmt<W: fmt::Write>(&self, f: &mut fmt::Formatter<W>) -> fmt::Result {
         match read(self.0) {
             Ok(signal) => write!(f, "{}", SignalText(&signal)),
+            Err(fault) => write!(f, "{}", ToolFault::No(fault.number())),
+        }
+    }
+}
+
+/// Returns the name of a frame that is no signal of these stations; empty if it has none, and for their signals.
+fn name_of(signal: &Signal<'_>) -> &'static str
+    ensures { result.now ≡ name_of (plain signal.now) }
+{
+    match signal {
+        Signal::Other(octet) => other_name(*octet),
+        Signal::Dis(_) | Signal::Dcs(_) | Signal::Cfr | Signal::Ftt | Signal::Fcd { .. } => "",
+        Signal::Rcp | Signal::Pps { .. } | Signal::Ppr(_) | Signal::Mcf | Signal::Rnr => "",
+        Signal::Rr | Signal::Dcn => "",
+    }
+}
+
+/// Writes a signal, and a name after it, if it isn't empty.
+fn with_name<W: fmt::Write>(
+    signal: &Signal<'_>,
+    name: &str,
+    f: &mut fmt::Formatter<W>,
+) -> fmt::Result
+    ensures { DisplaysOnOk W.write_str_gives f.old result
+        (Some (with_name (signal_text (plain signal.now)) name.now)) f.new }
+{
+    if name.is_empty() {
+        return write!(f, "{}", SignalText(signal));
+    }
+    write!(f, "{} {name}", SignalText(signal))
+}
+
+/// What `ContentText` says of a frame's content, and the name of one that is no signal of these stations, if it has one.
+#[derive(Debug, Drop)]
+pub struct NamedText<'a>(pub &'a [u8]);
+
+impl fmt::Display for NamedText<'_> {
+    ghost use Rattle.std.specs.Prelude.{Some};
+    ghost use Rattle.captures.specs.Texts.{named_text};
+
+    ghost output = { λ text. Some (named_text text.0.now) };
+
+    fn fmt<W: fmt::Write>(&self, f: &mut fmt::Formatter<W>) -> fmt::Result {
+        match read(self.0) {
+            Ok(signal) => with_name(&signal, name_of(&signal), f),
             Err(fault) => write!(f, "{}", ToolFault::No(fault.number())),
         }
     }

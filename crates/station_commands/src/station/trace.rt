@@ -7,7 +7,7 @@ ghost use Rattle.std.specs.Io.KnownBytes.{Appends};
 ghost use Rattle.std.specs.Prelude.{◌≡◌, ◌||◌, IfErr, None, OnOk, cond, nat_eq, ◌+◌};
 
 use crate::station::records::write_lost;
-use captures::{ContentText, write_traced, write_traced_check};
+use captures::{NamedText, write_traced, write_traced_check};
 use command_files::context::{Context, Part};
 use command_files::files::limited::SharedFile;
 use command_files::files::output::Rights;
@@ -314,13 +314,7 @@ impl TraceLines {
         if self.records {
             return write_traced(self.alloc, self.at, self.said, content, writer);
         }
-        writeln!(
-            writer,
-            "{} {} {}",
-            self.at,
-            self.word(),
-            ContentText(content)
-        )?;
+        writeln!(writer, "{} {} {}", self.at, self.word(), NamedText(content))?;
         Ok(())
     }
 
