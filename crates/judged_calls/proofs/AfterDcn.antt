@@ -7,7 +7,7 @@ use Rattle.signals.specs.declared.signal.Side.{Side}
 use Rattle.signals.specs.declared.signal.Side.TheVariants.{Caller as CallerSide, Answerer as AnswererSide}
 use Rattle.partial_page.specs.Store.{bit_of}
 use Rattle.stations.specs.Blocks.{Block}
-use Rattle.stations.specs.Inputs.{CallerInput, AnswererInput, PlainItem, framed, checked, timeout, t5, t1, t2, is_busy, hears, listens, trains}
+use Rattle.stations.specs.Inputs.{CallerInput, AnswererInput, PlainItem, framed, checked}
 use Rattle.stations.specs.Laws.{Each}
 use Rattle.stations.specs.CallerStep.{Caller, caller_step, caller_items, training_items, fcds, pps_of, burst_of, pps_items, present_block}
 use Rattle.stations.specs.CallerStep.{unless_caller_ended}
@@ -18,17 +18,16 @@ use Rattle.stations.specs.declared.turn.CallerState.TheVariants.{WaitDis, WaitCf
 use Rattle.stations.specs.declared.turn.End.{End}
 use Rattle.stations.specs.declared.turn.Turn.{Turn}
 use Rattle.stations.specs.declared.turn.Turn.TheVariants as turn
-use Rattle.line_sim.specs.Entries.{unless_lost, heard, listened}
-use Rattle.line_sim.specs.Line.{World, Outcome, Done, Nothing, InputLost, Cut, sent, happens, new_world, caller_sends, answerer_sends}
-use Rattle.line_sim.specs.Line.{caller_acts, answerer_acts, delivers_to_answerer, delivers_to_caller}
-use Rattle.line_sim.specs.declared.event.Event.{Event}
+use Rattle.line_sim.specs.Line.{World, Outcome, Done, Nothing, InputLost, Cut, sent, new_world, caller_sends, answerer_sends}
+use Rattle.line_sim.specs.Line.{caller_acts, answerer_acts}
 use Rattle.line_sim.specs.declared.event.Event.TheVariants as event
 use Rattle.referee.specs.History.{PlainSaid, look, is_fcd}
 use Rattle.referee.specs.Questions.{tell, is_dcn, same_side}
 use Rattle.referee.specs.declared.question.Question.TheVariants.{HasEnded}
 use Rattle.referee.specs.declared.rule.Rule.TheVariants.{Ended}
+use Rattle.judged_calls.proofs.Events.{PartsKeep, run_keeps, Any, all_any, NoFact}
 use Rattle.judged_calls.proofs.OwnSignals.{each_append, sent_each}
-use Rattle.judged_calls.specs.SaidCalls.{and_said, caller_speaks, answerer_speaks, speaks, event_speaks, said_in, Keeps, RuleIsKept}
+use Rattle.judged_calls.specs.SaidCalls.{and_said, caller_speaks, answerer_speaks, speaks, Keeps, RuleIsKept}
 
 -- whether a station has said DCN, and whether an FCD came since says nothing of it
 abbrev pub ended_said : Side → Bool → List PlainSaid → Bool
@@ -281,83 +280,18 @@ answerer_event means w outcome input before h =
     let are = answerer_sends_are answer.turn w answer.next (sent outcome (answerer_items answer.next answer.turn)) in
     rw (are.0, are.1) (answerer_quiet means.1 w.answerer w.caller.ending outcome input before h)
 
--- an item comes to a station
-to_answerer : Means → (w : World) (outcome : Outcome) (items : List PlainItem) (before : List PlainSaid) → QuietWorld w before →
-    QuietWorld (delivers_to_answerer w outcome items) (speaks w outcome None (unless_lost outcome (listened items)) before)
-to_answerer means w Done [] before h = h
-to_answerer means w Nothing [] before h = h
-to_answerer means w InputLost [] before h = h
-to_answerer means w (Cut made) [] before h = h
-to_answerer means w Done (framed signal ∷ items) before h = answerer_event means (record w { to_answerer = items }) Done (listens signal) before h
-to_answerer means w Nothing (framed signal ∷ items) before h = answerer_event means (record w { to_answerer = items }) Nothing (listens signal) before h
-to_answerer means w InputLost (framed signal ∷ items) before h = h
-to_answerer means w (Cut made) (framed signal ∷ items) before h =
-    answerer_event means (record w { to_answerer = items }) (Cut made) (listens signal) before h
-to_answerer means w Done (checked octets ∷ items) before h = answerer_event means (record w { to_answerer = items }) Done (trains octets) before h
-to_answerer means w Nothing (checked octets ∷ items) before h = answerer_event means (record w { to_answerer = items }) Nothing (trains octets) before h
-to_answerer means w InputLost (checked octets ∷ items) before h = h
-to_answerer means w (Cut made) (checked octets ∷ items) before h =
-    answerer_event means (record w { to_answerer = items }) (Cut made) (trains octets) before h
-
-to_caller : Means → (w : World) (outcome : Outcome) (items : List PlainItem) (before : List PlainSaid) → QuietWorld w before →
-    QuietWorld (delivers_to_caller w outcome items) (speaks w outcome (unless_lost outcome (heard items)) (unless_lost outcome None) before)
-to_caller means w Done [] before h = h
-to_caller means w Nothing [] before h = h
-to_caller means w InputLost [] before h = h
-to_caller means w (Cut made) [] before h = h
-to_caller means w Done (framed signal ∷ items) before h = caller_event means (record w { to_caller = items }) Done (hears signal) before h
-to_caller means w Nothing (framed signal ∷ items) before h = caller_event means (record w { to_caller = items }) Nothing (hears signal) before h
-to_caller means w InputLost (framed signal ∷ items) before h = h
-to_caller means w (Cut made) (framed signal ∷ items) before h =
-    caller_event means (record w { to_caller = items }) (Cut made) (hears signal) before h
-to_caller means w Done (checked octets ∷ items) before h = h
-to_caller means w Nothing (checked octets ∷ items) before h = h
-to_caller means w InputLost (checked octets ∷ items) before h = h
-to_caller means w (Cut made) (checked octets ∷ items) before h = h
-
-event_quiet : Means → (w : World) (e : Event) (outcome : Outcome) (before : List PlainSaid) → QuietWorld w before →
-    QuietWorld (happens w e outcome) (event_speaks w e outcome before)
-event_quiet means w e Nothing before h = h
-event_quiet means w event.DeliverToAnswerer Done before h = to_answerer means w Done w.to_answerer before h
-event_quiet means w event.DeliverToAnswerer InputLost before h = to_answerer means w InputLost w.to_answerer before h
-event_quiet means w event.DeliverToAnswerer (Cut made) before h = to_answerer means w (Cut made) w.to_answerer before h
-event_quiet means w event.DeliverToCaller Done before h = to_caller means w Done w.to_caller before h
-event_quiet means w event.DeliverToCaller InputLost before h = to_caller means w InputLost w.to_caller before h
-event_quiet means w event.DeliverToCaller (Cut made) before h = to_caller means w (Cut made) w.to_caller before h
-event_quiet means w event.LoseToAnswerer Done before h = h
-event_quiet means w event.LoseToAnswerer InputLost before h = h
-event_quiet means w event.LoseToAnswerer (Cut made) before h = h
-event_quiet means w event.LoseToCaller Done before h = h
-event_quiet means w event.LoseToCaller InputLost before h = h
-event_quiet means w event.LoseToCaller (Cut made) before h = h
-event_quiet means w event.Spoil Done before h = h
-event_quiet means w event.Spoil InputLost before h = h
-event_quiet means w event.Spoil (Cut made) before h = h
-event_quiet means w event.CallerTimeout Done before h = caller_event means w Done timeout before h
-event_quiet means w event.CallerTimeout InputLost before h = h
-event_quiet means w event.CallerTimeout (Cut made) before h = caller_event means w (Cut made) timeout before h
-event_quiet means w event.CallerT5 Done before h = caller_event means w Done t5 before h
-event_quiet means w event.CallerT5 InputLost before h = h
-event_quiet means w event.CallerT5 (Cut made) before h = caller_event means w (Cut made) t5 before h
-event_quiet means w event.AnswererT1 Done before h = answerer_event means w Done t1 before h
-event_quiet means w event.AnswererT1 InputLost before h = h
-event_quiet means w event.AnswererT1 (Cut made) before h = answerer_event means w (Cut made) t1 before h
-event_quiet means w event.AnswererT2 Done before h = answerer_event means w Done t2 before h
-event_quiet means w event.AnswererT2 InputLost before h = h
-event_quiet means w event.AnswererT2 (Cut made) before h = answerer_event means w (Cut made) t2 before h
-event_quiet means w (event.Busy busy) Done before h = answerer_event means w Done (is_busy busy) before h
-event_quiet means w (event.Busy busy) InputLost before h = h
-event_quiet means w (event.Busy busy) (Cut made) before h = answerer_event means w (Cut made) (is_busy busy) before h
-
--- ---- a run
-
-run_quiet : Means → (steps : List (Event × Outcome)) (w : World) (before : List PlainSaid) → QuietWorld w before → Keeps Ended (said_in steps w before)
-run_quiet means [] w before h = h.keeps
-run_quiet means (step ∷ steps) w before h =
-    run_quiet means steps (happens w step.0 step.1) (event_speaks w step.0 step.1 before) (event_quiet means w step.0 step.1 before h)
+quiet_parts : Means → PartsKeep QuietWorld NoFact Any
+quiet_parts means = record {
+  caller = λ w rest outcome input before fine f after is h. caller_event means (record w { to_caller = rest }) outcome input before h;
+  answerer = λ w rest outcome input before fine f after is h. answerer_event means (record w { to_answerer = rest }) outcome input before h;
+  lost_to_caller = λ w item rest before is h. h;
+  lost_to_answerer = λ w item rest before is h. h;
+  spoil = λ w before h. h;
+}
 
 -- the law
 pub silent_after_dcn : Means → RuleIsKept Ended
 silent_after_dcn means document wish caps steps =
-    run_quiet means steps (new_world document wish caps) (record { by = AnswererSide; signal = dis caps } ∷ [])
-    (record { caller = λ none. refl; answerer = λ none. refl; keeps = (refl, tt) })
+    (run_keeps QuietWorld NoFact Any (quiet_parts means) steps (new_world document wish caps)
+    (record { by = AnswererSide; signal = dis caps } ∷ []) (all_any steps) (λ more. tt)
+    (record { caller = λ none. refl; answerer = λ none. refl; keeps = (refl, tt) })).keeps

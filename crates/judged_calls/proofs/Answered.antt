@@ -1,5 +1,5 @@
 -- CFR and FTT answer a DCS, and MCF, PPR and RNR a PPS or an RR: rules NotTrained and NoCommand.
-use Rattle.std.proofs.Common.{◌≡◌, ℕ, zero, suc, Bool, true, false, cond, ◌&&◌, ◌||◌, List, [], ◌∷◌, ◌++◌, take, refl, sym, ap, subst, ◌⊎◌, inl, inr}
+use Rattle.std.proofs.Common.{◌≡◌, ℕ, zero, suc, Bool, true, false, cond, ◌&&◌, ◌||◌, List, [], ◌∷◌, ◌++◌, take, refl, sym, ap, subst, ◌∙◌, ◌⊎◌, inl, inr}
 use Rattle.std.specs.Prelude.{Option, Some, None, not, is_some, nat_lt}
 use Rattle.signals.specs.Signals.{PlainSignal, dis, dcs, cfr, ftt, fcd, rcp, pps, ppr, mcf, rnr, rr, dcn, other}
 use Rattle.signals.specs.Agreement.{allowed}
@@ -31,10 +31,9 @@ use Rattle.stations.specs.declared.turn.End.{End}
 use Rattle.stations.specs.declared.turn.Turn.{Turn}
 use Rattle.stations.specs.declared.turn.Turn.TheVariants as turn
 use Rattle.line_sim.proofs.Lists.{either}
-use Rattle.line_sim.specs.Entries.{unless_lost, heard, listened}
 use Rattle.line_sim.specs.Headline.{LineHolds}
-use Rattle.line_sim.specs.Line.{World, Outcome, Done, Nothing, InputLost, Cut, sent, happens, new_world, caller_sends, answerer_sends, run}
-use Rattle.line_sim.specs.Line.{caller_acts, answerer_acts, delivers_to_answerer, delivers_to_caller, spoiled, after_first}
+use Rattle.line_sim.specs.Line.{World, Outcome, Done, Nothing, InputLost, Cut, sent, new_world, caller_sends, answerer_sends}
+use Rattle.line_sim.specs.Line.{caller_acts, answerer_acts, spoiled}
 use Rattle.line_sim.specs.LineFacts.{LineFacts, MayReachAnswerer}
 use Rattle.line_sim.specs.declared.event.Event.{Event}
 use Rattle.line_sim.specs.declared.event.Event.TheVariants as event
@@ -45,9 +44,10 @@ use Rattle.referee.specs.declared.question.Question.{Question}
 use Rattle.referee.specs.declared.question.Question.TheVariants.{IsAsked, IsTraining}
 use Rattle.referee.specs.declared.rule.Rule.TheVariants.{NotTrained, NoCommand}
 use Rattle.judged_calls.proofs.PprsAsk.{OfCaller, caller_is}
+use Rattle.judged_calls.proofs.Events.{ToCaller, KnownToAnswerer, answerer_takes, each_rest, PartsKeep, run_keeps, Any, all_any}
 use Rattle.judged_calls.proofs.OwnSignals.{each_append, sent_each}
 use Rattle.judged_calls.proofs.AfterDcn.{sent_none}
-use Rattle.judged_calls.specs.SaidCalls.{and_said, caller_speaks, answerer_speaks, speaks, event_speaks, said_in, call_said, Keeps, RuleIsKeptOfPages}
+use Rattle.judged_calls.specs.SaidCalls.{and_said, caller_speaks, answerer_speaks, call_said, Keeps, RuleIsKeptOfPages}
 
 -- ---- a question that stays answered
 
@@ -509,7 +509,7 @@ answerer_answered w outcome input before given h =
 
 -- ---- one event
 
-pub given_item : (signal : PlainSignal) (before : List PlainSaid) → Commanded before (framed signal) → Given (listens signal) before
+given_item : (signal : PlainSignal) (before : List PlainSaid) → Commanded before (framed signal) → Given (listens signal) before
 given_item (dis caps) before h = tt
 given_item (dcs params) before h = tt
 given_item cfr before h = tt
@@ -524,101 +524,51 @@ given_item rr before h = h
 given_item dcn before h = tt
 given_item (other octet) before h = tt
 
-to_answerer : (w : World) (outcome : Outcome) (items : List PlainItem) (before : List PlainSaid) → Each (Commanded before) items → Both before →
-    Answered w before → Answered (delivers_to_answerer w outcome items) (speaks w outcome None (unless_lost outcome (listened items)) before)
-to_answerer w Done [] before commanded both h = h
-to_answerer w Nothing [] before commanded both h = h
-to_answerer w InputLost [] before commanded both h = h
-to_answerer w (Cut made) [] before commanded both h = h
-to_answerer w Done (framed signal ∷ items) before commanded both h =
-    answerer_answered (record w { to_answerer = items }) Done (listens signal) before (given_item signal before commanded.0)
-    (record { commanded = commanded.1; both = both })
-to_answerer w Done (checked octets ∷ items) before commanded both h =
-    answerer_answered (record w { to_answerer = items }) Done (trains octets) before commanded.0
-    (record { commanded = commanded.1; both = both })
-to_answerer w Nothing (framed signal ∷ items) before commanded both h =
-    answerer_answered (record w { to_answerer = items }) Nothing (listens signal) before (given_item signal before commanded.0)
-    (record { commanded = commanded.1; both = both })
-to_answerer w Nothing (checked octets ∷ items) before commanded both h =
-    answerer_answered (record w { to_answerer = items }) Nothing (trains octets) before commanded.0
-    (record { commanded = commanded.1; both = both })
-to_answerer w InputLost (item ∷ items) before commanded both h = record { commanded = commanded.1; both = both }
-to_answerer w (Cut made) (framed signal ∷ items) before commanded both h =
-    answerer_answered (record w { to_answerer = items }) (Cut made) (listens signal) before (given_item signal before commanded.0)
-    (record { commanded = commanded.1; both = both })
-to_answerer w (Cut made) (checked octets ∷ items) before commanded both h =
-    answerer_answered (record w { to_answerer = items }) (Cut made) (trains octets) before commanded.0
-    (record { commanded = commanded.1; both = both })
+pub given_input : (input : AnswererInput) (before : List PlainSaid) → KnownToAnswerer (Commanded before) input → Given input before
+given_input (listens signal) before h = given_item signal before h
+given_input (trains octets) before h = h
+given_input t1 before h = tt
+given_input t2 before h = tt
+given_input (is_busy busy) before h = tt
 
--- what is under way to the caller comes while nothing is under way to the answerer
-to_caller : (w : World) (outcome : Outcome) (items : List PlainItem) (before : List PlainSaid) → (w.to_answerer ≡ []) ⊎ (items ≡ []) →
-    Answered w before →
-    Answered (delivers_to_caller w outcome items) (speaks w outcome (unless_lost outcome (heard items)) (unless_lost outcome None) before)
-to_caller w Done [] before way h = h
-to_caller w Nothing [] before way h = h
-to_caller w InputLost [] before way h = h
-to_caller w (Cut made) [] before way h = h
-to_caller w outcome (item ∷ items) before (inr none) h = absurd (no_more none)
-to_caller w Done (framed signal ∷ items) before (inl none) h = hears_answered (record w { to_caller = items }) Done (hears signal) before none h.both
-to_caller w Done (checked octets ∷ items) before (inl none) h = record { commanded = h.commanded; both = h.both }
-to_caller w Nothing (framed signal ∷ items) before (inl none) h = hears_answered (record w { to_caller = items }) Nothing (hears signal) before none h.both
-to_caller w Nothing (checked octets ∷ items) before (inl none) h = record { commanded = h.commanded; both = h.both }
-to_caller w InputLost (framed signal ∷ items) before (inl none) h = record { commanded = h.commanded; both = h.both }
-to_caller w InputLost (checked octets ∷ items) before (inl none) h = record { commanded = h.commanded; both = h.both }
-to_caller w (Cut made) (framed signal ∷ items) before (inl none) h = hears_answered (record w { to_caller = items }) (Cut made) (hears signal) before none h.both
-to_caller w (Cut made) (checked octets ∷ items) before (inl none) h = record { commanded = h.commanded; both = h.both }
-
-rest_commanded : (before : List PlainSaid) (items : List PlainItem) → Each (Commanded before) items → Each (Commanded before) (after_first items)
-rest_commanded before [] h = tt
-rest_commanded before (item ∷ items) h = h.1
+-- a frame comes to the caller while nothing is under way to the answerer
+caller_part : (w : World) (rest : List PlainItem) (outcome : Outcome) (input : CallerInput) (before : List PlainSaid) → LineFacts w →
+    ToCaller input w.to_caller rest → Answered w before →
+    Answered (caller_acts (record w { to_caller = rest }) outcome input) (caller_speaks w.caller outcome input before)
+caller_part w rest outcome (hears signal) before f is h =
+    hears_answered (record w { to_caller = rest }) outcome (hears signal) before (none f.one_way) h.both
+  where
+    none : (w.to_answerer ≡ []) ⊎ (w.to_caller ≡ []) → w.to_answerer ≡ []
+    none (inl empty) = empty
+    none (inr empty) = absurd (no_more (sym is ∙ empty))
+caller_part w rest outcome timeout before f is h =
+    subst (λ items. Answered (caller_acts (record w { to_caller = items }) outcome timeout) (caller_speaks w.caller outcome timeout before)) is
+    (timer_answered w f outcome timeout before tt h)
+caller_part w rest outcome t5 before f is h =
+    subst (λ items. Answered (caller_acts (record w { to_caller = items }) outcome t5) (caller_speaks w.caller outcome t5 before)) is
+    (timer_answered w f outcome t5 before tt h)
 
 spoiled_commanded : (before : List PlainSaid) (items : List PlainItem) → Each (Commanded before) items → Each (Commanded before) (spoiled items)
 spoiled_commanded before [] h = tt
 spoiled_commanded before (framed signal ∷ items) h = h
 spoiled_commanded before (checked octets ∷ items) h = h
 
-pub event_answered : (w : World) → LineFacts w → (e : Event) (outcome : Outcome) (before : List PlainSaid) → Answered w before →
-    Answered (happens w e outcome) (event_speaks w e outcome before)
-event_answered w f e Nothing before h = h
-event_answered w f event.DeliverToAnswerer Done before h = to_answerer w Done w.to_answerer before h.commanded h.both h
-event_answered w f event.DeliverToCaller Done before h = to_caller w Done w.to_caller before f.one_way h
-event_answered w f event.LoseToAnswerer Done before h = record { commanded = rest_commanded before w.to_answerer h.commanded; both = h.both }
-event_answered w f event.LoseToCaller Done before h = record { commanded = h.commanded; both = h.both }
-event_answered w f event.Spoil Done before h = record { commanded = spoiled_commanded before w.to_answerer h.commanded; both = h.both }
-event_answered w f event.CallerTimeout Done before h = timer_answered w f Done timeout before tt h
-event_answered w f event.CallerT5 Done before h = timer_answered w f Done t5 before tt h
-event_answered w f event.AnswererT1 Done before h = answerer_answered w Done t1 before tt h
-event_answered w f event.AnswererT2 Done before h = answerer_answered w Done t2 before tt h
-event_answered w f (event.Busy busy) Done before h = answerer_answered w Done (is_busy busy) before tt h
-event_answered w f event.DeliverToAnswerer InputLost before h = to_answerer w InputLost w.to_answerer before h.commanded h.both h
-event_answered w f event.DeliverToCaller InputLost before h = to_caller w InputLost w.to_caller before f.one_way h
-event_answered w f event.LoseToAnswerer InputLost before h = record { commanded = rest_commanded before w.to_answerer h.commanded; both = h.both }
-event_answered w f event.LoseToCaller InputLost before h = record { commanded = h.commanded; both = h.both }
-event_answered w f event.Spoil InputLost before h = record { commanded = spoiled_commanded before w.to_answerer h.commanded; both = h.both }
-event_answered w f event.CallerTimeout InputLost before h = h
-event_answered w f event.CallerT5 InputLost before h = h
-event_answered w f event.AnswererT1 InputLost before h = h
-event_answered w f event.AnswererT2 InputLost before h = h
-event_answered w f (event.Busy busy) InputLost before h = h
-event_answered w f event.DeliverToAnswerer (Cut made) before h = to_answerer w (Cut made) w.to_answerer before h.commanded h.both h
-event_answered w f event.DeliverToCaller (Cut made) before h = to_caller w (Cut made) w.to_caller before f.one_way h
-event_answered w f event.LoseToAnswerer (Cut made) before h = record { commanded = rest_commanded before w.to_answerer h.commanded; both = h.both }
-event_answered w f event.LoseToCaller (Cut made) before h = record { commanded = h.commanded; both = h.both }
-event_answered w f event.Spoil (Cut made) before h = record { commanded = spoiled_commanded before w.to_answerer h.commanded; both = h.both }
-event_answered w f event.CallerTimeout (Cut made) before h = timer_answered w f (Cut made) timeout before tt h
-event_answered w f event.CallerT5 (Cut made) before h = timer_answered w f (Cut made) t5 before tt h
-event_answered w f event.AnswererT1 (Cut made) before h = answerer_answered w (Cut made) t1 before tt h
-event_answered w f event.AnswererT2 (Cut made) before h = answerer_answered w (Cut made) t2 before tt h
-event_answered w f (event.Busy busy) (Cut made) before h = answerer_answered w (Cut made) (is_busy busy) before tt h
+pub answered_parts : PartsKeep Answered LineFacts Any
+answered_parts = record {
+  caller = λ w rest outcome input before fine f after is h. caller_part w rest outcome input before f is h;
+  answerer = λ w rest outcome input before fine f after is h.
+      let taken = answerer_takes (Commanded before) input w.to_answerer rest is h.commanded in
+      answerer_answered (record w { to_answerer = rest }) outcome input before (given_input input before taken.0)
+      (record { commanded = taken.1; both = h.both });
+  lost_to_caller = λ w item rest before is h. record { commanded = h.commanded; both = h.both };
+  lost_to_answerer = λ w item rest before is h.
+      record { commanded = each_rest (Commanded before) item w.to_answerer rest is h.commanded; both = h.both };
+  spoil = λ w before h. record { commanded = spoiled_commanded before w.to_answerer h.commanded; both = h.both };
+}
 
--- ---- a run
-
-run_answered : (steps : List (Event × Outcome)) (w : World) (before : List PlainSaid) → ((more : List (Event × Outcome)) → LineFacts (run more w)) →
-    Answered w before → Both (said_in steps w before)
-run_answered [] w before facts h = h.both
-run_answered (step ∷ steps) w before facts h =
-    run_answered steps (happens w step.0 step.1) (event_speaks w step.0 step.1 before) (λ more. facts (step ∷ more))
-    (event_answered w (facts []) step.0 step.1 before h)
+pub answered_first : (document : Document) (wish : Wish) (caps : Caps) →
+    Answered (new_world document wish caps) (record { by = AnswererSide; signal = dis caps } ∷ [])
+answered_first document wish caps = record { commanded = tt; both = ((refl, tt), (refl, tt)) }
 
 -- the laws
 pub answers_commands : LineHolds → RuleIsKeptOfPages NotTrained × RuleIsKeptOfPages NoCommand
@@ -628,5 +578,6 @@ answers_commands holds_facts =
     answered : (document : Document) (wish : Wish) (caps : Caps) (steps : List (Event × Outcome)) → Each IsFullPage document →
         Both (call_said document wish caps steps)
     answered document wish caps steps full =
-        run_answered steps (new_world document wish caps) (record { by = AnswererSide; signal = dis caps } ∷ [])
-        (λ more. holds_facts document wish caps more full) (record { commanded = tt; both = ((refl, tt), (refl, tt)) })
+        (run_keeps Answered LineFacts Any answered_parts steps (new_world document wish caps)
+        (record { by = AnswererSide; signal = dis caps } ∷ []) (all_any steps) (λ more. holds_facts document wish caps more full)
+        (answered_first document wish caps)).both

@@ -22,8 +22,8 @@ use Rattle.referee.specs.History.{PlainSaid, look}
 use Rattle.referee.specs.Questions.{tell}
 use Rattle.referee.specs.declared.question.Question.TheVariants.{Unasked}
 use Rattle.referee.specs.declared.rule.Rule.TheVariants.{NotAskedFor}
-use Rattle.judged_calls.proofs.Events.{PartsKeep, Any, all_any, run_keeps}
-use Rattle.judged_calls.proofs.Latest.{says, Latest, LetsBurst, BurstFits, Heard, step_bursts, latest_answered, latest_called, latest_taken}
+use Rattle.judged_calls.proofs.Events.{PartsKeep, Any, all_any, run_keeps, caller_takes}
+use Rattle.judged_calls.proofs.Latest.{says, Latest, LetsBurst, BurstFits, Heard, step_bursts, latest_answered, latest_called}
 use Rattle.judged_calls.proofs.OwnSignals.{each_append, sent_each}
 use Rattle.judged_calls.proofs.PprsAsk.{OfCaller}
 use Rattle.judged_calls.specs.SaidCalls.{and_said, Keeps, RuleIsKeptOfPages}
@@ -157,7 +157,7 @@ parts_keep : PartsKeep Asked LineFacts Any
 parts_keep = record {
   caller = λ w rest outcome input before fine f after is h.
       let answer = caller_step w.caller input in
-      let taken = latest_taken input w.to_caller rest before is h.latest in
+      let taken = caller_takes (Latest before) input w.to_caller rest is h.latest in
       record {
         latest = latest_called answer.turn (record w { to_caller = rest }) answer.next outcome before taken.1;
         keeps = turn_keeps answer.turn answer.next input outcome before (step_bursts w.caller input) taken.0 h.keeps;

@@ -1,5 +1,5 @@
 -- The caller asks by RR only whether an answerer is ready that has said RNR: rule NotBusy.
-use Rattle.std.proofs.Common.{◌≡◌, ℕ, zero, suc, Bool, true, false, cond, List, [], ◌∷◌, ◌++◌, refl, ap, subst, ◌⊎◌, inl, inr}
+use Rattle.std.proofs.Common.{◌≡◌, ℕ, zero, suc, Bool, true, false, cond, List, [], ◌∷◌, ◌++◌, refl, sym, ap, subst, ◌∙◌, ◌⊎◌, inl, inr}
 use Rattle.std.specs.Prelude.{Option, Some, None, not, nat_lt}
 use Rattle.signals.specs.Signals.{PlainSignal, dis, dcs, cfr, ftt, fcd, rcp, pps, ppr, mcf, rnr, rr, dcn, other}
 use Rattle.signals.specs.declared.params.Caps.{Caps}
@@ -22,12 +22,11 @@ use Rattle.stations.specs.declared.turn.End.TheVariants.{PeerLeft}
 use Rattle.stations.specs.declared.turn.Turn.{Turn}
 use Rattle.stations.specs.declared.turn.Turn.TheVariants as turn
 use Rattle.line_sim.proofs.Lists.{either}
-use Rattle.line_sim.specs.Entries.{unless_lost, heard, listened}
+use Rattle.line_sim.specs.Entries.{heard}
 use Rattle.line_sim.specs.Headline.{LineHolds}
-use Rattle.line_sim.specs.Line.{World, Outcome, Done, Nothing, InputLost, Cut, sent, happens, new_world, caller_sends, answerer_sends, run}
-use Rattle.line_sim.specs.Line.{caller_acts, answerer_acts, delivers_to_answerer, delivers_to_caller, after_first}
+use Rattle.line_sim.specs.Line.{World, Outcome, Done, Nothing, InputLost, Cut, sent, new_world, caller_sends, answerer_sends}
+use Rattle.line_sim.specs.Line.{caller_acts, answerer_acts}
 use Rattle.line_sim.specs.LineFacts.{LineFacts, MayReachAnswerer}
-use Rattle.line_sim.specs.declared.event.Event.{Event}
 use Rattle.line_sim.specs.declared.event.Event.TheVariants as event
 use Rattle.referee.specs.History.{PlainSaid}
 use Rattle.referee.specs.Rules.{is_not_busy}
@@ -37,7 +36,8 @@ use Rattle.judged_calls.proofs.Answered.{Yes, TellsYes, yes_later, no_more}
 use Rattle.judged_calls.proofs.PprsAsk.{PprFits, IsCheck, step_fits}
 use Rattle.judged_calls.proofs.OwnSignals.{each_append, sent_each}
 use Rattle.judged_calls.proofs.AfterDcn.{sent_none}
-use Rattle.judged_calls.specs.SaidCalls.{and_said, caller_speaks, answerer_speaks, speaks, event_speaks, said_in, Keeps, RuleIsKeptOfPages}
+use Rattle.judged_calls.proofs.Events.{ToAnswerer, KnownToCaller, caller_takes, each_rest, PartsKeep, run_keeps, Any, all_any}
+use Rattle.judged_calls.specs.SaidCalls.{and_said, caller_speaks, answerer_speaks, Keeps, RuleIsKeptOfPages}
 
 -- ---- what a caller's step makes of RNR
 
@@ -468,36 +468,6 @@ answerer_busied w outcome input before check h =
 
 -- ---- one event
 
--- no frame is a training check
-to_answerer : (w : World) (accepted : ℕ) (outcome : Outcome) (items : List PlainItem) (before : List PlainSaid) →
-    Each (MayReachAnswerer w.caller accepted) items → (items ≡ []) ⊎ (w.to_caller ≡ []) → Busied w before →
-    Busied (delivers_to_answerer w outcome items) (speaks w outcome None (unless_lost outcome (listened items)) before)
-to_answerer w accepted Done [] before may way h = h
-to_answerer w accepted Nothing [] before may way h = h
-to_answerer w accepted InputLost [] before may way h = h
-to_answerer w accepted (Cut made) [] before may way h = h
-to_answerer w accepted outcome (item ∷ items) before may (inl none) h = absurd (no_more none)
-to_answerer w accepted Done (framed signal ∷ items) before may (inr way) h =
-    answerer_busied (record w { to_answerer = items }) Done (listens signal) before (λ is. absurd is)
-    (record { says = h.says; waits = h.waits; keeps = h.keeps })
-to_answerer w accepted Done (checked octets ∷ items) before may (inr way) h =
-    answerer_busied (record w { to_answerer = items }) Done (trains octets) before (λ is. (may.0, way))
-    (record { says = h.says; waits = h.waits; keeps = h.keeps })
-to_answerer w accepted Nothing (framed signal ∷ items) before may (inr way) h =
-    answerer_busied (record w { to_answerer = items }) Nothing (listens signal) before (λ is. absurd is)
-    (record { says = h.says; waits = h.waits; keeps = h.keeps })
-to_answerer w accepted Nothing (checked octets ∷ items) before may (inr way) h =
-    answerer_busied (record w { to_answerer = items }) Nothing (trains octets) before (λ is. (may.0, way))
-    (record { says = h.says; waits = h.waits; keeps = h.keeps })
-to_answerer w accepted InputLost (framed signal ∷ items) before may (inr way) h = record { says = h.says; waits = h.waits; keeps = h.keeps }
-to_answerer w accepted InputLost (checked octets ∷ items) before may (inr way) h = record { says = h.says; waits = h.waits; keeps = h.keeps }
-to_answerer w accepted (Cut made) (framed signal ∷ items) before may (inr way) h =
-    answerer_busied (record w { to_answerer = items }) (Cut made) (listens signal) before (λ is. absurd is)
-    (record { says = h.says; waits = h.waits; keeps = h.keeps })
-to_answerer w accepted (Cut made) (checked octets ∷ items) before may (inr way) h =
-    answerer_busied (record w { to_answerer = items }) (Cut made) (trains octets) before (λ is. (may.0, way))
-    (record { says = h.says; waits = h.waits; keeps = h.keeps })
-
 given_rnr : (signal : PlainSignal) (before : List PlainSaid) → Says before (framed signal) → GivenBusy (hears signal) before
 given_rnr (dis caps) before h = tt
 given_rnr (dcs params) before h = tt
@@ -513,73 +483,43 @@ given_rnr rr before h = tt
 given_rnr dcn before h = tt
 given_rnr (other octet) before h = tt
 
-to_caller : (w : World) (outcome : Outcome) (items : List PlainItem) (before : List PlainSaid) → Each (Says before) items → Busied w before →
-    Busied (delivers_to_caller w outcome items) (speaks w outcome (unless_lost outcome (heard items)) (unless_lost outcome None) before)
-to_caller w Done [] before says h = h
-to_caller w Nothing [] before says h = h
-to_caller w InputLost [] before says h = h
-to_caller w (Cut made) [] before says h = h
-to_caller w Done (framed signal ∷ items) before says h =
-    caller_busied (record w { to_caller = items }) Done (hears signal) before (given_rnr signal before says.0) (record { says = says.1; waits = h.waits; keeps = h.keeps })
-to_caller w Done (checked octets ∷ items) before says h = record { says = says.1; waits = h.waits; keeps = h.keeps }
-to_caller w Nothing (framed signal ∷ items) before says h =
-    caller_busied (record w { to_caller = items }) Nothing (hears signal) before (given_rnr signal before says.0) (record { says = says.1; waits = h.waits; keeps = h.keeps })
-to_caller w Nothing (checked octets ∷ items) before says h = record { says = says.1; waits = h.waits; keeps = h.keeps }
-to_caller w InputLost (framed signal ∷ items) before says h = record { says = says.1; waits = h.waits; keeps = h.keeps }
-to_caller w InputLost (checked octets ∷ items) before says h = record { says = says.1; waits = h.waits; keeps = h.keeps }
-to_caller w (Cut made) (framed signal ∷ items) before says h =
-    caller_busied (record w { to_caller = items }) (Cut made) (hears signal) before (given_rnr signal before says.0) (record { says = says.1; waits = h.waits; keeps = h.keeps })
-to_caller w (Cut made) (checked octets ∷ items) before says h = record { says = says.1; waits = h.waits; keeps = h.keeps }
+given_heard : (input : CallerInput) (before : List PlainSaid) → KnownToCaller (Says before) input → GivenBusy input before
+given_heard (hears signal) before h = given_rnr signal before h
+given_heard timeout before h = tt
+given_heard t5 before h = tt
 
-rest_says : (before : List PlainSaid) (items : List PlainItem) → Each (Says before) items → Each (Says before) (after_first items)
-rest_says before [] h = tt
-rest_says before (item ∷ items) h = h.1
+-- a check comes while the caller waits for CFR, and nothing is under way to the caller
+given_check : (w : World) (f : LineFacts w) (input : AnswererInput) (rest : List PlainItem) → ToAnswerer input w.to_answerer rest → IsCheck input →
+    (w.caller.state ≡ WaitCfr) × (w.to_caller ≡ [])
+given_check w f (listens signal) rest is check = absurd check
+given_check w f (trains octets) rest is check =
+    ((subst (Each (MayReachAnswerer w.caller f.accepted)) is f.to_answerer).0, none f.one_way)
+  where
+    none : (w.to_answerer ≡ []) ⊎ (w.to_caller ≡ []) → w.to_caller ≡ []
+    none (inl empty) = absurd (no_more (sym is ∙ empty))
+    none (inr empty) = empty
+given_check w f t1 rest is check = absurd check
+given_check w f t2 rest is check = absurd check
+given_check w f (is_busy busy) rest is check = absurd check
 
-event_busied : (w : World) → LineFacts w → (e : Event) (outcome : Outcome) (before : List PlainSaid) → Busied w before →
-    Busied (happens w e outcome) (event_speaks w e outcome before)
-event_busied w f e Nothing before h = h
-event_busied w f event.DeliverToAnswerer Done before h = to_answerer w f.accepted Done w.to_answerer before f.to_answerer f.one_way h
-event_busied w f event.DeliverToCaller Done before h = to_caller w Done w.to_caller before h.says h
-event_busied w f event.LoseToAnswerer Done before h = record { says = h.says; waits = h.waits; keeps = h.keeps }
-event_busied w f event.LoseToCaller Done before h = record { says = rest_says before w.to_caller h.says; waits = h.waits; keeps = h.keeps }
-event_busied w f event.Spoil Done before h = record { says = h.says; waits = h.waits; keeps = h.keeps }
-event_busied w f event.CallerTimeout Done before h = caller_busied w Done timeout before tt h
-event_busied w f event.CallerT5 Done before h = caller_busied w Done t5 before tt h
-event_busied w f event.AnswererT1 Done before h = answerer_busied w Done t1 before (λ is. absurd is) h
-event_busied w f event.AnswererT2 Done before h = answerer_busied w Done t2 before (λ is. absurd is) h
-event_busied w f (event.Busy busy) Done before h = answerer_busied w Done (is_busy busy) before (λ is. absurd is) h
-event_busied w f event.DeliverToAnswerer InputLost before h = to_answerer w f.accepted InputLost w.to_answerer before f.to_answerer f.one_way h
-event_busied w f event.DeliverToCaller InputLost before h = to_caller w InputLost w.to_caller before h.says h
-event_busied w f event.LoseToAnswerer InputLost before h = record { says = h.says; waits = h.waits; keeps = h.keeps }
-event_busied w f event.LoseToCaller InputLost before h = record { says = rest_says before w.to_caller h.says; waits = h.waits; keeps = h.keeps }
-event_busied w f event.Spoil InputLost before h = record { says = h.says; waits = h.waits; keeps = h.keeps }
-event_busied w f event.CallerTimeout InputLost before h = h
-event_busied w f event.CallerT5 InputLost before h = h
-event_busied w f event.AnswererT1 InputLost before h = h
-event_busied w f event.AnswererT2 InputLost before h = h
-event_busied w f (event.Busy busy) InputLost before h = h
-event_busied w f event.DeliverToAnswerer (Cut made) before h = to_answerer w f.accepted (Cut made) w.to_answerer before f.to_answerer f.one_way h
-event_busied w f event.DeliverToCaller (Cut made) before h = to_caller w (Cut made) w.to_caller before h.says h
-event_busied w f event.LoseToAnswerer (Cut made) before h = record { says = h.says; waits = h.waits; keeps = h.keeps }
-event_busied w f event.LoseToCaller (Cut made) before h = record { says = rest_says before w.to_caller h.says; waits = h.waits; keeps = h.keeps }
-event_busied w f event.Spoil (Cut made) before h = record { says = h.says; waits = h.waits; keeps = h.keeps }
-event_busied w f event.CallerTimeout (Cut made) before h = caller_busied w (Cut made) timeout before tt h
-event_busied w f event.CallerT5 (Cut made) before h = caller_busied w (Cut made) t5 before tt h
-event_busied w f event.AnswererT1 (Cut made) before h = answerer_busied w (Cut made) t1 before (λ is. absurd is) h
-event_busied w f event.AnswererT2 (Cut made) before h = answerer_busied w (Cut made) t2 before (λ is. absurd is) h
-event_busied w f (event.Busy busy) (Cut made) before h = answerer_busied w (Cut made) (is_busy busy) before (λ is. absurd is) h
-
--- ---- a run
-
-run_busied : (steps : List (Event × Outcome)) (w : World) (before : List PlainSaid) → ((more : List (Event × Outcome)) → LineFacts (run more w)) →
-    Busied w before → Keeps NotBusy (said_in steps w before)
-run_busied [] w before facts h = h.keeps
-run_busied (step ∷ steps) w before facts h =
-    run_busied steps (happens w step.0 step.1) (event_speaks w step.0 step.1 before) (λ more. facts (step ∷ more))
-    (event_busied w (facts []) step.0 step.1 before h)
+busied_parts : PartsKeep Busied LineFacts Any
+busied_parts = record {
+  caller = λ w rest outcome input before fine f after is h.
+      let taken = caller_takes (Says before) input w.to_caller rest is h.says in
+      caller_busied (record w { to_caller = rest }) outcome input before (given_heard input before taken.0)
+      (record { says = taken.1; waits = h.waits; keeps = h.keeps });
+  answerer = λ w rest outcome input before fine f after is h.
+      answerer_busied (record w { to_answerer = rest }) outcome input before (given_check w f input rest is)
+      (record { says = h.says; waits = h.waits; keeps = h.keeps });
+  lost_to_caller = λ w item rest before is h.
+      record { says = each_rest (Says before) item w.to_caller rest is h.says; waits = h.waits; keeps = h.keeps };
+  lost_to_answerer = λ w item rest before is h. record { says = h.says; waits = h.waits; keeps = h.keeps };
+  spoil = λ w before h. record { says = h.says; waits = h.waits; keeps = h.keeps };
+}
 
 -- the law
 pub asks_the_busy : LineHolds → RuleIsKeptOfPages NotBusy
 asks_the_busy holds_facts document wish caps steps full =
-    run_busied steps (new_world document wish caps) (record { by = AnswererSide; signal = dis caps } ∷ [])
-    (λ more. holds_facts document wish caps more full) (record { says = (tt, tt); waits = λ is. absurd (cc); keeps = (refl, tt) })
+    (run_keeps Busied LineFacts Any busied_parts steps (new_world document wish caps) (record { by = AnswererSide; signal = dis caps } ∷ [])
+    (all_any steps) (λ more. holds_facts document wish caps more full)
+    (record { says = (tt, tt); waits = λ is. absurd (cc); keeps = (refl, tt) })).keeps

@@ -12,7 +12,7 @@ use Rattle.stations.specs.AnswererKeeping.{AnswerersKeep, MeetsDcs, MeetsFrame, 
 use Rattle.stations.specs.AnswererStep.{Answerer, AnswererAnswer, answerer_step, answerer_items, answerer_table, unless_answerer_ended, is_repeated}
 use Rattle.stations.specs.Blocks.{Block, mark_of}
 use Rattle.stations.specs.CallerFields.{IsSending}
-use Rattle.stations.specs.CallerStep.{Caller, CallerAnswer, caller_step, caller_items, fcds, all_frames, pps_of, burst_of, blocks_of}
+use Rattle.stations.specs.CallerStep.{CallerAnswer, caller_step, caller_items, fcds, all_frames, pps_of, burst_of, blocks_of}
 use Rattle.stations.specs.Inputs.{CallerInput, AnswererInput, PlainItem, framed, checked, listens}
 use Rattle.stations.specs.Laws.{Each}
 use Rattle.stations.specs.declared.mark.Accepted.{Accepted}
@@ -24,7 +24,7 @@ use Rattle.stations.specs.declared.turn.Turn.TheVariants as turn
 use Rattle.line_sim.proofs.Bursts.{every_frame}
 use Rattle.line_sim.proofs.Lists.{either}
 use Rattle.line_sim.specs.Headline.{LineHolds}
-use Rattle.line_sim.specs.Line.{World, Outcome, Done, new_world, caller_sends, answerer_sends, caller_acts, answerer_acts}
+use Rattle.line_sim.specs.Line.{World, Done, new_world, caller_sends, answerer_sends, caller_acts, answerer_acts}
 use Rattle.line_sim.specs.LineFacts.{LineFacts, MayReachAnswerer, MayReachCaller, SaysBlock}
 use Rattle.referee.proofs.Numbers.{nowhere}
 use Rattle.referee.specs.Frames.{asked, holds, is_within}
@@ -36,14 +36,15 @@ use Rattle.referee.specs.declared.question.Question.TheVariants.{SurelyHas, Belo
 use Rattle.referee.specs.declared.rule.Rule.TheVariants.{AsksAgain}
 use Rattle.judged_calls.proofs.AfterDcn.{caller_sends_are}
 use Rattle.judged_calls.proofs.BlockSaid.{block_sizes, opens_by, same_place, back, taken_is, mcf_later, no_check}
-use Rattle.judged_calls.proofs.BlockSteps.{SameBlock, Steps, step_steps}
+use Rattle.judged_calls.proofs.BlockSteps.{SameBlock, Steps, step_steps, block_at}
 use Rattle.judged_calls.proofs.BlockSaid.{next_facts}
 use Rattle.judged_calls.proofs.BlocksWhole.{Whole, Ends, whole_parts, whole_first, not_accepted}
-use Rattle.judged_calls.proofs.Events.{ToCaller, ToAnswerer, PartsKeep, run_keeps}
-use Rattle.judged_calls.proofs.FramesCome.{or_true, and_false, last_of}
-use Rattle.judged_calls.proofs.Latest.{says, Latest, Opens, latest_answered, latest_called, latest_taken}
+use Rattle.judged_calls.proofs.Events.{ToCaller, ToAnswerer, PartsKeep, run_keeps, caller_takes, AllDone}
+use Rattle.judged_calls.proofs.FramesCome.{last_of}
+use Rattle.judged_calls.proofs.Latest.{says, Latest, Opens, latest_answered, latest_called}
 use Rattle.judged_calls.proofs.Offers.{answerer_sends_are}
 use Rattle.judged_calls.proofs.PprsAsk.{OfCaller, caller_is, PprBy, PprFits, step_fits, counted_last, few_frames}
+use Rattle.judged_calls.proofs.Bools.{or_none, or_true, and_false}
 use Rattle.judged_calls.specs.SaidCalls.{and_said, caller_speaks, answerer_speaks, Keeps, RuleIsKeptWithMemory}
 
 -- ---- what was told as come
@@ -67,10 +68,6 @@ passes_one n begun (pps ends page block last) before own = refl
 passes_one n begun rr before own = refl
 passes_one n begun dcn before own = refl
 passes_one n begun signal before own = absurd own
-
-or_none : (a : Bool) → (a || false) ≡ a
-or_none true = refl
-or_none false = refl
 
 passes : (n : ℕ) (begun : Bool) (items : List PlainItem) (before : List PlainSaid) → Each OfCaller items →
     look (tell (SurelyHas n)) begun (and_said CallerSide items before) ≡ look (tell (SurelyHas n)) (begun || has_fcd items) before
@@ -179,9 +176,6 @@ abbrev pub SureAt : Option Accepted → Option Block → Frames → List PlainSa
 SureAt accepted None frames before = Unit {0}
 SureAt accepted (Some block) frames before = is_repeated accepted (mark_of block) ≡ false → Sure frames before
 
-abbrev pub block_at : Caller → Option Block
-block_at c = slice_get (blocks_of c) c.place
-
 pub record TellsAll (w : World) (before : List PlainSaid) : Type 0 where
   pub whole : Whole w before
   pub latest : Each (Latest before) w.to_caller
@@ -242,7 +236,7 @@ module _ (w : World) (f : LineFacts w) (rest : List PlainItem) (input : CallerIn
       ap (caller_items reply.next) opens.0 ∙ ap (burst_of all_frames) opens.2 in
       subst (λ xs. Now (block_at reply.next) (and_said CallerSide xs before)) (sym items)
       (first (block_at reply.next) refl (subst (Each OfCaller) items own)
-      (opens_by input before opens.1 (latest_taken input w.to_caller rest before is h.latest).0))
+      (opens_by input before opens.1 (caller_takes (Latest before) input w.to_caller rest is h.latest).0))
 
 -- ---- the answerer's step
 
@@ -371,10 +365,6 @@ module _ (keep : AnswerersKeep) (w : World) (f : LineFacts w) (rest : List Plain
   sure_then (Some block) there facts sending = λ new.
       turn_sure block there sending done.turn (step_fits w.answerer input) facts new
 
--- every outcome is that all was done
-abbrev pub AllDone : Outcome → Type 0
-AllDone outcome = outcome ≡ Done
-
 module _ (keep : AnswerersKeep) where
   caller_done : (w : World) (rest : List PlainItem) (input : CallerInput) (before : List PlainSaid) → LineFacts w →
       LineFacts (caller_acts (record w { to_caller = rest }) Done input) → ToCaller input w.to_caller rest → TellsAll w before →
@@ -386,7 +376,7 @@ module _ (keep : AnswerersKeep) where
       let are = caller_sends_are answer.turn v answer.next items in
       record {
         whole = (whole_parts keep).caller w rest Done input before tt f after is h.whole;
-        latest = latest_called answer.turn v answer.next Done before (latest_taken input w.to_caller rest before is h.latest).1;
+        latest = latest_called answer.turn v answer.next Done before (caller_takes (Latest before) input w.to_caller rest is h.latest).1;
         sure = subst (λ s. IsSending (caller_sends answer.turn v answer.next items).caller.state →
             SureAt s.accepted (block_at (caller_sends answer.turn v answer.next items).caller) s.frames (and_said CallerSide items before)) (sym are.1)
             (subst (λ c. IsSending c.state →

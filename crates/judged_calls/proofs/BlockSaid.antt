@@ -45,14 +45,15 @@ use Rattle.referee.specs.declared.question.Question.TheVariants.{Sent, OtherMark
 use Rattle.referee.specs.declared.rule.Rule.TheVariants.{Uncounted, WrongCount, NotRepeated}
 use Rattle.judged_calls.proofs.AfterDcn.{caller_sends_are}
 use Rattle.judged_calls.proofs.AskedFrames.{OfAnswerer, answerer_is}
-use Rattle.judged_calls.proofs.BlocksWhole.{not_before, lets_new, step_moves, Moves, NoBurst}
-use Rattle.judged_calls.proofs.BlockSteps.{IsOpening, NoBlockTurn, SameBlock, Steps, step_steps}
-use Rattle.judged_calls.proofs.Events.{ToCaller, ToAnswerer, PartsKeep, run_keeps}
-use Rattle.judged_calls.proofs.FramesCome.{or_true, and_false, last_of}
-use Rattle.judged_calls.proofs.Latest.{says, Latest, Opens, Heard, latest_answered, latest_called, latest_taken}
+use Rattle.judged_calls.proofs.BlocksWhole.{not_before, lets_new, step_moves, Moves}
+use Rattle.judged_calls.proofs.BlockSteps.{IsOpening, NoBlockTurn, SameBlock, Steps, step_steps, NoBurst}
+use Rattle.judged_calls.proofs.Events.{ToCaller, ToAnswerer, PartsKeep, run_keeps, caller_takes, AllDone}
+use Rattle.judged_calls.proofs.FramesCome.{last_of, same_number}
+use Rattle.judged_calls.proofs.Latest.{says, Latest, Opens, Heard, latest_answered, latest_called}
 use Rattle.judged_calls.proofs.Offers.{some_or, answerer_sends_are}
 use Rattle.judged_calls.proofs.OwnSignals.{each_append}
 use Rattle.judged_calls.proofs.PprsAsk.{OfCaller, PprFits, IsCheck, step_fits}
+use Rattle.judged_calls.proofs.Bools.{or_true, and_false}
 use Rattle.judged_calls.specs.SaidCalls.{and_said, caller_speaks, answerer_speaks, call_said, Keeps, IsWhole, RuleIsKeptWithMemory}
 
 -- ---- what was said of the present block
@@ -82,9 +83,6 @@ same_end_refl Null = refl
 same_end_refl Mps = refl
 same_end_refl Eom = refl
 same_end_refl Eop = refl
-
-same_number : (n : ℕ) → nat_eq n n ≡ true
-same_number n = eq-eqb n n refl
 
 none_or : (b c : Bool) → c ≡ false → unwrap_or (cond b (Some false) None) c ≡ false
 none_or true c h = refl
@@ -514,7 +512,7 @@ caller_done w rest input before f after is h =
     let v : World = record w { to_caller = rest } in
     let answer = caller_step w.caller input in
     let items = caller_items answer.next answer.turn in
-    let taken = latest_taken input w.to_caller rest before is h.latest in
+    let taken = caller_takes (Latest before) input w.to_caller rest is h.latest in
     let are = caller_sends_are answer.turn v answer.next items in
     let holds_then = then w f rest input before after is taken.0 h (step_steps w.caller input) in
     record {
@@ -684,11 +682,7 @@ module _ (keep : AnswerersKeep) where
       at sending (Some block) there now =
           answered keep w f rest input is block there sending before now (answerer_step w.answerer input).turn (step_fits w.answerer input) after
 
-  -- every outcome is that all was done
-  abbrev pub Whole : Outcome → Type 0
-  Whole outcome = outcome ≡ Done
-
-  parts_keep : PartsKeep BlockSaid LineFacts Whole
+  parts_keep : PartsKeep BlockSaid LineFacts AllDone
   parts_keep = record {
     caller = λ w rest outcome input before fine f after is h.
         subst (λ o. BlockSaid (caller_acts (record w { to_caller = rest }) o input) (caller_speaks w.caller o input before)) (sym fine)
@@ -705,7 +699,7 @@ module _ (keep : AnswerersKeep) where
   blocks_are_said : LineHolds → (document : Document) (wish : Wish) (caps : Caps) (steps : List (Event × Outcome)) → Each IsFullPage document →
       Each IsWhole steps → Keeps3 (call_said document wish caps steps)
   blocks_are_said holds_facts document wish caps steps full whole =
-      (run_keeps BlockSaid LineFacts Whole parts_keep steps (new_world document wish caps) (record { by = AnswererSide; signal = dis caps } ∷ [])
+      (run_keeps BlockSaid LineFacts AllDone parts_keep steps (new_world document wish caps) (record { by = AnswererSide; signal = dis caps } ∷ [])
       whole (λ more. holds_facts document wish caps more full)
       (record { latest = (tt, tt); now = λ sending. absurd sending; keeps = ((refl, tt), (refl, tt), (refl, tt)) })).keeps
 

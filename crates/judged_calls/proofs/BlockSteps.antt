@@ -32,6 +32,15 @@ IsOpening (hears cfr) = Unit {0}
 IsOpening (hears mcf) = Unit {0}
 IsOpening _ = ⊥
 
+-- the block at the caller's place
+abbrev pub block_at : Caller → Option Block
+block_at c = slice_get (blocks_of c) c.place
+
+-- a turn without a burst
+abbrev pub NoBurst : Turn → Type 0
+NoBurst (turn.Burst marks) = ⊥
+NoBurst _ = Unit {0}
+
 abbrev pub NoBlockTurn : Turn → Type 0
 NoBlockTurn (turn.Burst marks) = ⊥
 NoBlockTurn turn.Pps = ⊥

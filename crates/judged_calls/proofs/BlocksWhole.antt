@@ -44,10 +44,12 @@ use Rattle.referee.specs.declared.question.Question.TheVariants.{MayHave, Below,
 use Rattle.referee.specs.declared.rule.Rule.TheVariants.{NotWhole}
 use Rattle.judged_calls.proofs.AfterDcn.{sent_none, caller_sends_are}
 use Rattle.judged_calls.proofs.Events.{ToCaller, ToAnswerer, PartsKeep, Any, all_any, run_keeps}
-use Rattle.judged_calls.proofs.FramesCome.{Comes, Held, May, comes_parts, comes_first, last_of, and_false}
+use Rattle.judged_calls.proofs.FramesCome.{Comes, Held, May, comes_parts, comes_first, last_of}
 use Rattle.judged_calls.proofs.Offers.{some_or, answerer_sends_are}
 use Rattle.judged_calls.proofs.OwnSignals.{each_append, sent_each}
 use Rattle.judged_calls.proofs.PprsAsk.{OfCaller, caller_is, PprFits, IsCheck, step_fits, counted_last, few_frames}
+use Rattle.judged_calls.proofs.Bools.{and_false}
+use Rattle.judged_calls.proofs.BlockSteps.{NoBurst}
 use Rattle.judged_calls.specs.SaidCalls.{and_said, caller_speaks, answerer_speaks, Keeps, RuleIsKeptOfPages}
 
 -- ---- what is known of an accepted block
@@ -217,10 +219,6 @@ caller_keeps (framed signal ∷ items) before own h =
 caller_keeps (checked octets ∷ items) before own h = caller_keeps items before own.1 h
 
 -- ---- what a caller's step does to its block
-
-abbrev pub NoBurst : Turn → Type 0
-NoBurst (turn.Burst marks) = ⊥
-NoBurst _ = Unit {0}
 
 -- the same block is present, and no frame is sent
 pub record Stays (c : Caller) (answer : CallerAnswer) : Type 0 where

@@ -1,6 +1,6 @@
 -- A burst has all frames that the PPR asks for, and three RCPs end it: rules NotSentAgain and RcpCount, where no growth is refused.
 use Rattle.std.proofs.Common.{◌≡◌, ℕ, suc, ◌≤◌, ◌<◌, ◌+◌, Bool, true, false, cond, ◌&&◌, ◌||◌, List, [], ◌∷◌, ◌++◌, refl, sym, ap, subst, ◌∙◌, arith, length, inl, inr}
-use Rattle.std.specs.Prelude.{Option, Some, None, unwrap_or, not, nat_eq, nat_le, nat_lt, slice_get}
+use Rattle.std.specs.Prelude.{Option, Some, None, unwrap_or, not, nat_eq, nat_le, nat_lt}
 use Rattle.std.proofs.lemmas.Bool.{eqb-true, eqb-false, leb-true, false_from_ne_true}
 use Rattle.signals.specs.Signals.{PlainSignal, dis, dcs, cfr, ftt, fcd, rcp, pps, ppr, mcf, rnr, rr, dcn}
 use Rattle.signals.specs.declared.mark.Mark.{Mark}
@@ -13,7 +13,7 @@ use Rattle.stations.proofs.PprMaps.{bit_in_map}
 use Rattle.stations.specs.AnswererStep.{Answerer, answerer_step, answerer_items}
 use Rattle.stations.specs.Blocks.{Block, mark_of, last_frame_of}
 use Rattle.stations.specs.CallerStep.{Caller, CallerAnswer, caller_step, caller_items, caller_table, unless_caller_ended, fcds, all_frames, pps_of}
-use Rattle.stations.specs.CallerStep.{burst_of, pps_items, present_block, blocks_of, tries_again}
+use Rattle.stations.specs.CallerStep.{burst_of, pps_items, present_block, tries_again}
 use Rattle.stations.specs.Inputs.{CallerInput, AnswererInput, PlainItem, framed, timeout, t5, hears, listens}
 use Rattle.stations.specs.Laws.{Each}
 use Rattle.stations.specs.Layers.{Document, IsFullPage}
@@ -39,14 +39,14 @@ use Rattle.referee.specs.declared.rule.Rule.TheVariants.{NotSentAgain, RcpCount}
 use Rattle.judged_calls.proofs.AfterDcn.{caller_sends_are}
 use Rattle.judged_calls.proofs.AskedFrames.{OfAnswerer, answerer_is}
 use Rattle.judged_calls.proofs.BlockSaid.{block_sizes, training_all, said_append}
-use Rattle.judged_calls.proofs.BlockSteps.{IsOpening, Steps, NoBlockTurn, step_steps}
+use Rattle.judged_calls.proofs.BlockSteps.{IsOpening, Steps, NoBlockTurn, step_steps, NoBurst, block_at}
 use Rattle.judged_calls.proofs.BlockSaid.{next_facts, same_place}
-use Rattle.judged_calls.proofs.Events.{ToCaller, ToAnswerer, PartsKeep, run_keeps}
-use Rattle.judged_calls.proofs.FramesCome.{or_true, and_false}
-use Rattle.judged_calls.proofs.Latest.{says, Latest, BurstFits, LetsBurst, Heard, step_bursts, latest_answered, latest_called, latest_taken}
+use Rattle.judged_calls.proofs.Events.{ToCaller, ToAnswerer, PartsKeep, run_keeps, caller_takes, AllDone}
+use Rattle.judged_calls.proofs.Latest.{says, Latest, BurstFits, LetsBurst, Heard, step_bursts, latest_answered, latest_called}
 use Rattle.judged_calls.proofs.Offers.{answerer_sends_are}
 use Rattle.judged_calls.proofs.OwnSignals.{each_append}
 use Rattle.judged_calls.proofs.PprsAsk.{OfCaller, PprBy, PprFits, step_fits, counted_last, few_frames, missing_one}
+use Rattle.judged_calls.proofs.Bools.{or_true, and_false}
 use Rattle.judged_calls.specs.SaidCalls.{and_said, caller_speaks, answerer_speaks, call_said, Keeps, IsWhole, RuleIsKeptWithMemory}
 
 abbrev pub Keeps2 : List PlainSaid → Type 0
@@ -223,11 +223,6 @@ plain_said rr before is h = (λ begun. refl, ((refl, h.1.0), (refl, h.1.1)))
 plain_said dcn before is h = (λ begun. refl, ((refl, h.1.0), (refl, h.1.1)))
 plain_said signal before is h = absurd is
 
--- a turn without a burst
-abbrev pub NoBurst : Turn → Type 0
-NoBurst (turn.Burst marks) = ⊥
-NoBurst _ = Unit {0}
-
 pps_plain : (block : Option Block) → Each Plain (pps_items block)
 pps_plain None = tt
 pps_plain (Some block) = (tt, tt)
@@ -246,9 +241,6 @@ plain_items next t none = tt
 abbrev pub AsksSome : Option Block → PlainItem → Type 0
 AsksSome (Some block) (framed (ppr marks)) = (n : ℕ) × (n < length block.frames) × (bit_of marks n ≡ true)
 AsksSome block item = Unit {0}
-
-abbrev pub block_at : Caller → Option Block
-block_at c = slice_get (blocks_of c) c.place
 
 dis_asks : (b : Option Block) (items : List PlainItem) → Each IsDis items → Each (AsksSome b) items
 dis_asks b [] h = tt
@@ -340,7 +332,7 @@ module _ (w : World) (f : LineFacts w) (rest : List PlainItem) (input : CallerIn
   reply = caller_step w.caller input
 
   heard : Heard before input
-  heard = (latest_taken input w.to_caller rest before is h.latest).0
+  heard = (caller_takes (Latest before) input w.to_caller rest is h.latest).0
 
   abbrev Then : Turn → Type 0
   Then t = Quiet (and_said CallerSide (caller_items reply.next t) before) × Keeps2 (and_said CallerSide (caller_items reply.next t) before)
@@ -421,7 +413,7 @@ caller_done w rest input before f after is h =
     let are = caller_sends_are answer.turn v answer.next items in
     let said = then w f rest input before after is h (step_steps w.caller input) in
     record {
-      latest = latest_called answer.turn v answer.next Done before (latest_taken input w.to_caller rest before is h.latest).1;
+      latest = latest_called answer.turn v answer.next Done before (caller_takes (Latest before) input w.to_caller rest is h.latest).1;
       asks = subst (λ c. Each (AsksSome (block_at c)) (caller_sends answer.turn v answer.next items).to_caller) (sym are.0)
           (asks_then w f rest input before after is h answer.turn refl);
       quiet = said.0;
@@ -515,11 +507,7 @@ answerer_done w rest input before f after is h =
       keeps = said.1;
     }
 
--- every outcome is that all was done
-abbrev pub Whole : Outcome → Type 0
-Whole outcome = outcome ≡ Done
-
-parts_keep : PartsKeep BurstSaid LineFacts Whole
+parts_keep : PartsKeep BurstSaid LineFacts AllDone
 parts_keep = record {
   caller = λ w rest outcome input before fine f after is h.
       subst (λ o. BurstSaid (caller_acts (record w { to_caller = rest }) o input) (caller_speaks w.caller o input before)) (sym fine)
@@ -547,7 +535,7 @@ bursts_are_said holds_facts = (
     all : (document : Document) (wish : Wish) (caps : Caps) (steps : List (Event × Outcome)) → Each IsFullPage document →
         Each IsWhole steps → Keeps2 (call_said document wish caps steps)
     all document wish caps steps full whole =
-        (run_keeps BurstSaid LineFacts Whole parts_keep steps (new_world document wish caps) (record { by = AnswererSide; signal = dis caps } ∷ [])
+        (run_keeps BurstSaid LineFacts AllDone parts_keep steps (new_world document wish caps) (record { by = AnswererSide; signal = dis caps } ∷ [])
         whole (λ more. holds_facts document wish caps more full) (record {
           latest = (tt, tt);
           asks = (no_ppr (block_at (new_world document wish caps).caller) (framed (dis caps)) tt, tt);

@@ -9,7 +9,7 @@ use Rattle.signals.specs.declared.signal.Side.{Side}
 use Rattle.signals.specs.declared.signal.Side.TheVariants.{Caller as CallerSide, Answerer as AnswererSide}
 use Rattle.partial_page.specs.Store.{bit_of}
 use Rattle.stations.specs.Blocks.{Block}
-use Rattle.stations.specs.Inputs.{CallerInput, AnswererInput, PlainItem, framed, checked, timeout, t5, t1, t2, is_busy, hears, listens, trains}
+use Rattle.stations.specs.Inputs.{CallerInput, AnswererInput, PlainItem, framed, checked, timeout, t5, hears}
 use Rattle.stations.specs.Laws.{Each}
 use Rattle.stations.specs.Layers.{Document, IsFullPage}
 use Rattle.stations.specs.CallerStep.{Caller, caller_step, caller_items, unless_caller_ended, training_items, fcds}
@@ -21,10 +21,10 @@ use Rattle.stations.specs.declared.turn.CallerState.TheVariants.{WaitDis, WaitCf
 use Rattle.stations.specs.declared.turn.End.{End}
 use Rattle.stations.specs.declared.turn.Turn.{Turn}
 use Rattle.stations.specs.declared.turn.Turn.TheVariants as turn
-use Rattle.line_sim.specs.Entries.{unless_lost, heard, listened}
+use Rattle.line_sim.specs.Entries.{heard}
 use Rattle.line_sim.specs.Headline.{LineHolds}
-use Rattle.line_sim.specs.Line.{World, Outcome, Done, Nothing, InputLost, Cut, sent, happens, new_world, caller_sends, answerer_sends, run}
-use Rattle.line_sim.specs.Line.{caller_acts, answerer_acts, delivers_to_answerer, delivers_to_caller, after_first}
+use Rattle.line_sim.specs.Line.{World, Outcome, Done, Nothing, InputLost, Cut, sent, new_world, caller_sends, answerer_sends}
+use Rattle.line_sim.specs.Line.{caller_acts, answerer_acts}
 use Rattle.line_sim.specs.LineFacts.{LineFacts}
 use Rattle.line_sim.specs.declared.event.Event.{Event}
 use Rattle.line_sim.specs.declared.event.Event.TheVariants as event
@@ -35,10 +35,12 @@ use Rattle.referee.specs.Frames.{asked}
 use Rattle.referee.specs.declared.question.Question.{Question}
 use Rattle.referee.specs.declared.question.Question.TheVariants.{IsAsked, IsTraining, Begins, GoesOn, NotBelow}
 use Rattle.referee.specs.declared.rule.Rule.TheVariants.{NoBurst, OutOfOrder}
-use Rattle.judged_calls.proofs.Answered.{Yes, TellsYes, yes_later, never, Answers, Answered, Commanded, Given, step_so, given_item, event_answered}
+use Rattle.judged_calls.proofs.Answered.{Yes, TellsYes, yes_later, never, Answers, Answered, Commanded, Given, step_so, given_input, answered_parts, answered_first}
 use Rattle.judged_calls.proofs.OwnSignals.{each_append, each_take, sent_each}
 use Rattle.judged_calls.proofs.AfterDcn.{sent_none}
-use Rattle.judged_calls.specs.SaidCalls.{and_said, caller_speaks, answerer_speaks, speaks, event_speaks, said_in, call_said, Keeps, RuleIsKeptOfPages}
+use Rattle.judged_calls.proofs.Events.{KnownToCaller, caller_takes, answerer_takes, each_rest, PartsKeep, run_keeps, Any, all_any}
+use Rattle.judged_calls.proofs.Bools.{and_false}
+use Rattle.judged_calls.specs.SaidCalls.{and_said, caller_speaks, answerer_speaks, call_said, Keeps, RuleIsKeptOfPages}
 
 -- ---- the caller's last frame is its command
 
@@ -165,10 +167,6 @@ pub record Next (low : ℕ) (before : List PlainSaid) : Type 0 where
 
 lets_burst : (before : List PlainSaid) → Yes Begins before ⊎ Yes GoesOn before → (not (asked GoesOn before) && not (asked Begins before)) ≡ false
 lets_burst before (inl begins) = ap (λ b. not (asked GoesOn before) && not b) (begins false) ∙ and_false (not (asked GoesOn before))
-  where
-    and_false : (a : Bool) → (a && false) ≡ false
-    and_false true = refl
-    and_false false = refl
 lets_burst before (inr goes_on) = ap (λ b. not b && not (asked Begins before)) (goes_on false)
 
 not_below : (m n : ℕ) → suc n ≤ m → nat_le m n ≡ false
@@ -392,27 +390,6 @@ answerer_bursting w outcome input before given h =
 
 -- ---- one event
 
-to_answerer : (w : World) (outcome : Outcome) (items : List PlainItem) (before : List PlainSaid) → Each (Commanded before) items → Bursting w before →
-    Bursting (delivers_to_answerer w outcome items) (speaks w outcome None (unless_lost outcome (listened items)) before)
-to_answerer w Done [] before commanded h = h
-to_answerer w Nothing [] before commanded h = h
-to_answerer w InputLost [] before commanded h = h
-to_answerer w (Cut made) [] before commanded h = h
-to_answerer w Done (framed signal ∷ items) before commanded h =
-    answerer_bursting (record w { to_answerer = items }) Done (listens signal) before (given_item signal before commanded.0) (record { begun = h.begun; both = h.both })
-to_answerer w Done (checked octets ∷ items) before commanded h =
-    answerer_bursting (record w { to_answerer = items }) Done (trains octets) before commanded.0 (record { begun = h.begun; both = h.both })
-to_answerer w Nothing (framed signal ∷ items) before commanded h =
-    answerer_bursting (record w { to_answerer = items }) Nothing (listens signal) before (given_item signal before commanded.0) (record { begun = h.begun; both = h.both })
-to_answerer w Nothing (checked octets ∷ items) before commanded h =
-    answerer_bursting (record w { to_answerer = items }) Nothing (trains octets) before commanded.0 (record { begun = h.begun; both = h.both })
-to_answerer w InputLost (framed signal ∷ items) before commanded h = record { begun = h.begun; both = h.both }
-to_answerer w InputLost (checked octets ∷ items) before commanded h = record { begun = h.begun; both = h.both }
-to_answerer w (Cut made) (framed signal ∷ items) before commanded h =
-    answerer_bursting (record w { to_answerer = items }) (Cut made) (listens signal) before (given_item signal before commanded.0) (record { begun = h.begun; both = h.both })
-to_answerer w (Cut made) (checked octets ∷ items) before commanded h =
-    answerer_bursting (record w { to_answerer = items }) (Cut made) (trains octets) before commanded.0 (record { begun = h.begun; both = h.both })
-
 given_begun : (signal : PlainSignal) (before : List PlainSaid) → Begun before (framed signal) → GivenBegun (hears signal) before
 given_begun (dis caps) before h = tt
 given_begun (dcs params) before h = tt
@@ -428,71 +405,39 @@ given_begun rr before h = tt
 given_begun dcn before h = tt
 given_begun (other octet) before h = tt
 
-to_caller : CallersTurnsMean → (w : World) (outcome : Outcome) (items : List PlainItem) (before : List PlainSaid) → Each (Begun before) items →
-    Bursting w before →
-    Bursting (delivers_to_caller w outcome items) (speaks w outcome (unless_lost outcome (heard items)) (unless_lost outcome None) before)
-to_caller means w Done [] before begun h = h
-to_caller means w Nothing [] before begun h = h
-to_caller means w InputLost [] before begun h = h
-to_caller means w (Cut made) [] before begun h = h
-to_caller means w Done (framed signal ∷ items) before begun h =
-    caller_bursting means (record w { to_caller = items }) Done (hears signal) before (given_begun signal before begun.0) (record { begun = begun.1; both = h.both })
-to_caller means w Done (checked octets ∷ items) before begun h = record { begun = begun.1; both = h.both }
-to_caller means w Nothing (framed signal ∷ items) before begun h =
-    caller_bursting means (record w { to_caller = items }) Nothing (hears signal) before (given_begun signal before begun.0) (record { begun = begun.1; both = h.both })
-to_caller means w Nothing (checked octets ∷ items) before begun h = record { begun = begun.1; both = h.both }
-to_caller means w InputLost (framed signal ∷ items) before begun h = record { begun = begun.1; both = h.both }
-to_caller means w InputLost (checked octets ∷ items) before begun h = record { begun = begun.1; both = h.both }
-to_caller means w (Cut made) (framed signal ∷ items) before begun h =
-    caller_bursting means (record w { to_caller = items }) (Cut made) (hears signal) before (given_begun signal before begun.0) (record { begun = begun.1; both = h.both })
-to_caller means w (Cut made) (checked octets ∷ items) before begun h = record { begun = begun.1; both = h.both }
+given_heard : (input : CallerInput) (before : List PlainSaid) → KnownToCaller (Begun before) input → GivenBegun input before
+given_heard (hears signal) before h = given_begun signal before h
+given_heard timeout before h = tt
+given_heard t5 before h = tt
 
-rest_begun : (before : List PlainSaid) (items : List PlainItem) → Each (Begun before) items → Each (Begun before) (after_first items)
-rest_begun before [] h = tt
-rest_begun before (item ∷ items) h = h.1
+-- what holds of a world and what was said in it, beside what `Answered` says
+abbrev pub LetSo : World → List PlainSaid → Type 0
+LetSo w before = Answered w before × Bursting w before
 
-event_bursting : CallersTurnsMean → (w : World) (e : Event) (outcome : Outcome) (before : List PlainSaid) → Each (Commanded before) w.to_answerer →
-    Bursting w before → Bursting (happens w e outcome) (event_speaks w e outcome before)
-event_bursting means w e Nothing before commanded h = h
-event_bursting means w event.DeliverToAnswerer Done before commanded h = to_answerer w Done w.to_answerer before commanded h
-event_bursting means w event.DeliverToCaller Done before commanded h = to_caller means w Done w.to_caller before h.begun h
-event_bursting means w event.LoseToAnswerer Done before commanded h = record { begun = h.begun; both = h.both }
-event_bursting means w event.LoseToCaller Done before commanded h = record { begun = rest_begun before w.to_caller h.begun; both = h.both }
-event_bursting means w event.Spoil Done before commanded h = record { begun = h.begun; both = h.both }
-event_bursting means w event.CallerTimeout Done before commanded h = caller_bursting means w Done timeout before tt h
-event_bursting means w event.CallerT5 Done before commanded h = caller_bursting means w Done t5 before tt h
-event_bursting means w event.AnswererT1 Done before commanded h = answerer_bursting w Done t1 before tt h
-event_bursting means w event.AnswererT2 Done before commanded h = answerer_bursting w Done t2 before tt h
-event_bursting means w (event.Busy busy) Done before commanded h = answerer_bursting w Done (is_busy busy) before tt h
-event_bursting means w event.DeliverToAnswerer InputLost before commanded h = to_answerer w InputLost w.to_answerer before commanded h
-event_bursting means w event.DeliverToCaller InputLost before commanded h = to_caller means w InputLost w.to_caller before h.begun h
-event_bursting means w event.LoseToAnswerer InputLost before commanded h = record { begun = h.begun; both = h.both }
-event_bursting means w event.LoseToCaller InputLost before commanded h = record { begun = rest_begun before w.to_caller h.begun; both = h.both }
-event_bursting means w event.Spoil InputLost before commanded h = record { begun = h.begun; both = h.both }
-event_bursting means w event.CallerTimeout InputLost before commanded h = h
-event_bursting means w event.CallerT5 InputLost before commanded h = h
-event_bursting means w event.AnswererT1 InputLost before commanded h = h
-event_bursting means w event.AnswererT2 InputLost before commanded h = h
-event_bursting means w (event.Busy busy) InputLost before commanded h = h
-event_bursting means w event.DeliverToAnswerer (Cut made) before commanded h = to_answerer w (Cut made) w.to_answerer before commanded h
-event_bursting means w event.DeliverToCaller (Cut made) before commanded h = to_caller means w (Cut made) w.to_caller before h.begun h
-event_bursting means w event.LoseToAnswerer (Cut made) before commanded h = record { begun = h.begun; both = h.both }
-event_bursting means w event.LoseToCaller (Cut made) before commanded h = record { begun = rest_begun before w.to_caller h.begun; both = h.both }
-event_bursting means w event.Spoil (Cut made) before commanded h = record { begun = h.begun; both = h.both }
-event_bursting means w event.CallerTimeout (Cut made) before commanded h = caller_bursting means w (Cut made) timeout before tt h
-event_bursting means w event.CallerT5 (Cut made) before commanded h = caller_bursting means w (Cut made) t5 before tt h
-event_bursting means w event.AnswererT1 (Cut made) before commanded h = answerer_bursting w (Cut made) t1 before tt h
-event_bursting means w event.AnswererT2 (Cut made) before commanded h = answerer_bursting w (Cut made) t2 before tt h
-event_bursting means w (event.Busy busy) (Cut made) before commanded h = answerer_bursting w (Cut made) (is_busy busy) before tt h
-
--- ---- a run
-
-run_bursting : CallersTurnsMean → (steps : List (Event × Outcome)) (w : World) (before : List PlainSaid) →
-    ((more : List (Event × Outcome)) → LineFacts (run more w)) → Answered w before → Bursting w before → Both (said_in steps w before)
-run_bursting means [] w before facts answered h = h.both
-run_bursting means (step ∷ steps) w before facts answered h =
-    run_bursting means steps (happens w step.0 step.1) (event_speaks w step.0 step.1 before) (λ more. facts (step ∷ more))
-    (event_answered w (facts []) step.0 step.1 before answered) (event_bursting means w step.0 step.1 before answered.commanded h)
+let_parts : CallersTurnsMean → PartsKeep LetSo LineFacts Any
+let_parts means = record {
+  caller = λ w rest outcome input before fine f after is h.
+      let taken = caller_takes (Begun before) input w.to_caller rest is h.1.begun in (
+        answered_parts.caller w rest outcome input before fine f after is h.0,
+        caller_bursting means (record w { to_caller = rest }) outcome input before (given_heard input before taken.0)
+            (record { begun = taken.1; both = h.1.both }),
+      );
+  answerer = λ w rest outcome input before fine f after is h.
+      let known = (answerer_takes (Commanded before) input w.to_answerer rest is h.0.commanded).0 in (
+        answered_parts.answerer w rest outcome input before fine f after is h.0,
+        answerer_bursting (record w { to_answerer = rest }) outcome input before (given_input input before known)
+            (record { begun = h.1.begun; both = h.1.both }),
+      );
+  lost_to_caller = λ w item rest before is h. (
+    answered_parts.lost_to_caller w item rest before is h.0,
+    record { begun = each_rest (Begun before) item w.to_caller rest is h.1.begun; both = h.1.both },
+  );
+  lost_to_answerer = λ w item rest before is h. (
+    answered_parts.lost_to_answerer w item rest before is h.0,
+    record { begun = h.1.begun; both = h.1.both },
+  );
+  spoil = λ w before h. (answered_parts.spoil w before h.0, record { begun = h.1.begun; both = h.1.both });
+}
 
 -- the laws
 pub bursts_are_let : CallersTurnsMean → LineHolds → RuleIsKeptOfPages NoBurst × RuleIsKeptOfPages OutOfOrder
@@ -502,6 +447,6 @@ bursts_are_let means holds_facts =
     let_so : (document : Document) (wish : Wish) (caps : Caps) (steps : List (Event × Outcome)) → Each IsFullPage document →
         Both (call_said document wish caps steps)
     let_so document wish caps steps full =
-        run_bursting means steps (new_world document wish caps) (record { by = AnswererSide; signal = dis caps } ∷ [])
-        (λ more. holds_facts document wish caps more full) (record { commanded = tt; both = ((refl, tt), (refl, tt)) })
-        (record { begun = (tt, tt); both = ((refl, tt), (refl, tt)) })
+        (run_keeps LetSo LineFacts Any (let_parts means) steps (new_world document wish caps)
+        (record { by = AnswererSide; signal = dis caps } ∷ []) (all_any steps) (λ more. holds_facts document wish caps more full)
+        (answered_first document wish caps, record { begun = (tt, tt); both = ((refl, tt), (refl, tt)) })).1.both

@@ -25,7 +25,7 @@ use Rattle.stations.specs.declared.turn.Turn.TheVariants as turn
 use Rattle.line_sim.proofs.Bursts.{every_frame}
 use Rattle.line_sim.proofs.Lists.{either}
 use Rattle.line_sim.specs.Headline.{LineHolds}
-use Rattle.line_sim.specs.Line.{World, Outcome, Done, new_world, caller_sends, answerer_sends, caller_acts, answerer_acts}
+use Rattle.line_sim.specs.Line.{World, Done, new_world, caller_sends, answerer_sends, caller_acts, answerer_acts}
 use Rattle.line_sim.specs.LineFacts.{LineFacts, StationFacts, Phase, finished_of}
 use Rattle.referee.specs.Frames.{asked}
 use Rattle.referee.specs.History.{PlainSaid, look, is_fcd}
@@ -38,13 +38,14 @@ use Rattle.judged_calls.proofs.AskedFrames.{OfAnswerer, answerer_is}
 use Rattle.judged_calls.proofs.AsksAgain.{has_fcd}
 use Rattle.judged_calls.proofs.BlockSaid.{block_sizes, quiet_items, QuietItem, opens_by, same_place, back, mcf_later, no_check, next_facts, burst_new}
 use Rattle.judged_calls.proofs.BlockSaid.{said_append}
-use Rattle.judged_calls.proofs.BlockSteps.{SameBlock, Steps, step_steps}
-use Rattle.judged_calls.proofs.Events.{ToCaller, ToAnswerer, PartsKeep, run_keeps}
+use Rattle.judged_calls.proofs.BlockSteps.{SameBlock, Steps, step_steps, block_at}
+use Rattle.judged_calls.proofs.Events.{ToCaller, ToAnswerer, PartsKeep, run_keeps, AllDone, caller_takes}
 use Rattle.judged_calls.proofs.GroupSteps.{IsWaiting, Waits, Begins, BlockTurn, step_groups, sends_block}
-use Rattle.judged_calls.proofs.Latest.{says, Latest, Opens, latest_answered, latest_called, latest_taken}
+use Rattle.judged_calls.proofs.Latest.{says, Latest, Opens, latest_answered, latest_called}
 use Rattle.judged_calls.proofs.Offers.{answerer_sends_are}
 use Rattle.judged_calls.proofs.OwnSignals.{each_append}
 use Rattle.judged_calls.proofs.PprsAsk.{OfCaller, PprFits, step_fits}
+use Rattle.judged_calls.proofs.Bools.{or_none}
 use Rattle.judged_calls.specs.SaidCalls.{and_said, caller_speaks, answerer_speaks, Keeps, RuleIsKeptWithMemory}
 
 -- ---- the last PPS that was said
@@ -104,10 +105,6 @@ passes_one begun rcp before own = refl
 passes_one begun rr before own = refl
 passes_one begun dcn before own = refl
 passes_one begun signal before own = absurd own
-
-or_none : (a : Bool) → (a || false) ≡ a
-or_none true = refl
-or_none false = refl
 
 or_swaps : (a b c : Bool) → ((a || b) || c) ≡ (a || (c || b))
 or_swaps true b c = refl
@@ -223,9 +220,6 @@ Told WaitDis accepted now earlier before = LastIs earlier before
 Told WaitCfr accepted now earlier before = LastIs earlier before
 Told WaitBlock accepted now earlier before = PpsOf accepted now before
 Told WaitReady accepted now earlier before = PpsOf accepted now before
-
-abbrev pub block_at : Caller → Option Block
-block_at c = slice_get (blocks_of c) c.place
 
 abbrev pub ToldOf : Caller → Option Accepted → List PlainSaid → Type 0
 ToldOf c accepted before = Told c.state accepted (block_at c) (before_at (finished_of c) c.place) before
@@ -502,7 +496,7 @@ module _ (law : NeighboursDiffer) (w : World) (f : LineFacts w) (rest : List Pla
       let items : caller_items reply.next reply.turn ≡ burst_of all_frames (block_at reply.next) =
       ap (caller_items reply.next) first.0 ∙ ap (burst_of all_frames) first.2 in
       let said = first_told (block_at reply.next) refl ((step_groups w.caller input).1 first.1 all_frames first.0)
-      (opens_by input before first.1 (latest_taken input w.to_caller rest before is h.latest).0) in
+      (opens_by input before first.1 (caller_takes (Latest before) input w.to_caller rest is h.latest).0) in
       let sending : IsSending reply.next.state = sends_block w.caller input (subst BlockTurn (sym first.0) tt) in (
         λ s. subst (λ xs. PpsOf acc (block_at reply.next) (and_said CallerSide xs before)) (sym items) said.0,
         λ waiting. absurd (both_states reply.next.state sending waiting),
@@ -519,7 +513,7 @@ caller_done law w rest input before f after is h =
     let are = caller_sends_are answer.turn v answer.next items in
     let said = then law w f rest input before after is h (step_steps w.caller input) in
     record {
-      latest = latest_called answer.turn v answer.next Done before (latest_taken input w.to_caller rest before is h.latest).1;
+      latest = latest_called answer.turn v answer.next Done before (caller_takes (Latest before) input w.to_caller rest is h.latest).1;
       told = subst (λ s. ToldOf (caller_sends answer.turn v answer.next items).caller s.accepted (and_said CallerSide items before)) (sym are.1)
           (subst (λ c. ToldOf c w.answerer.accepted (and_said CallerSide items before)) (sym are.0)
           (told_by answer.next.state w.answerer.accepted (block_at answer.next) (before_at (finished_of answer.next) answer.next.place)
@@ -629,10 +623,6 @@ module _ (keep : AnswerersKeep) (law : NeighboursDiffer) where
             (answerer_is (answerer_step w.answerer input).next (answerer_step w.answerer input).turn) (old.0, h.keeps)).0,
         answered keep w f rest input is m there s before old.1 (answerer_step w.answerer input).turn (step_fits w.answerer input) after,
       )
-
--- every outcome is that all was done
-abbrev pub AllDone : Outcome → Type 0
-AllDone outcome = outcome ≡ Done
 
 parts_keep : AnswerersKeep → NeighboursDiffer → PartsKeep CountsSaid LineFacts AllDone
 parts_keep keep law = record {

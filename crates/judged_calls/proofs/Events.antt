@@ -25,6 +25,39 @@ ToAnswerer t1 items rest = items ≡ rest
 ToAnswerer t2 items rest = items ≡ rest
 ToAnswerer (is_busy busy) items rest = items ≡ rest
 
+-- what is known of a signal that a caller hears, as an item under way to it; nothing of a timer
+abbrev pub KnownToCaller : (PlainItem → Type 0) → CallerInput → Type 0
+KnownToCaller P (hears signal) = P (framed signal)
+KnownToCaller P timeout = Unit {0}
+KnownToCaller P t5 = Unit {0}
+
+-- what is known of items under way is known of the one that is taken, and of the others
+pub caller_takes : (P : PlainItem → Type 0) (input : CallerInput) (items rest : List PlainItem) → ToCaller input items rest → Each P items →
+    KnownToCaller P input × Each P rest
+caller_takes P (hears signal) items rest is h = subst (Each P) is h
+caller_takes P timeout items rest is h = (tt, subst (Each P) is h)
+caller_takes P t5 items rest is h = (tt, subst (Each P) is h)
+
+-- the same of the answerer
+abbrev pub KnownToAnswerer : (PlainItem → Type 0) → AnswererInput → Type 0
+KnownToAnswerer P (listens signal) = P (framed signal)
+KnownToAnswerer P (trains octets) = P (checked octets)
+KnownToAnswerer P t1 = Unit {0}
+KnownToAnswerer P t2 = Unit {0}
+KnownToAnswerer P (is_busy busy) = Unit {0}
+
+pub answerer_takes : (P : PlainItem → Type 0) (input : AnswererInput) (items rest : List PlainItem) → ToAnswerer input items rest → Each P items →
+    KnownToAnswerer P input × Each P rest
+answerer_takes P (listens signal) items rest is h = subst (Each P) is h
+answerer_takes P (trains octets) items rest is h = subst (Each P) is h
+answerer_takes P t1 items rest is h = (tt, subst (Each P) is h)
+answerer_takes P t2 items rest is h = (tt, subst (Each P) is h)
+answerer_takes P (is_busy busy) items rest is h = (tt, subst (Each P) is h)
+
+-- what is known of all items is known of all but the first one
+pub each_rest : (P : PlainItem → Type 0) (item : PlainItem) (items rest : List PlainItem) → items ≡ item ∷ rest → Each P items → Each P rest
+each_rest P item items rest is h = (subst (Each P) is h).1
+
 -- The parts of an event keep an invariant of a world and of what was said: a station's step to an input, an item that is lost, and a
 -- training check that is spoiled. Facts are given of the world before, and of the world after a step.
 -- The steps' outcomes are fine: all are, or those without refused memory.
@@ -155,3 +188,11 @@ Any outcome = Unit {0}
 pub all_any : (steps : List (Event × Outcome)) → Each (λ step. Any step.1) steps
 all_any [] = tt
 all_any (step ∷ steps) = (tt, all_any steps)
+
+-- all was done
+abbrev pub AllDone : Outcome → Type 0
+AllDone outcome = outcome ≡ Done
+
+-- no fact is asked for
+abbrev pub NoFact : World → Type 0
+NoFact w = Unit {0}

@@ -21,12 +21,10 @@ use Rattle.stations.specs.declared.turn.CallerState.TheVariants.{WaitDis, WaitCf
 use Rattle.stations.specs.declared.turn.End.{End}
 use Rattle.stations.specs.declared.turn.Turn.{Turn}
 use Rattle.stations.specs.declared.turn.Turn.TheVariants as turn
-use Rattle.line_sim.specs.Entries.{unless_lost, heard, listened}
 use Rattle.line_sim.specs.Headline.{LineHolds}
-use Rattle.line_sim.specs.Line.{World, Outcome, Done, Nothing, InputLost, Cut, sent, happens, new_world, caller_sends, answerer_sends, run}
-use Rattle.line_sim.specs.Line.{caller_acts, answerer_acts, delivers_to_answerer, delivers_to_caller, spoiled, after_first}
+use Rattle.line_sim.specs.Line.{World, Outcome, Done, Nothing, InputLost, Cut, sent, new_world, caller_sends, answerer_sends}
+use Rattle.line_sim.specs.Line.{caller_acts, answerer_acts, spoiled}
 use Rattle.line_sim.specs.LineFacts.{LineFacts, IsOneGroup, Phase}
-use Rattle.line_sim.specs.declared.event.Event.{Event}
 use Rattle.line_sim.specs.declared.event.Event.TheVariants as event
 use Rattle.referee.specs.History.{PlainSaid, is_fcd}
 use Rattle.referee.specs.Rules.{has_bad_length}
@@ -35,7 +33,8 @@ use Rattle.judged_calls.proofs.Answered.{no_more}
 use Rattle.judged_calls.proofs.PprsAsk.{PprFits, IsCheck, step_fits}
 use Rattle.judged_calls.proofs.OwnSignals.{each_append, sent_each}
 use Rattle.judged_calls.proofs.AfterDcn.{sent_none, caller_sends_are}
-use Rattle.judged_calls.specs.SaidCalls.{and_said, caller_speaks, answerer_speaks, speaks, event_speaks, said_in, Keeps, RuleIsKeptOfPages}
+use Rattle.judged_calls.specs.SaidCalls.{and_said, caller_speaks, answerer_speaks, Keeps, RuleIsKeptOfPages}
+use Rattle.judged_calls.proofs.Events.{ToCaller, KnownToCaller, KnownToAnswerer, caller_takes, answerer_takes, each_rest, PartsKeep, run_keeps, Any, all_any}
 use Rattle.judged_calls.proofs.LastDcs.{SmallIs, SaysSmall, IsTimer, IsCfr, small_stays, small_later, burst_says, caller_says, step_ok}
 
 -- ---- what holds of a world and what was said in it
@@ -421,23 +420,22 @@ small_next c input before given small sends =
     at (inr is) = small is
 
 caller_sized : (w : World) (outcome : Outcome) (input : CallerInput) (before : List PlainSaid) → (IsCfr input → SmallIs w.caller.params.small before) →
-    LineFacts (caller_acts w outcome input) →
+    LineFacts (caller_acts w Done input) →
     Each (Checks (caller_step w.caller input).next (caller_speaks w.caller outcome input before)) w.to_answerer → Sized w before →
     Sized (caller_acts w outcome input) (caller_speaks w.caller outcome input before)
 caller_sized w outcome input before given after old h =
     let answer = caller_step w.caller input in
-    let items = sent outcome (caller_items answer.next answer.turn) in
-    let are = caller_sends_are answer.turn w answer.next items in
     turn_sized answer.turn w answer.next outcome before
     (record {
       old = old;
       silent = (step_ok w.caller input).silent;
       sends = small_next w.caller input before given h.sends;
-      fit = subst FramesFit are.0 (frames_fit (caller_acts w outcome input) after);
+      fit = subst FramesFit (caller_sends_are answer.turn w answer.next (caller_items answer.next answer.turn)).0
+          (frames_fit (caller_acts w Done input) after);
     }) h
 
 -- the end of a wait of the caller: its parameters stay
-timer_sized : (w : World) (outcome : Outcome) (input : CallerInput) (before : List PlainSaid) → IsTimer input → LineFacts (caller_acts w outcome input) →
+timer_sized : (w : World) (outcome : Outcome) (input : CallerInput) (before : List PlainSaid) → IsTimer input → LineFacts (caller_acts w Done input) →
     Sized w before → Sized (caller_acts w outcome input) (caller_speaks w.caller outcome input before)
 timer_sized w outcome input before timer after h =
     caller_sized w outcome input before (no_cfr input timer) after (stay w.to_answerer h.checks) h
@@ -463,7 +461,7 @@ timer_sized w outcome input before timer after h =
 
 -- the caller hears a frame, and so nothing is under way to the answerer
 hears_sized : (w : World) (outcome : Outcome) (input : CallerInput) (before : List PlainSaid) → w.to_answerer ≡ [] →
-    (IsCfr input → SmallIs w.caller.params.small before) → LineFacts (caller_acts w outcome input) → Sized w before →
+    (IsCfr input → SmallIs w.caller.params.small before) → LineFacts (caller_acts w Done input) → Sized w before →
     Sized (caller_acts w outcome input) (caller_speaks w.caller outcome input before)
 hears_sized w outcome input before none given after h = caller_sized w outcome input before given after (each_none w.to_answerer none) h
   where
@@ -557,27 +555,6 @@ answerer_sized w outcome input before check h =
 
 -- ---- one event
 
-to_answerer : (w : World) (outcome : Outcome) (items : List PlainItem) (before : List PlainSaid) → Each (Checks w.caller before) items → Sized w before →
-    Sized (delivers_to_answerer w outcome items) (speaks w outcome None (unless_lost outcome (listened items)) before)
-to_answerer w Done [] before checks h = h
-to_answerer w Nothing [] before checks h = h
-to_answerer w InputLost [] before checks h = h
-to_answerer w (Cut made) [] before checks h = h
-to_answerer w Done (framed signal ∷ items) before checks h =
-    answerer_sized (record w { to_answerer = items }) Done (listens signal) before (λ is. absurd is) (record { checks = checks.1; confirms = h.confirms; sends = h.sends; keeps = h.keeps })
-to_answerer w Done (checked octets ∷ items) before checks h =
-    answerer_sized (record w { to_answerer = items }) Done (trains octets) before (λ is. checks.0) (record { checks = checks.1; confirms = h.confirms; sends = h.sends; keeps = h.keeps })
-to_answerer w Nothing (framed signal ∷ items) before checks h =
-    answerer_sized (record w { to_answerer = items }) Nothing (listens signal) before (λ is. absurd is) (record { checks = checks.1; confirms = h.confirms; sends = h.sends; keeps = h.keeps })
-to_answerer w Nothing (checked octets ∷ items) before checks h =
-    answerer_sized (record w { to_answerer = items }) Nothing (trains octets) before (λ is. checks.0) (record { checks = checks.1; confirms = h.confirms; sends = h.sends; keeps = h.keeps })
-to_answerer w InputLost (framed signal ∷ items) before checks h = record { checks = checks.1; confirms = h.confirms; sends = h.sends; keeps = h.keeps }
-to_answerer w InputLost (checked octets ∷ items) before checks h = record { checks = checks.1; confirms = h.confirms; sends = h.sends; keeps = h.keeps }
-to_answerer w (Cut made) (framed signal ∷ items) before checks h =
-    answerer_sized (record w { to_answerer = items }) (Cut made) (listens signal) before (λ is. absurd is) (record { checks = checks.1; confirms = h.confirms; sends = h.sends; keeps = h.keeps })
-to_answerer w (Cut made) (checked octets ∷ items) before checks h =
-    answerer_sized (record w { to_answerer = items }) (Cut made) (trains octets) before (λ is. checks.0) (record { checks = checks.1; confirms = h.confirms; sends = h.sends; keeps = h.keeps })
-
 given_cfr : (c : Caller) (signal : PlainSignal) (before : List PlainSaid) → Confirms c before (framed signal) → IsCfr (hears signal) → SmallIs c.params.small before
 given_cfr c (dis caps) before h is = absurd is
 given_cfr c (dcs params) before h is = absurd is
@@ -593,97 +570,76 @@ given_cfr c rr before h is = absurd is
 given_cfr c dcn before h is = absurd is
 given_cfr c (other octet) before h is = absurd is
 
-to_caller : (w : World) (outcome : Outcome) (items : List PlainItem) (before : List PlainSaid) → (w.to_answerer ≡ []) ⊎ (items ≡ []) →
-    Each (Confirms w.caller before) items → LineFacts (delivers_to_caller w outcome items) → Sized w before →
-    Sized (delivers_to_caller w outcome items) (speaks w outcome (unless_lost outcome (heard items)) (unless_lost outcome None) before)
-to_caller w Done [] before way confirms after h = h
-to_caller w Nothing [] before way confirms after h = h
-to_caller w InputLost [] before way confirms after h = h
-to_caller w (Cut made) [] before way confirms after h = h
-to_caller w outcome (item ∷ items) before (inr empty) confirms after h = absurd (no_more empty)
-to_caller w Done (framed signal ∷ items) before (inl empty) confirms after h =
-    hears_sized (record w { to_caller = items }) Done (hears signal) before empty (given_cfr w.caller signal before confirms.0) after
-    (record { checks = h.checks; confirms = confirms.1; sends = h.sends; keeps = h.keeps })
-to_caller w Done (checked octets ∷ items) before (inl empty) confirms after h = record { checks = h.checks; confirms = confirms.1; sends = h.sends; keeps = h.keeps }
-to_caller w Nothing (framed signal ∷ items) before (inl empty) confirms after h =
-    hears_sized (record w { to_caller = items }) Nothing (hears signal) before empty (given_cfr w.caller signal before confirms.0) after
-    (record { checks = h.checks; confirms = confirms.1; sends = h.sends; keeps = h.keeps })
-to_caller w Nothing (checked octets ∷ items) before (inl empty) confirms after h = record { checks = h.checks; confirms = confirms.1; sends = h.sends; keeps = h.keeps }
-to_caller w InputLost (framed signal ∷ items) before (inl empty) confirms after h = record { checks = h.checks; confirms = confirms.1; sends = h.sends; keeps = h.keeps }
-to_caller w InputLost (checked octets ∷ items) before (inl empty) confirms after h = record { checks = h.checks; confirms = confirms.1; sends = h.sends; keeps = h.keeps }
-to_caller w (Cut made) (framed signal ∷ items) before (inl empty) confirms after h =
-    hears_sized (record w { to_caller = items }) (Cut made) (hears signal) before empty (given_cfr w.caller signal before confirms.0) after
-    (record { checks = h.checks; confirms = confirms.1; sends = h.sends; keeps = h.keeps })
-to_caller w (Cut made) (checked octets ∷ items) before (inl empty) confirms after h = record { checks = h.checks; confirms = confirms.1; sends = h.sends; keeps = h.keeps }
+given_heard : (c : Caller) (input : CallerInput) (before : List PlainSaid) → KnownToCaller (Confirms c before) input → IsCfr input →
+    SmallIs c.params.small before
+given_heard c (hears signal) before h is = given_cfr c signal before h is
+given_heard c timeout before h is = absurd is
+given_heard c t5 before h is = absurd is
 
-rest_checks : (c : Caller) (before : List PlainSaid) (items : List PlainItem) → Each (Checks c before) items → Each (Checks c before) (after_first items)
-rest_checks c before [] h = tt
-rest_checks c before (item ∷ items) h = h.1
+given_check : (c : Caller) (input : AnswererInput) (before : List PlainSaid) → KnownToAnswerer (Checks c before) input → IsCheck input →
+    SmallIs c.params.small before
+given_check c (listens signal) before h is = absurd is
+given_check c (trains octets) before h is = h
+given_check c t1 before h is = absurd is
+given_check c t2 before h is = absurd is
+given_check c (is_busy busy) before h is = absurd is
 
-rest_confirms : (c : Caller) (before : List PlainSaid) (items : List PlainItem) → Each (Confirms c before) items → Each (Confirms c before) (after_first items)
-rest_confirms c before [] h = tt
-rest_confirms c before (item ∷ items) h = h.1
+-- a frame comes to the caller while nothing is under way to the answerer
+caller_part : (w : World) (rest : List PlainItem) (outcome : Outcome) (input : CallerInput) (before : List PlainSaid) → LineFacts w →
+    LineFacts (caller_acts (record w { to_caller = rest }) Done input) → ToCaller input w.to_caller rest → Sized w before →
+    Sized (caller_acts (record w { to_caller = rest }) outcome input) (caller_speaks w.caller outcome input before)
+caller_part w rest outcome input before f after is h = of input after is
+  where
+    of : (i : CallerInput) → LineFacts (caller_acts (record w { to_caller = rest }) Done i) → ToCaller i w.to_caller rest →
+        Sized (caller_acts (record w { to_caller = rest }) outcome i) (caller_speaks w.caller outcome i before)
+    of (hears signal) after_i is_i =
+        let taken = caller_takes (Confirms w.caller before) (hears signal) w.to_caller rest is_i h.confirms in
+        hears_sized (record w { to_caller = rest }) outcome (hears signal) before (none f.one_way)
+        (given_heard w.caller (hears signal) before taken.0) after_i (record { checks = h.checks; confirms = taken.1; sends = h.sends; keeps = h.keeps })
+      where
+        none : (w.to_answerer ≡ []) ⊎ (w.to_caller ≡ []) → w.to_answerer ≡ []
+        none (inl empty) = empty
+        none (inr empty) = absurd (no_more (sym is_i ∙ empty))
+    of timeout after_i is_i =
+        let taken = caller_takes (Confirms w.caller before) timeout w.to_caller rest is_i h.confirms in
+        timer_sized (record w { to_caller = rest }) outcome timeout before tt after_i
+        (record { checks = h.checks; confirms = taken.1; sends = h.sends; keeps = h.keeps })
+    of t5 after_i is_i =
+        let taken = caller_takes (Confirms w.caller before) t5 w.to_caller rest is_i h.confirms in
+        timer_sized (record w { to_caller = rest }) outcome t5 before tt after_i
+        (record { checks = h.checks; confirms = taken.1; sends = h.sends; keeps = h.keeps })
 
 spoiled_checks : (c : Caller) (before : List PlainSaid) (items : List PlainItem) → Each (Checks c before) items → Each (Checks c before) (spoiled items)
 spoiled_checks c before [] h = tt
 spoiled_checks c before (framed signal ∷ items) h = h
 spoiled_checks c before (checked octets ∷ items) h = h
 
-event_sized : (w : World) → LineFacts w → (e : Event) (outcome : Outcome) (before : List PlainSaid) → LineFacts (happens w e outcome) → Sized w before →
-    Sized (happens w e outcome) (event_speaks w e outcome before)
-event_sized w f e Nothing before after h = h
-event_sized w f event.DeliverToAnswerer Done before after h = to_answerer w Done w.to_answerer before h.checks h
-event_sized w f event.DeliverToCaller Done before after h = to_caller w Done w.to_caller before f.one_way h.confirms after h
-event_sized w f event.LoseToAnswerer Done before after h =
-    record { checks = rest_checks w.caller before w.to_answerer h.checks; confirms = h.confirms; sends = h.sends; keeps = h.keeps }
-event_sized w f event.LoseToCaller Done before after h =
-    record { checks = h.checks; confirms = rest_confirms w.caller before w.to_caller h.confirms; sends = h.sends; keeps = h.keeps }
-event_sized w f event.Spoil Done before after h =
-    record { checks = spoiled_checks w.caller before w.to_answerer h.checks; confirms = h.confirms; sends = h.sends; keeps = h.keeps }
-event_sized w f event.CallerTimeout Done before after h = timer_sized w Done timeout before tt after h
-event_sized w f event.CallerT5 Done before after h = timer_sized w Done t5 before tt after h
-event_sized w f event.AnswererT1 Done before after h = answerer_sized w Done t1 before (λ is. absurd is) h
-event_sized w f event.AnswererT2 Done before after h = answerer_sized w Done t2 before (λ is. absurd is) h
-event_sized w f (event.Busy busy) Done before after h = answerer_sized w Done (is_busy busy) before (λ is. absurd is) h
-event_sized w f event.DeliverToAnswerer InputLost before after h = to_answerer w InputLost w.to_answerer before h.checks h
-event_sized w f event.DeliverToCaller InputLost before after h = to_caller w InputLost w.to_caller before f.one_way h.confirms after h
-event_sized w f event.LoseToAnswerer InputLost before after h =
-    record { checks = rest_checks w.caller before w.to_answerer h.checks; confirms = h.confirms; sends = h.sends; keeps = h.keeps }
-event_sized w f event.LoseToCaller InputLost before after h =
-    record { checks = h.checks; confirms = rest_confirms w.caller before w.to_caller h.confirms; sends = h.sends; keeps = h.keeps }
-event_sized w f event.Spoil InputLost before after h =
-    record { checks = spoiled_checks w.caller before w.to_answerer h.checks; confirms = h.confirms; sends = h.sends; keeps = h.keeps }
-event_sized w f event.CallerTimeout InputLost before after h = h
-event_sized w f event.CallerT5 InputLost before after h = h
-event_sized w f event.AnswererT1 InputLost before after h = h
-event_sized w f event.AnswererT2 InputLost before after h = h
-event_sized w f (event.Busy busy) InputLost before after h = h
-event_sized w f event.DeliverToAnswerer (Cut made) before after h = to_answerer w (Cut made) w.to_answerer before h.checks h
-event_sized w f event.DeliverToCaller (Cut made) before after h = to_caller w (Cut made) w.to_caller before f.one_way h.confirms after h
-event_sized w f event.LoseToAnswerer (Cut made) before after h =
-    record { checks = rest_checks w.caller before w.to_answerer h.checks; confirms = h.confirms; sends = h.sends; keeps = h.keeps }
-event_sized w f event.LoseToCaller (Cut made) before after h =
-    record { checks = h.checks; confirms = rest_confirms w.caller before w.to_caller h.confirms; sends = h.sends; keeps = h.keeps }
-event_sized w f event.Spoil (Cut made) before after h =
-    record { checks = spoiled_checks w.caller before w.to_answerer h.checks; confirms = h.confirms; sends = h.sends; keeps = h.keeps }
-event_sized w f event.CallerTimeout (Cut made) before after h = timer_sized w (Cut made) timeout before tt after h
-event_sized w f event.CallerT5 (Cut made) before after h = timer_sized w (Cut made) t5 before tt after h
-event_sized w f event.AnswererT1 (Cut made) before after h = answerer_sized w (Cut made) t1 before (λ is. absurd is) h
-event_sized w f event.AnswererT2 (Cut made) before after h = answerer_sized w (Cut made) t2 before (λ is. absurd is) h
-event_sized w f (event.Busy busy) (Cut made) before after h = answerer_sized w (Cut made) (is_busy busy) before (λ is. absurd is) h
-
--- ---- a run
-
-run_sized : (steps : List (Event × Outcome)) (w : World) (before : List PlainSaid) → ((more : List (Event × Outcome)) → LineFacts (run more w)) →
-    Sized w before → Keeps BadLength (said_in steps w before)
-run_sized [] w before facts h = h.keeps
-run_sized (step ∷ steps) w before facts h =
-    run_sized steps (happens w step.0 step.1) (event_speaks w step.0 step.1 before) (λ more. facts (step ∷ more))
-    (event_sized w (facts []) step.0 step.1 before (facts (step ∷ [])) h)
+sized_parts : PartsKeep Sized LineFacts Any
+sized_parts = record {
+  caller = λ w rest outcome input before fine f after is h. caller_part w rest outcome input before f after is h;
+  answerer = λ w rest outcome input before fine f after is h.
+      let taken = answerer_takes (Checks w.caller before) input w.to_answerer rest is h.checks in
+      answerer_sized (record w { to_answerer = rest }) outcome input before (given_check w.caller input before taken.0)
+      (record { checks = taken.1; confirms = h.confirms; sends = h.sends; keeps = h.keeps });
+  lost_to_caller = λ w item rest before is h. record {
+    checks = h.checks;
+    confirms = each_rest (Confirms w.caller before) item w.to_caller rest is h.confirms;
+    sends = h.sends;
+    keeps = h.keeps;
+  };
+  lost_to_answerer = λ w item rest before is h. record {
+    checks = each_rest (Checks w.caller before) item w.to_answerer rest is h.checks;
+    confirms = h.confirms;
+    sends = h.sends;
+    keeps = h.keeps;
+  };
+  spoil = λ w before h.
+      record { checks = spoiled_checks w.caller before w.to_answerer h.checks; confirms = h.confirms; sends = h.sends; keeps = h.keeps };
+}
 
 -- the law
 pub frames_have_lengths : LineHolds → RuleIsKeptOfPages BadLength
 frames_have_lengths holds_facts document wish caps steps full =
-    run_sized steps (new_world document wish caps) (record { by = AnswererSide; signal = dis caps } ∷ [])
-    (λ more. holds_facts document wish caps more full)
-    (record { checks = tt; confirms = (tt, tt); sends = λ h. absurd h; keeps = (refl, tt) })
+    (run_keeps Sized LineFacts Any sized_parts steps (new_world document wish caps) (record { by = AnswererSide; signal = dis caps } ∷ [])
+    (all_any steps) (λ more. holds_facts document wish caps more full)
+    (record { checks = tt; confirms = (tt, tt); sends = λ h. absurd h; keeps = (refl, tt) })).keeps

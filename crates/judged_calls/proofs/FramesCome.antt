@@ -45,6 +45,7 @@ use Rattle.judged_calls.proofs.PprsAsk.{OfCaller, caller_is, PprBy, PprFits, IsC
 use Rattle.judged_calls.proofs.OwnSignals.{each_append, sent_each}
 use Rattle.judged_calls.proofs.AfterDcn.{sent_none, caller_sends_are}
 use Rattle.judged_calls.proofs.Events.{ToAnswerer, PartsKeep, Any, all_any, run_keeps}
+use Rattle.judged_calls.proofs.Bools.{or_true, and_false}
 use Rattle.judged_calls.specs.SaidCalls.{and_said, caller_speaks, answerer_speaks, Keeps, RuleIsKeptOfPages}
 
 -- ---- the caller
@@ -102,7 +103,7 @@ under_later (framed dcn) items before own h = tt
 under_later (framed (other octet)) items before own h = tt
 under_later (checked octets) items before own h = tt
 
-same_number : (n : ℕ) → nat_eq n n ≡ true
+pub same_number : (n : ℕ) → nat_eq n n ≡ true
 same_number n = eq-eqb n n refl
 
 under_now : (signal : PlainSignal) (before : List PlainSaid) → Under (record { by = CallerSide; signal = signal } ∷ before) (framed signal)
@@ -269,14 +270,6 @@ step_grows s input = at s.ending
     at (Some why) = λ n o e. inl e
 
 -- ---- a PPR
-
-pub or_true : (a : Bool) → (a || true) ≡ true
-or_true true = refl
-or_true false = refl
-
-pub and_false : (a : Bool) → (a && false) ≡ false
-and_false true = refl
-and_false false = refl
 
 -- each frame that is kept may have come
 abbrev pub Held : Frames → List PlainSaid → Type 0

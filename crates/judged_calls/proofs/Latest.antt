@@ -1,5 +1,5 @@
 -- What is under way to the caller is what was said last, but for DIS; and which bursts answer it.
-use Rattle.std.proofs.Common.{◌≡◌, ℕ, zero, suc, Bool, true, false, ◌||◌, List, [], ◌∷◌, ◌++◌, refl, subst}
+use Rattle.std.proofs.Common.{◌≡◌, ℕ, zero, suc, Bool, true, false, ◌||◌, List, [], ◌∷◌, ◌++◌, refl}
 use Rattle.std.specs.Prelude.{Option, Some, None, not, nat_lt, slice_get}
 use Rattle.signals.specs.Signals.{PlainSignal, dis, cfr, ftt, ppr, mcf, rnr, dcn}
 use Rattle.signals.specs.declared.params.Caps.{Caps}
@@ -13,7 +13,7 @@ use Rattle.stations.specs.AnswererStep.{Answerer, answerer_items}
 use Rattle.stations.specs.Blocks.{Block}
 use Rattle.stations.specs.CallerStep.{Caller, CallerAnswer, caller_step, caller_items, caller_table, unless_caller_ended, all_frames, blocks_of}
 use Rattle.stations.specs.CallerStep.{tries_again, answers_dis, answers_ftt, answers_ppr, answers_mcf, goes_on, goes_on_or_waits}
-use Rattle.stations.specs.Inputs.{CallerInput, PlainItem, framed, checked, timeout, t5, hears}
+use Rattle.stations.specs.Inputs.{CallerInput, PlainItem, framed, checked, timeout, hears}
 use Rattle.stations.specs.Laws.{Each}
 use Rattle.stations.specs.declared.turn.CallerState.{CallerState}
 use Rattle.stations.specs.declared.turn.CallerState.TheVariants.{WaitDis, WaitCfr, WaitBlock, WaitReady}
@@ -27,7 +27,7 @@ use Rattle.referee.specs.History.{PlainSaid, look}
 use Rattle.referee.specs.Questions.{tell}
 use Rattle.referee.specs.declared.question.Question.TheVariants.{Sent, SurelyHas, Unasked, Left, Counted, OtherMark}
 use Rattle.judged_calls.proofs.AfterDcn.{sent_none}
-use Rattle.judged_calls.proofs.Events.{ToCaller}
+use Rattle.judged_calls.proofs.Events.{KnownToCaller}
 use Rattle.judged_calls.proofs.FramesCome.{last_of}
 use Rattle.judged_calls.proofs.OwnSignals.{each_append}
 use Rattle.judged_calls.specs.SaidCalls.{and_said}
@@ -164,16 +164,9 @@ pub latest_called : (t : Turn) (w : World) (next : Caller) (outcome : Outcome) (
 latest_called turn.Silent w next outcome before h = rw (sent_none outcome) h
 latest_called t w next outcome before h = tt
 
--- what is under way after an input is taken, and what is known of the input
+-- what is known of the input
 abbrev pub Heard : List PlainSaid → CallerInput → Type 0
-Heard before (hears signal) = Latest before (framed signal)
-Heard before _ = Unit {0}
-
-pub latest_taken : (input : CallerInput) (items rest : List PlainItem) (before : List PlainSaid) → ToCaller input items rest →
-    Each (Latest before) items → Heard before input × Each (Latest before) rest
-latest_taken (hears signal) items rest before is h = subst (Each (Latest before)) is h
-latest_taken timeout items rest before is h = (tt, subst (Each (Latest before)) is h)
-latest_taken t5 items rest before is h = (tt, subst (Each (Latest before)) is h)
+Heard before input = KnownToCaller (Latest before) input
 
 -- ---- which input a burst answers
 
@@ -246,8 +239,3 @@ step_bursts c input = at c.ending
     at : (ending : Option End) → BurstFits input (unless_caller_ended ending input c).turn
     at (Some why) = tt
     at None = table_bursts c.state input c
-
--- no other turn has a frame of a block
-abbrev pub NoBurst : Turn → Type 0
-NoBurst (turn.Burst marks) = ⊥
-NoBurst _ = Unit {0}

@@ -17,7 +17,7 @@ use Rattle.raster.specs.Pages.{PagePixels}
 use Rattle.stations.proofs.PprMaps.{bit_in_map}
 use Rattle.stations.proofs.Progress.{block_fits}
 use Rattle.stations.specs.Blocks.{Block}
-use Rattle.stations.specs.Inputs.{CallerInput, AnswererInput, PlainItem, framed, checked, timeout, t5, t1, t2, is_busy, hears, listens, trains}
+use Rattle.stations.specs.Inputs.{CallerInput, AnswererInput, PlainItem, framed, checked, t1, t2, is_busy, listens, trains}
 use Rattle.stations.specs.Laws.{Each, AreReadable}
 use Rattle.stations.specs.Layers.{Document, IsFullPage, within_page_limit, page_read, is_good_training}
 use Rattle.stations.specs.CallerStep.{Caller, caller_step, caller_items, training_items, fcds, pps_of, burst_of, pps_items, present_block, blocks_of}
@@ -32,10 +32,9 @@ use Rattle.stations.specs.declared.turn.Turn.{Turn}
 use Rattle.stations.specs.declared.turn.Turn.TheVariants as turn
 use Rattle.line_sim.proofs.AnswererKeeps.{counted}
 use Rattle.line_sim.proofs.Lists.{either}
-use Rattle.line_sim.specs.Entries.{unless_lost, heard, listened}
 use Rattle.line_sim.specs.Headline.{LineHolds}
-use Rattle.line_sim.specs.Line.{World, Outcome, Done, Nothing, InputLost, Cut, sent, happens, new_world, caller_sends, answerer_sends, run}
-use Rattle.line_sim.specs.Line.{caller_acts, answerer_acts, delivers_to_answerer, delivers_to_caller, spoiled, after_first}
+use Rattle.line_sim.specs.Line.{World, Outcome, Done, Nothing, InputLost, Cut, sent, new_world, caller_sends, answerer_sends}
+use Rattle.line_sim.specs.Line.{caller_acts, answerer_acts, spoiled}
 use Rattle.line_sim.specs.LineFacts.{LineFacts, AskedFits, SaysBlock, MayReachAnswerer}
 use Rattle.line_sim.specs.declared.event.Event.{Event}
 use Rattle.line_sim.specs.declared.event.Event.TheVariants as event
@@ -49,7 +48,9 @@ use Rattle.referee.specs.declared.question.Question.TheVariants.{Reaches, Counte
 use Rattle.referee.specs.declared.rule.Rule.TheVariants.{AsksNothing, BadMap}
 use Rattle.judged_calls.proofs.OwnSignals.{each_append, sent_each}
 use Rattle.judged_calls.proofs.AfterDcn.{sent_none}
-use Rattle.judged_calls.specs.SaidCalls.{and_said, caller_speaks, answerer_speaks, speaks, event_speaks, said_in, call_said, Keeps, RuleIsKeptOfPages}
+use Rattle.judged_calls.proofs.Events.{ToAnswerer, KnownToAnswerer, answerer_takes, each_rest, PartsKeep, run_keeps, Any, all_any}
+use Rattle.judged_calls.proofs.Bools.{or_true, and_false}
+use Rattle.judged_calls.specs.SaidCalls.{and_said, caller_speaks, answerer_speaks, call_said, Keeps, RuleIsKeptOfPages}
 
 -- ---- what the caller says
 
@@ -338,14 +339,6 @@ pub missing_one : (frames : Frames) (last : ℕ) → all_there frames last ≡ f
 unfolding all_there
 missing_one frames last h = missing_below frames (suc last) h
 
-or_true : (a : Bool) → (a || true) ≡ true
-or_true true = refl
-or_true false = refl
-
-and_false : (a : Bool) → (a && false) ≡ false
-and_false true = refl
-and_false false = refl
-
 module _ (before : List PlainSaid) (frames : Frames) (last : ℕ) (low : last < 256)
     (told : (n : ℕ) (begun : Bool) → n ≤ last → look (tell (Reaches n)) begun before ≡ true) where
   asks_one : all_there frames last ≡ false → some_frame (IsAskedFor (ppr_map frames last)) before ≡ true
@@ -531,100 +524,38 @@ given_item w f (other octet) before may told = tt
 
 -- ---- one event
 
-to_answerer : (w : World) (f : LineFacts w) (outcome : Outcome) (items : List PlainItem) (before : List PlainSaid) →
-    Each (MayReachAnswerer w.caller f.accepted) items → Each (Told before) items → Asks w before →
-    Asks (delivers_to_answerer w outcome items) (speaks w outcome None (unless_lost outcome (listened items)) before)
-to_answerer w f Done [] before may told h = h
-to_answerer w f Nothing [] before may told h = h
-to_answerer w f InputLost [] before may told h = h
-to_answerer w f (Cut made) [] before may told h = h
-to_answerer w f Done (framed signal ∷ items) before may told h =
-    answerer_asks (record w { to_answerer = items }) Done (listens signal) before (given_item w f signal before may.0 told.0) (record { told = told.1; both = h.both })
-to_answerer w f Nothing (framed signal ∷ items) before may told h =
-    answerer_asks (record w { to_answerer = items }) Nothing (listens signal) before (given_item w f signal before may.0 told.0) (record { told = told.1; both = h.both })
-to_answerer w f InputLost (framed signal ∷ items) before may told h = record { told = told.1; both = h.both }
-to_answerer w f (Cut made) (framed signal ∷ items) before may told h =
-    answerer_asks (record w { to_answerer = items }) (Cut made) (listens signal) before (given_item w f signal before may.0 told.0) (record { told = told.1; both = h.both })
-to_answerer w f Done (checked octets ∷ items) before may told h =
-    answerer_asks (record w { to_answerer = items }) Done (trains octets) before tt (record { told = told.1; both = h.both })
-to_answerer w f Nothing (checked octets ∷ items) before may told h =
-    answerer_asks (record w { to_answerer = items }) Nothing (trains octets) before tt (record { told = told.1; both = h.both })
-to_answerer w f InputLost (checked octets ∷ items) before may told h = record { told = told.1; both = h.both }
-to_answerer w f (Cut made) (checked octets ∷ items) before may told h =
-    answerer_asks (record w { to_answerer = items }) (Cut made) (trains octets) before tt (record { told = told.1; both = h.both })
-
-to_caller : (w : World) (outcome : Outcome) (items : List PlainItem) (before : List PlainSaid) → Asks w before →
-    Asks (delivers_to_caller w outcome items) (speaks w outcome (unless_lost outcome (heard items)) (unless_lost outcome None) before)
-to_caller w Done [] before h = h
-to_caller w Nothing [] before h = h
-to_caller w InputLost [] before h = h
-to_caller w (Cut made) [] before h = h
-to_caller w Done (framed signal ∷ items) before h = caller_asks (record w { to_caller = items }) Done (hears signal) before (record { told = h.told; both = h.both })
-to_caller w Done (checked octets ∷ items) before h = record { told = h.told; both = h.both }
-to_caller w Nothing (framed signal ∷ items) before h = caller_asks (record w { to_caller = items }) Nothing (hears signal) before (record { told = h.told; both = h.both })
-to_caller w Nothing (checked octets ∷ items) before h = record { told = h.told; both = h.both }
-to_caller w InputLost (framed signal ∷ items) before h = record { told = h.told; both = h.both }
-to_caller w InputLost (checked octets ∷ items) before h = record { told = h.told; both = h.both }
-to_caller w (Cut made) (framed signal ∷ items) before h = caller_asks (record w { to_caller = items }) (Cut made) (hears signal) before (record { told = h.told; both = h.both })
-to_caller w (Cut made) (checked octets ∷ items) before h = record { told = h.told; both = h.both }
-
-rest_told : (before : List PlainSaid) (items : List PlainItem) → Each (Told before) items → Each (Told before) (after_first items)
-rest_told before [] h = tt
-rest_told before (item ∷ items) h = h.1
+given_by : (w : World) (f : LineFacts w) (input : AnswererInput) (rest : List PlainItem) (before : List PlainSaid) →
+    ToAnswerer input w.to_answerer rest → KnownToAnswerer (Told before) input → Given w.answerer input before
+given_by w f (listens signal) rest before is told =
+    given_item w f signal before (subst (Each (MayReachAnswerer w.caller f.accepted)) is f.to_answerer).0 told
+given_by w f (trains octets) rest before is told = tt
+given_by w f t1 rest before is told = tt
+given_by w f t2 rest before is told = tt
+given_by w f (is_busy busy) rest before is told = tt
 
 spoiled_told : (before : List PlainSaid) (items : List PlainItem) → Each (Told before) items → Each (Told before) (spoiled items)
 spoiled_told before [] h = tt
 spoiled_told before (framed signal ∷ items) h = h
 spoiled_told before (checked octets ∷ items) h = h
 
-event_asks : (w : World) → LineFacts w → (e : Event) (outcome : Outcome) (before : List PlainSaid) → Asks w before →
-    Asks (happens w e outcome) (event_speaks w e outcome before)
-event_asks w f e Nothing before h = h
-event_asks w f event.DeliverToAnswerer Done before h = to_answerer w f Done w.to_answerer before f.to_answerer h.told h
-event_asks w f event.DeliverToCaller Done before h = to_caller w Done w.to_caller before h
-event_asks w f event.LoseToAnswerer Done before h = record { told = rest_told before w.to_answerer h.told; both = h.both }
-event_asks w f event.LoseToCaller Done before h = record { told = h.told; both = h.both }
-event_asks w f event.Spoil Done before h = record { told = spoiled_told before w.to_answerer h.told; both = h.both }
-event_asks w f event.CallerTimeout Done before h = caller_asks w Done timeout before h
-event_asks w f event.CallerT5 Done before h = caller_asks w Done t5 before h
-event_asks w f event.AnswererT1 Done before h = answerer_asks w Done t1 before tt h
-event_asks w f event.AnswererT2 Done before h = answerer_asks w Done t2 before tt h
-event_asks w f (event.Busy busy) Done before h = answerer_asks w Done (is_busy busy) before tt h
-event_asks w f event.DeliverToAnswerer InputLost before h = to_answerer w f InputLost w.to_answerer before f.to_answerer h.told h
-event_asks w f event.DeliverToCaller InputLost before h = to_caller w InputLost w.to_caller before h
-event_asks w f event.LoseToAnswerer InputLost before h = record { told = rest_told before w.to_answerer h.told; both = h.both }
-event_asks w f event.LoseToCaller InputLost before h = record { told = h.told; both = h.both }
-event_asks w f event.Spoil InputLost before h = record { told = spoiled_told before w.to_answerer h.told; both = h.both }
-event_asks w f event.CallerTimeout InputLost before h = h
-event_asks w f event.CallerT5 InputLost before h = h
-event_asks w f event.AnswererT1 InputLost before h = h
-event_asks w f event.AnswererT2 InputLost before h = h
-event_asks w f (event.Busy busy) InputLost before h = h
-event_asks w f event.DeliverToAnswerer (Cut made) before h = to_answerer w f (Cut made) w.to_answerer before f.to_answerer h.told h
-event_asks w f event.DeliverToCaller (Cut made) before h = to_caller w (Cut made) w.to_caller before h
-event_asks w f event.LoseToAnswerer (Cut made) before h = record { told = rest_told before w.to_answerer h.told; both = h.both }
-event_asks w f event.LoseToCaller (Cut made) before h = record { told = h.told; both = h.both }
-event_asks w f event.Spoil (Cut made) before h = record { told = spoiled_told before w.to_answerer h.told; both = h.both }
-event_asks w f event.CallerTimeout (Cut made) before h = caller_asks w (Cut made) timeout before h
-event_asks w f event.CallerT5 (Cut made) before h = caller_asks w (Cut made) t5 before h
-event_asks w f event.AnswererT1 (Cut made) before h = answerer_asks w (Cut made) t1 before tt h
-event_asks w f event.AnswererT2 (Cut made) before h = answerer_asks w (Cut made) t2 before tt h
-event_asks w f (event.Busy busy) (Cut made) before h = answerer_asks w (Cut made) (is_busy busy) before tt h
-
--- ---- a run
-
-run_asks : (steps : List (Event × Outcome)) (w : World) (before : List PlainSaid) → ((more : List (Event × Outcome)) → LineFacts (run more w)) →
-    Asks w before → Both (said_in steps w before)
-run_asks [] w before facts h = h.both
-run_asks (step ∷ steps) w before facts h =
-    run_asks steps (happens w step.0 step.1) (event_speaks w step.0 step.1 before) (λ more. facts (step ∷ more))
-    (event_asks w (facts []) step.0 step.1 before h)
+asks_parts : PartsKeep Asks LineFacts Any
+asks_parts = record {
+  caller = λ w rest outcome input before fine f after is h.
+      caller_asks (record w { to_caller = rest }) outcome input before (record { told = h.told; both = h.both });
+  answerer = λ w rest outcome input before fine f after is h.
+      let taken = answerer_takes (Told before) input w.to_answerer rest is h.told in
+      answerer_asks (record w { to_answerer = rest }) outcome input before (given_by w f input rest before is taken.0)
+      (record { told = taken.1; both = h.both });
+  lost_to_caller = λ w item rest before is h. record { told = h.told; both = h.both };
+  lost_to_answerer = λ w item rest before is h. record { told = each_rest (Told before) item w.to_answerer rest is h.told; both = h.both };
+  spoil = λ w before h. record { told = spoiled_told before w.to_answerer h.told; both = h.both };
+}
 
 asked_right : LineHolds → (document : Document) (wish : Wish) (caps : Caps) (steps : List (Event × Outcome)) → Each IsFullPage document →
     Both (call_said document wish caps steps)
 asked_right holds_facts document wish caps steps full =
-    run_asks steps (new_world document wish caps) (record { by = AnswererSide; signal = dis caps } ∷ [])
-    (λ more. holds_facts document wish caps more full) (record { told = tt; both = ((refl, tt), (refl, tt)) })
+    (run_keeps Asks LineFacts Any asks_parts steps (new_world document wish caps) (record { by = AnswererSide; signal = dis caps } ∷ [])
+    (all_any steps) (λ more. holds_facts document wish caps more full) (record { told = tt; both = ((refl, tt), (refl, tt)) })).both
 
 -- the laws
 pub asks_something : LineHolds → RuleIsKeptOfPages AsksNothing

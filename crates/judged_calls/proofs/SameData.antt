@@ -11,7 +11,7 @@ use Rattle.signals.specs.declared.signal.Side.TheVariants.{Caller as CallerSide,
 use Rattle.partial_page.specs.Store.{bit_of}
 use Rattle.stations.specs.Blocks.{Block}
 use Rattle.stations.specs.CallerFields.{IsSending}
-use Rattle.stations.specs.Inputs.{CallerInput, AnswererInput, PlainItem, framed, checked, timeout, t5, t1, t2, is_busy, hears, listens, trains}
+use Rattle.stations.specs.Inputs.{CallerInput, AnswererInput, PlainItem, framed, checked, timeout, t5, hears}
 use Rattle.stations.specs.Laws.{Each}
 use Rattle.stations.specs.CallerStep.{Caller, CallerAnswer, caller_step, caller_items, caller_table, unless_caller_ended, training_items, fcds}
 use Rattle.stations.specs.CallerStep.{pps_of, burst_of, pps_items, present_block, present_in, blocks_of, tries_again, answers_dis, answers_ftt}
@@ -23,11 +23,9 @@ use Rattle.stations.specs.declared.turn.End.{End}
 use Rattle.stations.specs.declared.turn.Turn.{Turn}
 use Rattle.stations.specs.declared.turn.Turn.TheVariants as turn
 use Rattle.line_sim.proofs.Lists.{either}
-use Rattle.line_sim.specs.Entries.{unless_lost, heard, listened}
-use Rattle.line_sim.specs.Line.{World, Outcome, Done, Nothing, InputLost, Cut, sent, happens, new_world, caller_sends, answerer_sends}
-use Rattle.line_sim.specs.Line.{caller_acts, answerer_acts, delivers_to_answerer, delivers_to_caller, after_first}
+use Rattle.line_sim.specs.Line.{World, Outcome, Done, Nothing, InputLost, Cut, sent, new_world, caller_sends, answerer_sends}
+use Rattle.line_sim.specs.Line.{caller_acts, answerer_acts}
 use Rattle.line_sim.specs.LineFacts.{frame_at}
-use Rattle.line_sim.specs.declared.event.Event.{Event}
 use Rattle.line_sim.specs.declared.event.Event.TheVariants as event
 use Rattle.referee.specs.History.{PlainSaid, look, is_fcd}
 use Rattle.referee.specs.Questions.{other_data_by, begins_block}
@@ -35,7 +33,8 @@ use Rattle.referee.specs.Rules.{has_new_data}
 use Rattle.referee.specs.declared.rule.Rule.TheVariants.{NewData}
 use Rattle.judged_calls.proofs.OwnSignals.{each_append, sent_each}
 use Rattle.judged_calls.proofs.AfterDcn.{sent_none}
-use Rattle.judged_calls.specs.SaidCalls.{and_said, caller_speaks, answerer_speaks, speaks, event_speaks, said_in, Keeps, RuleIsKept}
+use Rattle.judged_calls.proofs.Events.{KnownToCaller, caller_takes, each_rest, PartsKeep, run_keeps, Any, all_any, NoFact}
+use Rattle.judged_calls.specs.SaidCalls.{and_said, caller_speaks, answerer_speaks, speaks, Keeps, RuleIsKept}
 
 -- ---- what was said of a frame's data
 
@@ -536,21 +535,6 @@ answerer_sends_same w outcome input before h =
 
 -- ---- one event
 
-to_answerer : (w : World) (outcome : Outcome) (items : List PlainItem) (before : List PlainSaid) → Sends w before →
-    Sends (delivers_to_answerer w outcome items) (speaks w outcome None (unless_lost outcome (listened items)) before)
-to_answerer w Done [] before h = h
-to_answerer w Nothing [] before h = h
-to_answerer w InputLost [] before h = h
-to_answerer w (Cut made) [] before h = h
-to_answerer w Done (framed signal ∷ items) before h = answerer_sends_same (record w { to_answerer = items }) Done (listens signal) before (record { begins = h.begins; own = h.own; keeps = h.keeps })
-to_answerer w Done (checked octets ∷ items) before h = answerer_sends_same (record w { to_answerer = items }) Done (trains octets) before (record { begins = h.begins; own = h.own; keeps = h.keeps })
-to_answerer w Nothing (framed signal ∷ items) before h = answerer_sends_same (record w { to_answerer = items }) Nothing (listens signal) before (record { begins = h.begins; own = h.own; keeps = h.keeps })
-to_answerer w Nothing (checked octets ∷ items) before h = answerer_sends_same (record w { to_answerer = items }) Nothing (trains octets) before (record { begins = h.begins; own = h.own; keeps = h.keeps })
-to_answerer w InputLost (framed signal ∷ items) before h = record { begins = h.begins; own = h.own; keeps = h.keeps }
-to_answerer w InputLost (checked octets ∷ items) before h = record { begins = h.begins; own = h.own; keeps = h.keeps }
-to_answerer w (Cut made) (framed signal ∷ items) before h = answerer_sends_same (record w { to_answerer = items }) (Cut made) (listens signal) before (record { begins = h.begins; own = h.own; keeps = h.keeps })
-to_answerer w (Cut made) (checked octets ∷ items) before h = answerer_sends_same (record w { to_answerer = items }) (Cut made) (trains octets) before (record { begins = h.begins; own = h.own; keeps = h.keeps })
-
 given_fresh : (signal : PlainSignal) (before : List PlainSaid) → BeginsBlock before (framed signal) → GivenFresh (hears signal) before
 given_fresh (dis caps) before h = tt
 given_fresh (dcs params) before h = tt
@@ -566,71 +550,27 @@ given_fresh rr before h = tt
 given_fresh dcn before h = tt
 given_fresh (other octet) before h = tt
 
-to_caller : (w : World) (outcome : Outcome) (items : List PlainItem) (before : List PlainSaid) → Each (BeginsBlock before) items → Sends w before →
-    Sends (delivers_to_caller w outcome items) (speaks w outcome (unless_lost outcome (heard items)) (unless_lost outcome None) before)
-to_caller w Done [] before begins h = h
-to_caller w Nothing [] before begins h = h
-to_caller w InputLost [] before begins h = h
-to_caller w (Cut made) [] before begins h = h
-to_caller w Done (framed signal ∷ items) before begins h =
-    caller_sends_same (record w { to_caller = items }) Done (hears signal) before (given_fresh signal before begins.0) (record { begins = begins.1; own = h.own; keeps = h.keeps })
-to_caller w Done (checked octets ∷ items) before begins h = record { begins = begins.1; own = h.own; keeps = h.keeps }
-to_caller w Nothing (framed signal ∷ items) before begins h =
-    caller_sends_same (record w { to_caller = items }) Nothing (hears signal) before (given_fresh signal before begins.0) (record { begins = begins.1; own = h.own; keeps = h.keeps })
-to_caller w Nothing (checked octets ∷ items) before begins h = record { begins = begins.1; own = h.own; keeps = h.keeps }
-to_caller w InputLost (framed signal ∷ items) before begins h = record { begins = begins.1; own = h.own; keeps = h.keeps }
-to_caller w InputLost (checked octets ∷ items) before begins h = record { begins = begins.1; own = h.own; keeps = h.keeps }
-to_caller w (Cut made) (framed signal ∷ items) before begins h =
-    caller_sends_same (record w { to_caller = items }) (Cut made) (hears signal) before (given_fresh signal before begins.0) (record { begins = begins.1; own = h.own; keeps = h.keeps })
-to_caller w (Cut made) (checked octets ∷ items) before begins h = record { begins = begins.1; own = h.own; keeps = h.keeps }
+given_heard : (input : CallerInput) (before : List PlainSaid) → KnownToCaller (BeginsBlock before) input → GivenFresh input before
+given_heard (hears signal) before h = given_fresh signal before h
+given_heard timeout before h = tt
+given_heard t5 before h = tt
 
-rest_begins : (before : List PlainSaid) (items : List PlainItem) → Each (BeginsBlock before) items → Each (BeginsBlock before) (after_first items)
-rest_begins before [] h = tt
-rest_begins before (item ∷ items) h = h.1
-
-event_sends : (w : World) (e : Event) (outcome : Outcome) (before : List PlainSaid) → Sends w before →
-    Sends (happens w e outcome) (event_speaks w e outcome before)
-event_sends w e Nothing before h = h
-event_sends w event.DeliverToAnswerer Done before h = to_answerer w Done w.to_answerer before h
-event_sends w event.DeliverToCaller Done before h = to_caller w Done w.to_caller before h.begins h
-event_sends w event.LoseToAnswerer Done before h = record { begins = h.begins; own = h.own; keeps = h.keeps }
-event_sends w event.LoseToCaller Done before h = record { begins = rest_begins before w.to_caller h.begins; own = h.own; keeps = h.keeps }
-event_sends w event.Spoil Done before h = record { begins = h.begins; own = h.own; keeps = h.keeps }
-event_sends w event.CallerTimeout Done before h = caller_sends_same w Done timeout before tt h
-event_sends w event.CallerT5 Done before h = caller_sends_same w Done t5 before tt h
-event_sends w event.AnswererT1 Done before h = answerer_sends_same w Done t1 before h
-event_sends w event.AnswererT2 Done before h = answerer_sends_same w Done t2 before h
-event_sends w (event.Busy busy) Done before h = answerer_sends_same w Done (is_busy busy) before h
-event_sends w event.DeliverToAnswerer InputLost before h = to_answerer w InputLost w.to_answerer before h
-event_sends w event.DeliverToCaller InputLost before h = to_caller w InputLost w.to_caller before h.begins h
-event_sends w event.LoseToAnswerer InputLost before h = record { begins = h.begins; own = h.own; keeps = h.keeps }
-event_sends w event.LoseToCaller InputLost before h = record { begins = rest_begins before w.to_caller h.begins; own = h.own; keeps = h.keeps }
-event_sends w event.Spoil InputLost before h = record { begins = h.begins; own = h.own; keeps = h.keeps }
-event_sends w event.CallerTimeout InputLost before h = h
-event_sends w event.CallerT5 InputLost before h = h
-event_sends w event.AnswererT1 InputLost before h = h
-event_sends w event.AnswererT2 InputLost before h = h
-event_sends w (event.Busy busy) InputLost before h = h
-event_sends w event.DeliverToAnswerer (Cut made) before h = to_answerer w (Cut made) w.to_answerer before h
-event_sends w event.DeliverToCaller (Cut made) before h = to_caller w (Cut made) w.to_caller before h.begins h
-event_sends w event.LoseToAnswerer (Cut made) before h = record { begins = h.begins; own = h.own; keeps = h.keeps }
-event_sends w event.LoseToCaller (Cut made) before h = record { begins = rest_begins before w.to_caller h.begins; own = h.own; keeps = h.keeps }
-event_sends w event.Spoil (Cut made) before h = record { begins = h.begins; own = h.own; keeps = h.keeps }
-event_sends w event.CallerTimeout (Cut made) before h = caller_sends_same w (Cut made) timeout before tt h
-event_sends w event.CallerT5 (Cut made) before h = caller_sends_same w (Cut made) t5 before tt h
-event_sends w event.AnswererT1 (Cut made) before h = answerer_sends_same w (Cut made) t1 before h
-event_sends w event.AnswererT2 (Cut made) before h = answerer_sends_same w (Cut made) t2 before h
-event_sends w (event.Busy busy) (Cut made) before h = answerer_sends_same w (Cut made) (is_busy busy) before h
-
--- ---- a run
-
-run_sends : (steps : List (Event × Outcome)) (w : World) (before : List PlainSaid) → Sends w before → Keeps NewData (said_in steps w before)
-run_sends [] w before h = h.keeps
-run_sends (step ∷ steps) w before h =
-    run_sends steps (happens w step.0 step.1) (event_speaks w step.0 step.1 before) (event_sends w step.0 step.1 before h)
+sends_parts : PartsKeep Sends NoFact Any
+sends_parts = record {
+  caller = λ w rest outcome input before fine f after is h.
+      let taken = caller_takes (BeginsBlock before) input w.to_caller rest is h.begins in
+      caller_sends_same (record w { to_caller = rest }) outcome input before (given_heard input before taken.0)
+      (record { begins = taken.1; own = h.own; keeps = h.keeps });
+  answerer = λ w rest outcome input before fine f after is h.
+      answerer_sends_same (record w { to_answerer = rest }) outcome input before (record { begins = h.begins; own = h.own; keeps = h.keeps });
+  lost_to_caller = λ w item rest before is h.
+      record { begins = each_rest (BeginsBlock before) item w.to_caller rest is h.begins; own = h.own; keeps = h.keeps };
+  lost_to_answerer = λ w item rest before is h. record { begins = h.begins; own = h.own; keeps = h.keeps };
+  spoil = λ w before h. record { begins = h.begins; own = h.own; keeps = h.keeps };
+}
 
 -- the law
 pub data_stay : RuleIsKept NewData
 data_stay document wish caps steps =
-    run_sends steps (new_world document wish caps) (record { by = AnswererSide; signal = dis caps } ∷ [])
-    (record { begins = (tt, tt); own = λ h. absurd h; keeps = (refl, tt) })
+    (run_keeps Sends NoFact Any sends_parts steps (new_world document wish caps) (record { by = AnswererSide; signal = dis caps } ∷ [])
+    (all_any steps) (λ more. tt) (record { begins = (tt, tt); own = λ h. absurd h; keeps = (refl, tt) })).keeps
