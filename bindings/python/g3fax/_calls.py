@@ -61,9 +61,9 @@ class Document(_Owner):
     def code(self, coding: Coding) -> None:
         """Codes each page now: no call that agrees on this code codes it again. The document has the codes as long as its pages, through
         calls; a page that is appended later is coded when it is due. Fault 106 without a page."""
-        coding = _number(coding, "coding")
+        number = _number(coding, "coding")
         with self._lock:
-            _done(_library.g3_document_code(self._at, coding))
+            _done(_library.g3_document_code(self._at, number))
 
     def __len__(self) -> int:
         """The number of pages."""
