@@ -1,4 +1,4 @@
-"""Tests what help and dir show of the package g3fax:
+"""Tests what help and dir show of the package g3fax, and its numbers:
 
     G3FAX_LIBRARY=FOLDER/libg3fax.so.0 python3 bindings/python/test_help.py"""
 
@@ -19,6 +19,8 @@ import g3fax  # noqa: E402
 
 # lines, of Python 3.13, which writes a line for each argument
 MOST_OF_ALL, MOST_OF_A_CLASS, MOST_OF_A_VALUE = 1900, 145, 70
+# what the names of numbers begin with in g3fax.h, if not with G3_ alone
+BEGIN = {"FileKind": "FOUND_", "Next": "NEXT_", "Listens": "HEARS_", "End": "END_", "Refusal": "REFUSED_"}
 # what Python says of each tuple, number, exception and object
 NOISE = ("builtins.int:", "builtins.tuple:", "Exception:", "builtins.object:", "enum.IntEnum:", "enum.EnumMeta:", "ForwardRef", "ctypes",
          "Alias for field", "Initialize self", "Helper for pickle", "Return repr(self)", "boundary=", "__weakref__")
@@ -47,6 +49,16 @@ class Help(unittest.TestCase):
         heads = [match[1] for line in lines for match in [re.match(r"    class (\w+)\(", line)] if match]
         heads += [match[1] for line in functions for match in [re.match(r"    (\w+)\(", line)] if match]
         self.assertEqual(sorted(heads), sorted(g3fax.__all__))
+
+    def test_numbers(self):
+        """Each number of g3fax.h has its name here, but for statuses, and for what the line is at a tick."""
+        header = (Path(__file__).resolve().parent.parent / "g3fax.h").read_text()
+        lists = re.findall(r"^enum (\w+) \{(.*?)\};", re.sub(r"/\*.*?\*/", "", header, flags=re.S), re.M | re.S)
+        numbers = {name: int(number) for kind, inside in lists if kind not in ("g3_status_number", "g3_line")
+                   for name, number in re.findall(r"(G3_\w+) = (\d+)", inside)}
+        kinds = [kind for kind in (getattr(g3fax, name) for name in g3fax.__all__) if isinstance(kind, type) and issubclass(kind, IntEnum)]
+        own = {f"G3_{BEGIN.get(kind.__name__, '')}{one.name}": one.value for kind in kinds for one in kind}
+        self.assertEqual(own, numbers)
 
     def test_length(self):
         lines = shown()
