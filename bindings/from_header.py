@@ -40,6 +40,28 @@ class Header:
                           for kind, name, words in FUNCTION.findall(plain)]
 
 
+def numbers(text):
+    """Each number that a header names."""
+    return {name: int(number) for name, number in re.findall(r"\b(G3_\w+) = (\d+)", Header.plain(text))}
+
+
+def record_faults(changes):
+    """What differs from the header that bindings/tests/older has of a version: a number that changed or went; until that version is out, as the
+    change log says, anything; and from then on a name that was put into its node."""
+    old, new = [(HERE / name).read_text() for name in ("tests/older/g3fax.h", "g3fax.h")]
+    for name, number in numbers(old).items():
+        if numbers(new).get(name) != number:
+            yield f"{name} was {number} in bindings/tests/older/g3fax.h"
+    one, other = Header(old), Header(new)
+    number = int(re.search(r"G3_VERSION_NUMBER (\d+)", old)[1])
+    version = f"{number // 10000}.{number // 100 % 100}.{number % 100}"
+    if f"## {version}, unreleased\n" not in changes:
+        late = nodes((HERE / "exports").read_text())[f"G3FAX_{version}"] - {name for _, name, _ in one.functions}
+        yield from (f"{name} came after {version}, which is out: a later VERSION gives it a node" for name in sorted(late))
+    elif (one.structs, one.functions, numbers(old)) != (other.structs, other.functions, numbers(new)):
+        yield f"bindings/tests/older/g3fax.h is another, and {version} isn't out: its head says how it is written"
+
+
 def wrapper(header, kind, name, parameters):
     """A function of g3fax.h: it tests its addresses, and calls the proved one; and the prototype of that."""
     tests, words, types, handles, spared = [], [], [], [], ""
@@ -89,10 +111,14 @@ def wrappers(header, source):
     return "\n".join(texts) + "\n"
 
 
+def nodes(text):
+    """The names of each version, as bindings/exports has them."""
+    return {node: set(re.findall(r"g3_\w+", inside)) for node, inside in re.findall(r"^(G3FAX_[\d.]+) \{\n(.*?)^\}", text, re.M | re.S)}
+
+
 def exports(header, text, version):
     """bindings/exports: each name in the version that it came with; a name that it hasn't came with this one."""
-    nodes = re.findall(r"^(G3FAX_[\d.]+) \{\n(.*?)^\}", text, re.M | re.S)
-    known = {node: set(re.findall(r"g3_\w+", inside)) for node, inside in nodes}
+    known = nodes(text)
     new = {name for _, name, _ in header.functions} - set().union(*known.values())
     if new:
         known.setdefault(f"G3FAX_{version}", set()).update(new)

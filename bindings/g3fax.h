@@ -132,9 +132,9 @@ const char *g3_version(void);
 uint32_t g3_version_number(void);
 
 /* Pages: 0 to 20000 rows of 1 to 2432 pixels. A row is octets as in a raw PBM file: eight pixels an octet, the leftmost in the
- * highest bit, 1 black. */
+ * highest bit, 1 black. G3_BAD_WIDTH: of no or more pixels. */
 G3_CHECK g3_status g3_page_new(g3_page *out, uint32_t width, uint32_t fine);
-/* Appends a row of the first bits of octets; later bits are ignored. G3_BAD_LENGTH: too few octets. */
+/* Appends a row of the first bits of octets; later bits are ignored. G3_BAD_LENGTH: too few octets. G3_TOO_MANY_ROWS: it has 20000. */
 G3_CHECK g3_status g3_page_push_row(g3_page *page, const uint8_t *octets, size_t length);
 G3_CHECK g3_status g3_page_size(const g3_page *page, g3_size *size);
 /* Copies row `number`, from 0 at the top. *count: the octets of a row, also where G3_NO_ROOM is answered. G3_NOTHING: no such row. */
@@ -194,14 +194,15 @@ G3_CHECK g3_status g3_identify(const uint8_t *octets, size_t length, g3_found *f
  * Of many pages in G3_LSB_FIRST turn each octet first, and read them in G3_MSB_FIRST: g3_page_decode turns up to 4 MiB for each page. */
 G3_CHECK g3_status g3_page_next(uint8_t *octets, size_t length, const g3_code *code, uint64_t used, uint64_t *next);
 
-/* The first image of a raw PBM file in memory, and how many images it has; and a page as such an image. */
+/* The first image of a raw PBM file in memory, and how many images it has; and a page as such an image. G3_NO_IMAGE: there are no octets.
+ * G3_BAD_HEADER: they don't begin as such an image. G3_SHORT_DATA: its rows are cut short. */
 G3_CHECK g3_status g3_page_read_pbm(const uint8_t *octets, size_t length, uint32_t fine, g3_page *out, uint64_t *count);
 G3_CHECK g3_status g3_page_write_pbm(const g3_page *page, g3_octets *out);
 
 /* A page is coded row by row: the memory doesn't grow with its rows where the octets are taken as they come. `fine` of the code is
- * ignored. */
+ * ignored. G3_BAD_CHOICE: no such code. G3_BAD_WIDTH: its width isn't 1 to 2432. */
 G3_CHECK g3_status g3_row_coder_new(g3_row_coder *out, const g3_code *code);
-/* Codes a row of the first bits of octets; later bits are ignored. G3_BAD_LENGTH: too few octets. */
+/* Codes a row of the first bits of octets; later bits are ignored. G3_BAD_LENGTH: too few octets. G3_TOO_MANY_ROWS: it has 20000. */
 G3_CHECK g3_status g3_row_coder_push_row(g3_row_coder *coder, const uint8_t *octets, size_t length);
 /* The octets of the code that are whole so far, after those that were taken; there may be none. */
 G3_CHECK g3_status g3_row_coder_take(g3_row_coder *coder, g3_octets *out);
@@ -243,7 +244,8 @@ G3_CHECK g3_status g3_document_new(g3_document *out);
 G3_CHECK g3_status g3_document_push(g3_document *document, g3_page *page);
 G3_CHECK g3_status g3_document_pages(const g3_document *document, uint64_t *count);
 /* Codes each page now, as G3_MH or G3_MMR: no call that agrees on this code codes it again. The document has the codes as long as its pages,
- * through calls; a page that is pushed later is coded when it is due. G3_NOTHING: there is no page. */
+ * through calls, and of one code alone: those of the other one take their place. A page that is pushed later is coded when it is due.
+ * G3_BAD_CHOICE: no such code. G3_NOTHING: there is no page. */
 G3_CHECK g3_status g3_document_code(g3_document *document, uint32_t coding);
 
 /* Terminals: the two stations of a call with error correction (T.30, Annex A), a caller and an answerer. A terminal hears octets of the

@@ -7,7 +7,8 @@ the names in bindings/exports, and what Python knows of structs and functions:
     docs/man/make_library.py --check    writes nothing; names each file that would be another, and ends with status 1 then
 
 Each function, struct and list of numbers of the header stands in one page, with the comment before it. A name that no page takes ends the
-script with status 1. It needs Python's standard library alone."""
+script with status 1; so does a status that bindings/tests has of a function and its page hasn't, or a number that isn't that of the record in
+bindings/tests/older. It needs Python's standard library alone."""
 
 import re
 import sys
@@ -131,24 +132,56 @@ def narrow(text, width):
     return "\n".join(lines)
 
 
-def statuses(comments):
-    """The numbers and texts of the statuses that comments name, with those of wrong use."""
-    named = set(re.findall(r"\bG3_\w+", comments))
+def shaped(names):
+    """The statuses that these functions have by their shape: by handles, addresses, room, sizes and spare words."""
+    header = from_header.Header((TOP / "bindings/g3fax.h").read_text())
+    found = {"G3_OK"}
+    for kind, name, parameters in header.functions:
+        for written, word in parameters if kind == "g3_status" and name in names else []:
+            pointed = re.sub(r"const |[* ]", "", written) if "*" in written else ""
+            if pointed in header.handles:
+                found |= {"G3_EMPTY_HANDLE", "G3_OTHER_HANDLE", "G3_NO_MEMORY"} | ({"G3_FULL_HANDLE"} if word == "out" else set())
+            elif pointed in header.structs:
+                found |= {"G3_NO_ADDRESS", "G3_NEWER_STRUCT"} | ({"G3_BAD_SIZE"} if pointed in header.sized else set())
+            elif pointed:
+                found |= {"G3_NO_ADDRESS"}
+            found |= {"room": {"G3_NO_ROOM"}, "length": {"G3_BAD_LENGTH"}}.get(word, set())
+    return found
+
+
+def statuses(chosen):
+    """The numbers and texts of the statuses of the functions of a page: those that comments name, and those of their shape."""
+    comments = " ".join(item.comment or "" for item in chosen if item.function)
+    named = set(re.findall(r"\bG3_\w+", comments)) | shaped([item.function for item in chosen])
     known = re.findall(r'case (G3_\w+): return "(.*)";', (TOP / "bindings/g3fax.c").read_text().split("g3_status_text(")[1])
-    plain = from_header.Header.plain((TOP / "bindings/g3fax.h").read_text())
-    numbers = {name: int(number) for name, number in re.findall(r"\b(G3_\w+) = (\d+)", plain)}
+    numbers = from_header.numbers((TOP / "bindings/g3fax.h").read_text())
     coded = "10 to 18" in comments
-    return [(numbers[name], name, text) for name, text in known
-            if name in named or name == "G3_NO_MEMORY" or numbers[name] in (0, 100, 101, 102, 105, 110) or coded and 10 <= numbers[name] <= 18]
+    return [(numbers[name], name, text) for name, text in known if name in named or coded and 10 <= numbers[name] <= 18]
 
 
-def elsewhere(group, chosen, found):
-    """Each type that the declarations of a page name and another page has, with that."""
-    own = {item.name for item in chosen}
-    text = "\n".join(item.text for item in chosen)
-    return [f"\\fB{item.name}\\fP is in \\fBg3fax_{item.group()}\\fP(3)" for item in found
-            if not item.function and item.name.startswith("g3_") and item.name not in own and item.group() != group
-            and re.search(rf"\b{item.name}\b", text)]
+def untold(found):
+    """Each status that bindings/tests or misuse.c has of a function, and that the function's page doesn't list."""
+    pages = {item.function: item.group() for item in found if item.function}
+    listed = {group: [name for _, name, _ in statuses([item for item in found if item.group() == group])] for group, _, _ in GROUPS}
+    files = [*sorted((TOP / "bindings/tests").glob("*.c")), TOP / "bindings/c/misuse.c"]
+    tests = "\n".join(file.read_text() for file in files)
+    shown = {(name, status) for status, name in re.findall(r"\bIS\((G3_\w+), (g3_\w+)\(", tests)}
+    shown |= {(name, status) for name in re.findall(r"\bSPARES\([^,]*, (g3_\w+)\(", tests) for status in ("G3_NEWER_STRUCT",)}
+    shown |= {(name, status) for name in re.findall(r"\bSIZES\([^,]*, (g3_\w+)\(", tests) for status in ("G3_BAD_SIZE", "G3_NEWER_STRUCT")}
+    return [f"g3fax_{pages[name]} doesn't list {status}, which {name} answers" for name, status in sorted(shown)
+            if name in pages and status not in listed[pages[name]]]
+
+
+def elsewhere(group, chosen, found, example):
+    """The types, numbers and macros that a page names and another page has, a line for each such page."""
+    text = "\n".join([*[f"{item.text} {item.comment}" for item in chosen], example])
+    places = {}
+    for item in found:
+        tag = re.match(r"enum \w+", item.text)
+        names = re.findall(r"\b(G3_\w+) =", item.text) if tag else [item.name]
+        if not item.function and item.group() != group and "G3_OK" not in names and re.search(rf"\b({'|'.join(names)})\b", text):
+            places.setdefault(item.group(), []).append(tag[0] if tag else item.name)
+    return [f"\\fBg3fax_{place}\\fP(3) has \\fB" + "\\fP, \\fB".join(names) + "\\fP." for place, names in places.items()]
 
 
 def page(group, about, found, version, date):
@@ -172,13 +205,13 @@ def page(group, about, found, version, date):
             lines += [".RS", *[f".br\n\\fB{name}\\fP()" for name in names], ".RE"]
         for item in shown:
             lines += [".RS", ".nf", escaped(narrow(item.text, 65)), ".fi", ".RE"]
-    types = elsewhere(group, chosen, found)
-    if types:
-        lines += [".SH TYPES", *textwrap.wrap("; ".join(types) + ".", 78, break_on_hyphens=False)]
-    lines += [".SH STATUSES", "README.md of the library says which comes when, what isn't defined, and who owns what."]
-    for number, name, text in statuses(" ".join(item.comment or "" for item in chosen)):
-        lines += [".TP", f"\\fB{name}\\fP, {number}", escaped(text)]
     example = (TOP / f"docs/man/examples/{group}.c").read_text()
+    types = elsewhere(group, chosen, found, example)
+    if types:
+        lines += [".SH TYPES", *[line for words in types for line in textwrap.wrap(words, 78, break_on_hyphens=False)]]
+    lines += [".SH STATUSES", "README.md of the library says which comes when, what isn't defined, and who owns what."]
+    for number, name, text in statuses(chosen):
+        lines += [".TP", f"\\fB{name}\\fP, {number}", escaped(text)]
     lines += [".SH EXAMPLE", ".nf", escaped(example.rstrip("\n")), ".fi", ".SH SEE ALSO", ", ".join(others)]
     return "\n".join(lines) + "\n"
 
@@ -199,16 +232,18 @@ def main():
     found = items((TOP / "bindings/g3fax.h").read_text())
     version = (TOP / "VERSION").read_text().strip()
     date = re.search(r"^## (?:.*, )?(\d{4}-\d\d-\d\d)$", (TOP / "CHANGELOG.md").read_text(), re.M)[1]
-    others = []
+    others = [*untold(found), *from_header.record_faults((TOP / "CHANGELOG.md").read_text())]
+    for line in others:
+        print(f"make_library.py: {line}")
     files = {TOP / f"docs/man/g3fax_{group}.3": page(group, about, found, version, date)
              for group, about, _ in GROUPS}
     for file, text in {**files, **from_header.written(version)}.items():
-        if sys.argv[1:] == ["--check"]:
-            others += [] if file.is_file() and file.read_text() == text else [str(file.relative_to(TOP))]
-        else:
+        if sys.argv[1:] != ["--check"]:
             file.write_text(text)
-    if others:
-        sys.exit(f"make_library.py: these would be others: {' '.join(others)}")
+        elif not file.is_file() or file.read_text() != text:
+            others.append(file)
+            print(f"make_library.py: {file.relative_to(TOP)} would be another")
+    sys.exit(1 if others else 0)
 
 
 if __name__ == "__main__":

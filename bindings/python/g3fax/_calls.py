@@ -60,7 +60,8 @@ class Document(_Owner):
 
     def code(self, coding: Coding) -> None:
         """Codes each page now: no call that agrees on this code codes it again. The document has the codes as long as its pages, through
-        calls; a page that is appended later is coded when it is due. Fault 106 without a page."""
+        calls, and of one code alone: those of the other one take their place. A page that is appended later is coded when it is due. Fault 106
+        without a page."""
         number = _number(coding, "coding")
         with self._lock:
             _done(_library.g3_document_code(self._at, number))

@@ -143,6 +143,7 @@ G3_CHECK g3_status g3_frame_write(const uint8_t *content, size_t length, g3_octe
 G3_CHECK g3_status g3_document_new(g3_document *out);
 G3_CHECK g3_status g3_document_push(g3_document *document, g3_page *page);
 G3_CHECK g3_status g3_document_pages(const g3_document *document, uint64_t *count);
+G3_CHECK g3_status g3_document_code(g3_document *document, uint32_t coding);
 enum g3_modems { G3_V27TER = 1, G3_V29 = 2, G3_V17 = 3 };
 typedef struct g3_caps {
     uint32_t modems;
