@@ -144,7 +144,7 @@ where="as it is"
 if [ "$(id -u)" = 0 ] && command -v chroot ldd > /dev/null; then
     root=$work/root
     mkdir -p "$root/lib64" "$root/lib" "$root/tmp"
-    cp "$work/static" "$work/shared" "$work/prefix/lib/libg3fax.so.0" "$data/page.pbm" "$root/"
+    cp "$work/static" "$work/shared" "$work/c++" "$work/prefix/lib/libg3fax.so.0" "$data/page.pbm" "$root/"
     cp /lib64/ld-linux-x86-64.so.2 "$root/lib64/"
     cp "$(ldd "$work/shared" | sed -n 's/.*libc.so.6 => \([^ ]*\).*/\1/p')" "$root/lib/"
     for name in static shared; do
@@ -152,6 +152,7 @@ if [ "$(id -u)" = 0 ] && command -v chroot ldd > /dev/null; then
         cmp "$root/code" "$data/page.mmr.msb" || fails "$name in a root of its own codes otherwise"
         rm "$root/code"
     done
+    [ "$(chroot "$root" /lib64/ld-linux-x86-64.so.2 --library-path /lib:/ /c++)" = "done: 6 octets" ] || fails "the example in C++ in a root of its own"
     where="also in a root without the kit"
 fi
 echo "installed: an example runs with the installed shared library and with the archive, by the flags of g3fax.pc, in C and C++, $where"

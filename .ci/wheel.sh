@@ -86,6 +86,8 @@ if command -v mypy > /dev/null; then
     (cd "$to" && MYPYPATH=$to/unpacked mypy --strict --cache-dir="$to/mypy" wrong.py) > "$to/said" 2>&1 && fails "mypy of wrong calls"
     for line in 2 3 4 5 6 7 8 9 10; do grep -q "^wrong.py:$line: error" "$to/said" || fails "mypy finds no error in line $line"; done
     how="$how, and strict for mypy, which finds 9 wrong calls of 9"
+else
+    how="$how; its types weren't checked: there is no mypy"
 fi
 rm -rf "$to"
 echo "wheel: $wheel, twice the same, $how"
