@@ -336,5 +336,7 @@ esac
 for test in test_g3fax test_returned test_help; do
     PYTHONDONTWRITEBYTECODE=1 G3FAX_LIBRARY=$work/libg3fax.so.0 timeout 600 python3 -W error "$top/bindings/python/$test.py" \
         > "$work/output" 2>&1 || { cat "$work/output" >&2; fails "bindings/python/$test.py"; }
+    left=$(sed -n 's/^OK (skipped=\([0-9]*\))$/\1/p' "$work/output")
+    [ -z "$left" ] || echo "bindings: $left tests of $test.py were left out: python3 has no numpy, or no PIL"
 done
 echo "bindings: $runs runs of the examples, under the sanitizers, gave what other programs wrote; $growths growths were refused in turn"
