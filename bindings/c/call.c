@@ -87,7 +87,8 @@ static g3_status calls(g3_document *document, g3_terminal *answerer)
     g3_terminal caller = G3_EMPTY;
     uint64_t confirmed = 0;
     uint32_t end = 0;
-    g3_status status = g3_answerer_new(answerer, &caps);
+    g3_status status = g3_document_code(document, wish.coding); /* once for both calls */
+    if (status == G3_OK) status = g3_answerer_new(answerer, &caps);
     if (status == G3_OK) status = g3_caller_new(&caller, document, &wish);
     if (status == G3_OK) status = talk(&caller, answerer, &end);
     if (status == G3_OK && is_again(end)) {
