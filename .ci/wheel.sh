@@ -82,10 +82,10 @@ if command -v mypy > /dev/null; then
     # each line has one error of a caller, which is found
     printf '%s\n' 'import g3fax' 'g3fax.encode([1, 2])' 'g3fax.decode("text")' 'g3fax.Page.of_rows(7)' 'g3fax.Deframer().feed(None)' \
         'g3fax.Answerer().hear([b""])' 'g3fax.write_signal(g3fax.Kind.MCF, g3fax.Side.CALLER)' 'g3fax.Document(g3fax.Page())' \
-        'g3fax.Caller([g3fax.Page()])' 'g3fax.encode_pixels([[0, 1]])' > "$to/wrong.py"
+        'g3fax.Caller([g3fax.Page()])' 'g3fax.encode_pixels([[0, 1]])' 'g3fax.Document().code("mmr")' > "$to/wrong.py"
     (cd "$to" && MYPYPATH=$to/unpacked mypy --strict --cache-dir="$to/mypy" wrong.py) > "$to/said" 2>&1 && fails "mypy of wrong calls"
-    for line in 2 3 4 5 6 7 8 9 10; do grep -q "^wrong.py:$line: error" "$to/said" || fails "mypy finds no error in line $line"; done
-    how="$how, and strict for mypy, which finds 9 wrong calls of 9"
+    for line in 2 3 4 5 6 7 8 9 10 11; do grep -q "^wrong.py:$line: error" "$to/said" || fails "mypy finds no error in line $line"; done
+    how="$how, and strict for mypy, which finds 10 wrong calls of 10"
 else
     how="$how; its types weren't checked: there is no mypy"
 fi
