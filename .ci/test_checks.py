@@ -1,6 +1,6 @@
 #!/usr/bin/env python3
-"""Sees each check of .ci/definitions.py, .ci/witnesses.py, .ci/house.py, .ci/cited.py, .ci/told.py and docs/book.py refuse what it is there
-for, by a change of what it reads:
+"""Sees each check of .ci/definitions.py, .ci/witnesses.py, .ci/house.py, .ci/cited.py, .ci/told.py, docs/book.py and docs/man/make_library.py
+refuse what it is there for, by a change of what it reads:
 
     .ci/test_checks.py
 
@@ -8,12 +8,15 @@ Nothing is written. Ends with status 1 at the first change that isn't refused. I
 
 import copy
 import sys
+from pathlib import Path
 
 sys.dont_write_bytecode = True
+sys.path.append(str(Path(__file__).resolve().parent.parent / "docs" / "man"))
 import cited
 import definitions as checks
 import edits
 import house
+import make_library
 import told
 import witnesses as given
 
@@ -259,6 +262,32 @@ def of_house():
     assert not house.grown({"long-files": ["a", "b", "c"]}, {"long-files": 2}, ["long-files"])
 
 
+def of_header():
+    """A status that a page doesn't list, by a test; and a number that changed, a function that the record hasn't, and one in the node of a
+    version that is out."""
+    header = (make_library.TOP / "bindings/g3fax.h").read_text()
+    exported = (make_library.TOP / "bindings/exports").read_text()
+    found = make_library.items(header)
+    for status, name in ("G3_NO_IMAGE", "g3_row_coder_take"), ("G3_FRAME_LOST", "g3_page_size"), ("G3_EMPTY_HANDLE", "g3_agree"):
+        yield refuses(status, lambda tests: make_library.untold(found, tests), "", f"    IS({status}, {name}(&it));", f"list {status}")
+    sizes = "    SIZES(it, g3_row_coder_take(&it, &o));"
+    yield refuses("a struct of another size", lambda tests: make_library.untold(found, tests), "", sizes, "list G3_BAD_SIZE")
+    open_, out = "## 0.1.0, unreleased\n", "## 0.1.1, unreleased\n\n## 0.1.0, 2026-01-01\n"
+
+    def recorded(changes):
+        return lambda texts: make_library.from_header.record_faults(header, *texts, changes)
+
+    sound = header, exported
+    assert not [*recorded(open_)(sound), *recorded(out)(sound)]
+    swapped = header.replace("G3_END_TRAINING = 4", "G3_END_TRAINING = 5").replace("G3_END_NO_REPLY = 5", "G3_END_NO_REPLY = 4"), exported
+    for changes in open_, out:
+        yield refuses("a number that changed", recorded(changes), sound, swapped, "G3_END_TRAINING was 4")
+    last = "uint64_t *count);\n"
+    more = header.replace(last, f"{last}void g3_later(g3_page *page);\n", 1), exported.replace("g3_agree;", "g3_later;\n    g3_agree;")
+    yield refuses("a function that the record hasn't", recorded(open_), sound, more, "isn't out")
+    yield refuses("a function in a node that is out", recorded(out), sound, more, "g3_later came after 0.1.0")
+
+
 def guarantees():
     """Rows that cite what no product calls, a law that does something, a clause of another function, and a definition of another row."""
     texts = house.house_here().texts
@@ -352,7 +381,7 @@ def plants():
 
 
 def main():
-    trials = (comments, clauses, documents, tables, at_size, links, witnesses, of_house, guarantees, words, plants)
+    trials = (comments, clauses, documents, tables, at_size, links, witnesses, of_house, of_header, guarantees, words, plants)
     seen = [name for trial in trials for name in trial()]
     print(f"test_checks: {len(seen)} changes are refused: {', '.join(seen)}")
 

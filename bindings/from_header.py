@@ -45,10 +45,9 @@ def numbers(text):
     return {name: int(number) for name, number in re.findall(r"\b(G3_\w+) = (\d+)", Header.plain(text))}
 
 
-def record_faults(changes):
-    """What differs from the header that bindings/tests/older has of a version: a number that changed or went; until that version is out, as the
-    change log says, anything; and from then on a name that was put into its node."""
-    old, new = [(HERE / name).read_text() for name in ("tests/older/g3fax.h", "g3fax.h")]
+def record_faults(old, new, exported, changes):
+    """What differs of a header from the record of a version: a number that changed or went; until that version is out, as the change log says,
+    anything; and from then on a name that was put into its node."""
     for name, number in numbers(old).items():
         if numbers(new).get(name) != number:
             yield f"{name} was {number} in bindings/tests/older/g3fax.h"
@@ -56,7 +55,7 @@ def record_faults(changes):
     number = int(re.search(r"G3_VERSION_NUMBER (\d+)", old)[1])
     version = f"{number // 10000}.{number // 100 % 100}.{number % 100}"
     if f"## {version}, unreleased\n" not in changes:
-        late = nodes((HERE / "exports").read_text())[f"G3FAX_{version}"] - {name for _, name, _ in one.functions}
+        late = nodes(exported)[f"G3FAX_{version}"] - {name for _, name, _ in one.functions}
         yield from (f"{name} came after {version}, which is out: a later VERSION gives it a node" for name in sorted(late))
     elif (one.structs, one.functions, numbers(old)) != (other.structs, other.functions, numbers(new)):
         yield f"bindings/tests/older/g3fax.h is another, and {version} isn't out: its head says how it is written"

@@ -159,12 +159,10 @@ def statuses(chosen):
     return [(numbers[name], name, text) for name, text in known if name in named or coded and 10 <= numbers[name] <= 18]
 
 
-def untold(found):
-    """Each status that bindings/tests or misuse.c has of a function, and that the function's page doesn't list."""
+def untold(found, tests):
+    """Each status that tests have of a function, and that the function's page doesn't list."""
     pages = {item.function: item.group() for item in found if item.function}
     listed = {group: [name for _, name, _ in statuses([item for item in found if item.group() == group])] for group, _, _ in GROUPS}
-    files = [*sorted((TOP / "bindings/tests").glob("*.c")), TOP / "bindings/c/misuse.c"]
-    tests = "\n".join(file.read_text() for file in files)
     shown = {(name, status) for status, name in re.findall(r"\bIS\((G3_\w+), (g3_\w+)\(", tests)}
     shown |= {(name, status) for name in re.findall(r"\bSPARES\([^,]*, (g3_\w+)\(", tests) for status in ("G3_NEWER_STRUCT",)}
     shown |= {(name, status) for name in re.findall(r"\bSIZES\([^,]*, (g3_\w+)\(", tests) for status in ("G3_BAD_SIZE", "G3_NEWER_STRUCT")}
@@ -227,22 +225,30 @@ def grouped(chosen):
     return told
 
 
+def faults():
+    """What the header's readers would miss: a status in its page, or what the record of a version has."""
+    tests = [*sorted((TOP / "bindings/tests").glob("*.c")), TOP / "bindings/c/misuse.c"]
+    old, new, exported = [(TOP / "bindings" / name).read_text() for name in ("tests/older/g3fax.h", "g3fax.h", "exports")]
+    return [*untold(items(new), "\n".join(file.read_text() for file in tests)),
+            *from_header.record_faults(old, new, exported, (TOP / "CHANGELOG.md").read_text())]
+
+
 def main():
     """Writes or compares the pages."""
     found = items((TOP / "bindings/g3fax.h").read_text())
     version = (TOP / "VERSION").read_text().strip()
     date = re.search(r"^## (?:.*, )?(\d{4}-\d\d-\d\d)$", (TOP / "CHANGELOG.md").read_text(), re.M)[1]
-    others = [*untold(found), *from_header.record_faults((TOP / "CHANGELOG.md").read_text())]
-    for line in others:
-        print(f"make_library.py: {line}")
     files = {TOP / f"docs/man/g3fax_{group}.3": page(group, about, found, version, date)
              for group, about, _ in GROUPS}
+    others = []
     for file, text in {**files, **from_header.written(version)}.items():
         if sys.argv[1:] != ["--check"]:
             file.write_text(text)
         elif not file.is_file() or file.read_text() != text:
-            others.append(file)
-            print(f"make_library.py: {file.relative_to(TOP)} would be another")
+            others.append(f"{file.relative_to(TOP)} would be another")
+    others += faults()
+    for line in others:
+        print(f"make_library.py: {line}")
     sys.exit(1 if others else 0)
 
 
