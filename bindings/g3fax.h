@@ -132,7 +132,7 @@ const char *g3_version(void);
 uint32_t g3_version_number(void);
 
 /* Pages: 0 to 20000 rows of 1 to 2432 pixels. A row is octets as in a raw PBM file: eight pixels an octet, the leftmost in the
- * highest bit, 1 black. G3_BAD_WIDTH: of no or more pixels. */
+ * highest bit, 1 black. G3_BAD_WIDTH: another width. */
 G3_CHECK g3_status g3_page_new(g3_page *out, uint32_t width, uint32_t fine);
 /* Appends a row of the first bits of octets; later bits are ignored. G3_BAD_LENGTH: too few octets. G3_TOO_MANY_ROWS: it has 20000. */
 G3_CHECK g3_status g3_page_push_row(g3_page *page, const uint8_t *octets, size_t length);
