@@ -57,6 +57,7 @@ each/image: no fax: PBM\neach/tiff: no fax: TIFF\neach/zeros: not read: identify
     try_each_mended
     try_each_words
     try_each_names
+    try_ascii_names
     try_each_new
     try_one_found
     try_likely
@@ -367,6 +368,80 @@ for octet in (name := sys.stdin.buffer.read()):
     gives 1 decode --each "$none" each/mh
     [ "$(cat "$work/error")" = "fault 8" ] && [ ! -s "$work/output" ] || fails "decode --each takes a folder that isn't UTF-8"
     rm "$none"
+}
+
+# ascii_names STATUS: docs/examples/ascii_names.py gives the names of each/asked so, in each/named, and says each/renamed.
+ascii_names() {
+    status=0
+    python3 -B "$top/docs/examples/ascii_names.py" each/links < each/asked > each/named 2> each/renamed || status=$?
+    [ "$status" = "$1" ] || fails "ascii_names.py ended with status $status: $(cat each/renamed)"
+    count=$((count + 1))
+}
+
+# A file whose name isn't UTF-8 is decoded by the link that docs/examples/ascii_names.py makes for it. Other names stay, and so does what is
+# there under a link's name.
+try_ascii_names() {
+    folder=each/in/$(printf 'na\357ve %%')
+    file=$(printf '%s/..\\\n\377' "$folder")
+    link="each/links/each/in/na%efve %25/..\\%0a%ff"
+    rm -rf each/out/* && mkdir -p "$folder"
+    cp each/mh "$file"
+    cp each/mh "$(printf 'each/in/h\303\251')"
+    printf '%s\0' each/mh "$file" > each/asked
+    printf 'each/in/h\303\251\0' >> each/asked
+    printf '%s\0' each/mh "$link" > each/wanted
+    printf 'each/in/h\303\251\0' >> each/wanted
+    printf '%s: %s\n' 'each/in/na\xefve %/..\\\x0a\xff' "$(printf %s "$link" | sed 's/\\/&&/g')" > each/said
+    for _ in first again; do
+        ascii_names 0
+        is_same each/named each/wanted "the names that ascii_names.py gives"
+        is_same each/renamed each/said "what ascii_names.py says"
+    done
+    gives 0 decode --each each/out --null --from each/named
+    [ "$(wc -l < "$work/output")" = 3 ] || fails "decode --each of these names: $(cat "$work/output")"
+    for image in each/mh "$link" "$(printf 'each/in/h\303\251')"; do
+        is_same "each/out/$image-0001.pbm" "$data/page.pbm" "the page of $image"
+    done
+    # the old name is read from the new one
+    python3 -B -c 'import sys, urllib.parse
+sys.stdout.buffer.write(urllib.parse.unquote_to_bytes(sys.argv[1]))' "${link#each/links/}" > each/found
+    printf %s "$file" > each/wanted
+    is_same each/found each/wanted "the old name in that of a link"
+    # by the root, and by a folder above, it lies below the links too
+    printf '%s\0' "$work/$file" "../${work##*/}/./$file" > each/asked
+    ascii_names 0
+    printf '%s\0' "each/links/${work#/}/${link#each/links/}" "each/links/%2e%2e/${work##*/}/${link#each/links/}" > each/wanted
+    is_same each/named each/wanted "the names of links by the root and a folder above"
+    rm -rf each/out/*
+    gives 0 decode --each each/out --null --from each/named
+    # what is there stays, and costs that file alone; a name that is too long does too
+    long=$(printf 'each/%0200d\377' 0 | sed 's/0/\o377/g')
+    printf '%s\0' "$file" each/mh "$long" > each/asked
+    printf 'each/mh\0' > each/wanted
+    for other in file elsewhere; do
+        rm "$link"
+        if [ $other = file ]; then echo mine > "$link"; else ln -s mine "$link"; fi
+        ascii_names 1
+        is_same each/named each/wanted "the names without a link"
+        [ "$(sed 's/.*: no link: //' each/renamed | tr '\n' ' ')" = "File exists File name too long " ] || fails "ascii_names.py says: $(cat each/renamed)"
+        [ "$(cat "$link" 2> /dev/null || readlink "$link")" = mine ] || fails "ascii_names.py replaced what was there"
+    done
+    # a folder that can't be made, or isn't UTF-8, and standard output that can't be written
+    for links in each/mh/links "$(printf 'each/\377')"; do
+        status=0
+        python3 -B "$top/docs/examples/ascii_names.py" "$links" < each/asked > each/named 2> each/renamed || status=$?
+        [ "$status $(wc -l < each/renamed)" = "1 1" ] && [ ! -s each/named ] || fails "ascii_names.py into a wrong folder: $status $(cat each/renamed)"
+    done
+    status=0
+    python3 -B "$top/docs/examples/ascii_names.py" each/links < each/asked > /dev/full 2> each/renamed || status=$?
+    [ "$status $(tail -n 1 each/renamed)" = "1 ascii_names.py: each/links: No space left on device" ] || fails "ascii_names.py to a full disk: $(cat each/renamed)"
+    for words in "" "each/links each/out" --help; do
+        status=0
+        python3 -B "$top/docs/examples/ascii_names.py" $words < each/asked > each/named 2> each/renamed || status=$?
+        [ "$status $(cat each/renamed)" = "2 usage: ascii_names.py LINKS < NAMES" ] || fails "ascii_names.py $words ended with status $status"
+    done
+    count=$((count + 6))
+    rm -rf each/links each/in each/out/*
 }
 
 # A page's image is a new file: what is there under its name stays, and costs that file alone.
