@@ -57,6 +57,7 @@ each/image: no fax: PBM\neach/tiff: no fax: TIFF\neach/zeros: not read: identify
     try_each_mended
     try_each_words
     try_each_names
+    try_each_early
     try_ascii_names
     try_each_new
     try_one_found
@@ -186,6 +187,22 @@ try_each_mended() {
     { head -c $((size - 1)) each/bad; printf '\377'; cat "$data/wide.mmr.lsb"; } > each/later
     unsought 1 --salvage "$way"
     rm -rf each/out/*
+}
+
+# try_each_early: damage in one of the first two rows of T.4 hides its width, so all rows are given only if that is said, as docs/ARCHIVE.md
+# has it.
+try_each_early() {
+    for bit in 15 17 42 44; do
+        python3 -B -c 'import sys
+octets, bit = bytearray(sys.stdin.buffer.read()), int(sys.argv[1])
+octets[bit // 8] ^= 0x80 >> bit % 8
+sys.stdout.buffer.write(octets)' "$bit" < "$data/page.mh.msb" > each/hidden
+        tells_each 1 "each/hidden: not read: identify may tell what it is\n" decode --repair --salvage --each each/out each/hidden
+        gives 0 decode --repair --code mh --width 315 --each each/out each/hidden
+        [ "$(head -n 1 "$work/output")" = "each/hidden: repaired 1 rows of page 1" ] && [ "$(wc -c < each/out/each/hidden-0001.pbm)" = "$(wc -c < "$data/page.pbm")" ] ||
+            fails "decode --each --code mh of a page with bit $bit turned: $(cat "$work/output")"
+        rm -rf each/out/*
+    done
 }
 
 # as_alone WORDS: a command of one file says a fault with these words and --explain; the line under the last file of a list is the same.
