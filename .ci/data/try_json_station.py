@@ -65,7 +65,8 @@ def told_text(record, why):
 
 def traced_text(record):
     word = "said" if "said" in record else "heard"
-    return f"{record['at']} {word} {texts.signal_text(record[word])}"
+    says = record[word]
+    return " ".join([str(record["at"]), word, texts.signal_text(says), *([says["name"]] if "name" in says else [])])
 
 
 def records(octets):
