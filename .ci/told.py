@@ -7,6 +7,7 @@ The words of a fault: the texts of the code and of the definitions are the same;
 of `#[error(..)]` and of g3_status_text are; the help says what the first sentence of docs/FAULTS.md says, and what g3_status_text says; and
 each fault line with words that a case of .ci/end_to_end or a document quotes has words that the program has. What differs today is listed
 below.
+The names of frames by their control fields: softfax has those of the program, and names none of these otherwise.
 The table "What to touch" of CONTRIBUTING.md: the files that it names are there, and each signal, fault, code, command and option stands in
 each of those that its row names for it.
 Prints what differs and ends with status 1, or prints one line of counts. .ci/test_checks.py sees each check fail. It needs Python's standard
@@ -24,6 +25,7 @@ FAULT_KINDS, FAULT_SPECS = "crates/faults/src/fault_kind.rt", "crates/faults/spe
 EXPLAIN, EXPLAIN_SPECS = "crates/faults/src/explain.rt", "crates/faults/specs/Explanations.antt"
 HELP, PAGE, TABLE = "crates/faxtool/src/args/fault_table.rt", "docs/man/faxtool.1", "docs/FAULTS.md"
 C_TEXTS, C_HEADER = "bindings/g3fax.c", "bindings/g3fax.h"
+NAMES, C_NAMES = "crates/captures/specs/OtherWords.antt", "bindings/c/softfax/names.h"
 LITERAL = re.compile(r'"((?:\\.|[^"\\])*)"')
 LEAST_WORDS = 4
 # The faults of which the help says something else than docs/FAULTS.md, those of which the library for C does than the crates, and than the
@@ -170,6 +172,18 @@ def program_texts(texts):
             whole = (re.sub(r"^\{\w*\}: ", "", it) for it in literals(text))
             found.update(it for it in whole if len(re.sub(r"\{[^}]*\}", "", it).split()) >= LEAST_WORDS)
     return [re.compile(re.sub(r"(?:\\\{.*?\\\})+", ".*", re.escape(it))) for it in found]
+
+
+def name_faults(texts):
+    """The control fields that softfax names otherwise than the program does. The first bit of a field that softfax hasn't is taken for 0."""
+    names = {int(field): name for field, name in re.findall(r'\((\d+), codes "([A-Z-]+)"\)', texts[NAMES])}
+    here = {int(field, 16): name for field, name in re.findall(r'\{(0x[0-9a-f]+), "([A-Z-]+)"\}', texts[C_NAMES])}
+    if len(names) < 60:
+        yield f"{NAMES} names {len(names)} control fields"
+    for field, name in names.items():
+        other = here.get(field, here.get(field & 0xFE))
+        if other != name:
+            yield f"{C_NAMES} names {field:02x} {other}, and {NAMES} {name}"
 
 
 def quote_faults(texts):
@@ -321,7 +335,7 @@ def read():
 
 def main():
     texts, here = read()
-    faults = [*wording_faults(texts), *quote_faults(texts), *touch_faults(texts, here)]
+    faults = [*wording_faults(texts), *name_faults(texts), *quote_faults(texts), *touch_faults(texts, here)]
     for fault in faults:
         print(f"told: {fault}")
     if not faults:
