@@ -4,5 +4,6 @@ mod FolderHeld
 mod FolderLemmas
 mod FolderSaid
 mod FromLemmas
+mod HeardData
 mod NoteLemmas
 mod TalkLemmas

@@ -241,12 +241,16 @@ gap_words at page = decimal at ++ (codes " gap before page " ++ (decimal page ++
 abbrev pub bare : List ℕ → List ℕ
 bare line = take (length line - 5) (drop 4 line)
 
+-- the record of what was heard at a time, and of its words, if there are some
+abbrev pub heard_as : ℕ → Data → List ℕ → Data
+heard_as at heard [] = object (member (codes "at") (count at) (member (codes "heard") heard no_members))
+heard_as at heard text = object (member (codes "at") (count at)
+    (member (codes "heard") heard
+    (member (codes "words") (words text) no_members)))
+
 -- the record of a frame that is no signal of these stations, heard at a time, by its control field and its words, if it has a name
 abbrev pub heard_record : ℕ → ℕ → List ℕ → Data
-heard_record at octet [] = object (member (codes "at") (count at) (member (codes "heard") (other_record octet) no_members))
-heard_record at octet text = object (member (codes "at") (count at)
-    (member (codes "heard") (other_record octet)
-    (member (codes "words") (words text) no_members)))
+heard_record at octet text = heard_as at (other_record octet) text
 
 -- what a content that is no signal of these stations is called: its words, or what the list of frames says of it
 abbrev pub heard_name : List ℕ → List ℕ → List ℕ

@@ -5,7 +5,7 @@ ghost use Rattle.captures.specs.Names.{code_name};
 ghost use Rattle.captures.specs.OtherWords.{other_words};
 ghost use Rattle.faults.specs.Faults.{IsOutside};
 ghost use Rattle.faults.specs.RecordLines.{record_line};
-ghost use Rattle.station_commands.specs.CallNotes.{bare, confirmed_record, gap_record, heard_record, page_record, state_record};
+ghost use Rattle.station_commands.specs.CallNotes.{bare, confirmed_record, gap_record, heard_as, heard_record, page_record, state_record};
 ghost use Rattle.station_commands.specs.CallNotes.{confirmed_words, gap_words, heard_words, lost_line, page_words};
 ghost use Rattle.serde_json.specs.View.{view};
 ghost use Rattle.std.specs.Io.KnownBytes.{Appends};
@@ -96,15 +96,22 @@ fn gap_record(alloc: Global, at: u64, page: u64) -> Result<Value, AllocError>
     json!(in alloc; {"at": at, "gap": page})
 }
 
+/// Returns the record of what was heard at a time, and of its words, if there are some.
+fn heard_as(alloc: Global, at: u64, heard: Value, words: &str) -> Result<Value, AllocError>
+    ensures { IfOk result (λ value. view value ≡ heard_as at (view heard) words.now) }
+{
+    if words.is_empty() {
+        return json!(in alloc; {"at": at, "heard": heard});
+    }
+    json!(in alloc; {"at": at, "heard": heard, "words": words})
+}
+
 /// A frame that is no signal of ours, by its control field and its words.
 fn heard_record(alloc: Global, at: u64, octet: u8, words: &str) -> Result<Value, AllocError>
     ensures { IfOk result (λ value. view value ≡ heard_record at octet words.now) }
 {
     let heard = signal_record(alloc, &Signal::Other(octet))?;
-    if words.is_empty() {
-        return json!(in alloc; {"at": at, "heard": heard});
-    }
-    json!(in alloc; {"at": at, "heard": heard, "words": words})
+    heard_as(alloc, at, heard, words)
 }
 
 /// A line of words without the four spaces before it, and its end.
@@ -267,6 +274,7 @@ pub(crate) fn write_gap<W: Write>(
 
 /// Writes the record of a frame that is no signal of ours, heard at a time, as one line: its control field, and its name and digits if it
 /// has some. Errors: as `write_page`.
+#[tactic(auto, using(crate::proofs::HeardData::heard_whole))]
 pub(crate) fn write_heard<W: Write>(
     alloc: Global,
     at: u64,
