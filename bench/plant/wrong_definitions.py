@@ -7,10 +7,10 @@ Code and definition that are wrong alike meet their contracts, so only a theorem
 such a body. Of each wrong body (or of those whose name has the WORD) this tells, from copies of the
 repository, where all edits of the body are made:
 
-  alike      whether the code still meets its contracts, by a check of the crate that it is in, or of
-             the one function of the line;
+  alike      whether the code still meets its contracts, by a check of the stations, or of the one function of the line; and
+             which laws of the stations refuse it (what calls such a law isn't tried);
   headline   which proofs refuse it, by a check of the headline of `line_sim` alone, over the wrong station; and
-             which clauses of the headline have no proof then;
+             which clauses of the headline have no proof then. Over a station that its laws refuse nothing is proved;
   run        which run of `bench/plant/wrong/runs.txt` isn't safe any more, by running the wrong code: so not only
              the proof but the headline itself is false of it.
 
@@ -211,18 +211,39 @@ def fallen(lines):
     return ", ".join(sorted(set(re.findall(r"returns-clause-(\w+)", "\n".join(lines)))))
 
 
-def judged(root, top, edits):
-    """What is told of a body: whether it is proved with its code, whether by the headline, and the runs that aren't safe."""
-    proofs, runs = f"{top}/proofs/crates", f"{top}/runs/crates"
-    planted(root, proofs, edits)
+def refusing(lines):
+    """The functions that a check has no proof of though all that they call is proved."""
+    return re.findall(r"^fn (\S+): not proved$", "\n".join(lines), re.M)
+
+
+def checked(edits, proofs):
+    """Whether code meets its contracts with these edits, and which laws of the stations refuse it; it is told."""
     line_alone = any(path == CALL for path, _, _ in edits)
     command = ["rt", "check", "--only", "caller_sends"] if line_alone else ["rt", "check"]
-    alike, lines = ran(command, f"{proofs}/{'line_sim' if line_alone else 'stations'}")
+    ended, lines = ran(command, f"{proofs}/{'line_sim' if line_alone else 'stations'}")
+    laws = refusing(lines)
+    alike = ended or bool(laws and goals(lines)) and all("::laws::" in name for name in laws)
     print(f"  alike: {'proved' if alike else told(lines)}", flush=True)
+    if alike and laws:
+        print(f"  laws: {', '.join(name.rpartition('::')[2] for name in laws)}\n    {told(lines)}", flush=True)
+    return alike, laws
+
+
+def stands(proofs):
+    """Whether the headline is proved; it is told."""
     ended, lines = ran(["rt", "check", "--only", "line_sim::laws::headline"], f"{proofs}/line_sim")
     safe = ended and are_proved(lines, 1)
     print(f"  headline: {'proved' if safe else told(lines)}", flush=True)
     print(f"  clauses: {'none falls' if safe else fallen(lines)}", flush=True)
+    return safe
+
+
+def judged(root, top, edits):
+    """What is told of a body: whether its code meets its contracts, whether no theorem refuses it, and whether some run isn't safe."""
+    proofs, runs = f"{top}/proofs/crates", f"{top}/runs/crates"
+    planted(root, proofs, edits)
+    alike, laws = checked(edits, proofs)
+    safe = not laws and stands(proofs)
     planted(root, runs, edits)
     write(f"{runs}/runs/src/lib.rt", RUNS)
     write(f"{runs}/runs/src/tests.rt", read(f"{root}/bench/plant/wrong/runs.txt"))
@@ -249,7 +270,7 @@ def tried(word=""):
                 print("the right bodies are refused", flush=True)
                 return 0, len(chosen) - 1
             count += bool(edits) and alike and not safe and broken
-    print(f"{count} of {len(chosen) - 1} bodies that are wrong in code and definition alike are refused by the headline and by a run")
+    print(f"{count} of {len(chosen) - 1} bodies that are wrong in code and definition alike are refused by a law or the headline, and by a run")
     return count, len(chosen) - 1
 
 
