@@ -6,11 +6,13 @@
 Each `old:` text of .ci/must-fail/*/*.edit, and of bench/plant/edits/*/*.edit, which the gate doesn't try, stands exactly once in the file
 that the edit names, after the pairs before it. The texts of bench/plant's wrong definitions, code and bodies that answer no memory stand in
 their files too, and the laws of its tables in their crates. docs/PLANTS.md names bugs that are there, the functions that they change and
-clauses of these, and has a record of those of bench that isn't too old; PROOF and CONTRIBUTING say of how many crates the gate's are. Each
-.rt and .antt file is as the kit's formatter writes it; and no module has the name of a library that its crate uses.
+clauses of these. Of each crate but those of tests there are five to ten in bench, and a record of these that isn't too old; so of bodies
+that are wrong in code and definition alike. PROOF and CONTRIBUTING say of how many crates the gate's are. Each .rt and .antt file is as the
+kit's formatter writes it; and no module has the name of a library that its crate uses.
 Prints what is wrong and ends with status 1, or prints one line of counts. It needs Python's standard library and the kit's
 `rattle`."""
 
+import collections
 import os
 import re
 import shutil
@@ -113,6 +115,20 @@ def body_faults(text):
             yield f"docs/PLANTS.md: {function} has no clause {clause}"
 
 
+def wrong_rows():
+    """How many wrong rows of its tables each crate has."""
+    import refuted
+
+    return collections.Counter(row["crate"] for row in refuted.all_rows())
+
+
+def record_faults():
+    """What is wrong with the record of the planted bugs that the gate doesn't try."""
+    import wrong_definitions
+
+    return plants.faults_here(wrong_rows(), len(wrong_definitions.WRONG))
+
+
 def count_faults():
     """What documents say of how many planted bugs there are, held against these."""
     import refuted
@@ -146,7 +162,7 @@ def main():
         wrong += unformatted(crate)
     for line in (TOP / "crates.txt").read_text().splitlines():
         wrong += shadowed(line)
-    wrong += plants.faults_here()
+    wrong += record_faults()
     wrong += body_faults(plants.PAGE.read_text())
     wrong += count_faults()
     others, lacking = texts_of_plants()
@@ -155,9 +171,6 @@ def main():
         print(f"edits: {fault}")
     if not wrong:
         print(f"edits: {len(edits)} edits and {others} others of bench/plant can be made, and the sources of {len(crates)} crates are formatted")
-        untried = plants.untried(plants.PAGE.read_text(), plants.edits_here())
-        if untried:
-            print(f"edits: `make plants` has not yet tried those of {', '.join(untried)}")
     return 1 if wrong else 0
 
 

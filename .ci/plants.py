@@ -12,15 +12,20 @@ OF_THE_GATE = TOP / ".ci" / "must-fail"
 PARTS = ("src", "specs", "proofs")
 RECORD = re.compile(r"(<!-- written: record -->\n).*?(\n<!-- end -->)", re.S)
 # A line of the record, which has few words: the documents may have so many together.
-FORM = "{:17}{:12}{:12}{:7}{:7}{}"
-HEADER = FORM.format("crate", "commit", "date", "bugs", "rows", "goals that became false")
-ROW = re.compile(r"^(\w+) +(\w+) +(\d{4}-\d\d-\d\d) +(\d+)/(\d+) +(\d+)/(\d+) +(\S+)$", re.M)
-# All bugs of bench/plant/edits take an hour on four processors; more would be tried less often.
-MOST_EDITS = 200
+FORM = "{:17}{:23}{:13}{}"
+HEADER = FORM.format("crate", "commit/day", "bugs+rows", "goals that became false")
+ROW = re.compile(r"^(\w+) +(\w+)/(\d{4}-\d\d-\d\d) +(\d+)/(\d+)\+(\d+)/(\d+) +(\S+)$", re.M)
+# All bugs of bench/plant/edits take an hour on four processors; more would be tried less often. Of each crate those are there that tell most.
+MOST_EDITS, OF_A_CRATE = 200, range(5, 11)
+# Crates of tests, of proved examples, and of a program for the gate: no product calls them.
+OF_TESTS = re.compile(r"\w+_tests|uses|stream_tool")
 # The crate that changes most had 25 commits on its busiest day, others a third of that: a record is then some days old at most, and a
 # bug that slipped through since is found while it is known who made the change.
 MOST_COMMITS = 30
 MOST_LINES = 60
+# The crates whose sources wrong_definitions.py changes, or proves anew.
+CALL = ("signals", "partial_page", "stations", "line_sim")
+ALIKE = re.compile(r"^Wrong in code and definition alike: (\d+)/(\d+) (\w+)/[\d-]+$", re.M)
 NUMBERS = {word: number for number, word in enumerate("one two three four five six seven eight nine ten".split(), 1)} | {"a": 1}
 
 Row = collections.namedtuple("Row", "crate commit date refused edits rows_refused rows goals")
@@ -34,8 +39,8 @@ def rows_of(text):
 
 def line_of(row):
     """The line of a row."""
-    bugs, rows = f"{row.refused}/{row.edits}", f"{row.rows_refused}/{row.rows}"
-    return FORM.format(row.crate, row.commit, row.date, bugs, rows, row.goals)
+    counts = f"{row.refused}/{row.edits}+{row.rows_refused}/{row.rows}"
+    return FORM.format(row.crate, f"{row.commit}/{row.date}", counts, row.goals)
 
 
 def goals_told(goals):
@@ -49,10 +54,15 @@ def goals_told(goals):
 def written(text, rows, alike=None):
     """A page with these rows in place of those of the same crates, and with what is told of bodies wrong in code and definition alike."""
     kept = {**rows_of(text), **{row.crate: row for row in rows}}
-    told = re.search(r"^Wrong in code and definition alike: .*$", text, re.M)
-    last = f"Wrong in code and definition alike: {alike}" if alike else told[0] if told else ""
+    told = ALIKE.search(text)
+    last = alike or (told[0] if told else "")
     lines = ["```text", HEADER, *(line_of(kept[name]) for name in sorted(kept)), "```"] + (["", last] if last else [])
     return RECORD.sub(lambda found: found[1] + "\n" + "\n".join(lines) + "\n" + found[2], text)
+
+
+def alike_told(refused, bodies, commit, date):
+    """The line of the record of bodies that are wrong in code and definition alike."""
+    return f"Wrong in code and definition alike: {refused}/{bodies} {commit}/{date}"
 
 
 def git(*words):
@@ -63,6 +73,11 @@ def git(*words):
 
 def sources(crate):
     return [f"crates/{crate}/{part}" for part in PARTS]
+
+
+def last_change(*crates):
+    """The last commit that changed the sources of one of these crates. It stays in the history, whatever becomes of commits of a record."""
+    return git("log", "-1", "--abbrev=10", "--format=%h", "--", *(part for crate in crates for part in sources(crate)))
 
 
 def commits_since(commit, crate):
@@ -76,8 +91,9 @@ def changed(crate):
     return bool(git("status", "--porcelain", "--", *sources(crate), f"bench/plant/edits/{crate}"))
 
 
-def faults(text, edits, since):
-    """What is wrong with a record: `edits` says how many bugs of each crate are there, and `since` counts the commits since one."""
+def faults(text, edits, wrong_rows, since):
+    """What is wrong with a record: `edits` and `wrong_rows` say how many bugs of each crate are there, and how many wrong rows of its tables;
+    `since` counts the commits since one."""
     if sum(edits.values()) > MOST_EDITS:
         yield f"bench/plant/edits has {sum(edits.values())} bugs, more than {MOST_EDITS}"
     lines = RECORD.search(text)
@@ -85,21 +101,31 @@ def faults(text, edits, since):
         yield f"docs/PLANTS.md has no record, or one of more than {MOST_LINES} lines"
     rows = rows_of(text)
     for crate, count in edits.items():
-        row = rows.get(crate)
+        row, wrong = rows.get(crate), wrong_rows.get(crate, 0)
+        if count not in OF_A_CRATE:
+            yield f"bench/plant/edits/{crate} has {count} bugs, and a crate has {OF_A_CRATE[0]} to {OF_A_CRATE[-1]}"
         if not row:
-            continue  # said by `untried`
-        if (row.refused, row.edits, row.rows_refused) != (count, count, row.rows):
+            yield f"docs/PLANTS.md has no row of {crate}"
+        elif (row.refused, row.edits, row.rows_refused, row.rows) != (count, count, wrong, wrong):
             yield (f"docs/PLANTS.md: of {crate}'s {count} planted bugs {row.refused} of {row.edits} were refused, "
-                   f"and of its wrong rows {row.rows_refused} of {row.rows}")
+                   f"and of its {wrong} wrong rows {row.rows_refused} of {row.rows}")
         elif (commits := since(row.commit, crate)) is None:
             yield f"docs/PLANTS.md: the history has no commit {row.commit}, of {crate}"
         elif commits > MOST_COMMITS:
             yield f"docs/PLANTS.md: {commits} commits have changed {crate} since its planted bugs were tried, more than {MOST_COMMITS}"
 
 
-def untried(text, edits):
-    """The crates whose planted bugs were never all tried."""
-    return sorted(edits.keys() - rows_of(text).keys())
+def alike_faults(text, bodies, since):
+    """What is wrong with the record of bodies that are wrong in code and definition alike, of which there are so many."""
+    told = ALIKE.search(text)
+    if not told or (int(told[1]), int(told[2])) != (bodies, bodies):
+        yield f"docs/PLANTS.md: {told[1] if told else 0} of {bodies} bodies that are wrong in code and definition alike were refused"
+        return
+    for crate in CALL:
+        if (commits := since(told[3], crate)) is None:
+            yield f"docs/PLANTS.md: the history has no commit {told[3]}, of wrong definitions"
+        elif commits > MOST_COMMITS:
+            yield f"docs/PLANTS.md: {commits} commits have changed {crate} since wrong definitions were tried, more than {MOST_COMMITS}"
 
 
 def wrong_bodies(text):
@@ -135,13 +161,20 @@ def count_faults(texts, crates, definitions):
 
 
 def edits_here():
-    """How many planted bugs each crate has that the gate doesn't try."""
-    return {folder.name: len(list(folder.glob("*.edit"))) for folder in sorted(EDITS.iterdir())}
+    """How many planted bugs each crate has that the gate doesn't try, also one that has none; without crates of tests."""
+    crates = re.findall(r"^(\w+).*:", (TOP / "crates.txt").read_text(), re.M)
+    names = {*(name for name in crates if not OF_TESTS.fullmatch(name)), *(folder.name for folder in EDITS.iterdir())}
+    return {name: len(list((EDITS / name).glob("*.edit"))) for name in sorted(names)}
 
 
-def faults_here():
-    """What is wrong with the record of this repository; of a tree without history, nothing."""
+def faults_here(wrong_rows, bodies):
+    """What is wrong with the record of this repository; of a tree without history, nothing. `wrong_rows` is how many each crate has, and
+    `bodies` how many there are that are wrong in code and definition alike."""
     named = list(named_faults(PAGE.read_text(), lambda bug: (OF_THE_GATE / f"{bug}.edit").is_file()))
     if git("rev-parse", "HEAD") is None:
         return named
-    return named + [f"{fault}; make plants tries them" for fault in faults(PAGE.read_text(), edits_here(), commits_since)]
+    text = PAGE.read_text()
+    found = list(faults(text, edits_here(), wrong_rows, commits_since))
+    if ALIKE.search(text):
+        found += alike_faults(text, bodies, commits_since)
+    return named + [f"{fault}; make plants tries them" for fault in found]

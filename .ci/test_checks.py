@@ -370,7 +370,8 @@ def words():
 
 
 def plants():
-    """Texts of bench/plant that don't stand in their files any more, a law that is gone, and a test that the page doesn't name."""
+    """Texts of bench/plant that don't stand in their files any more, a law that is gone, a test that the page doesn't name, and a record that
+    lacks something."""
     crates = checks.TOP / "crates"
     assert not edits.texts_of_plants()[1]
     pairs = wrong_definitions.WRONG["normal end after MPS"]
@@ -381,6 +382,18 @@ def plants():
     yield refuses("a wrong row of no file", lambda own: edits.pair_faults(own, crates / row["crate"]), row["edits"], moved, "no file")
     yield refuses("a wrong row of no law", edits.law_faults, row, {**row, "law": f"{row['law']}Gone"}, "no law")
     assert all(no_memory.test_of(call) for call in no_memory.CALLS)
+    page, counts = edits.plants.PAGE.read_text(), (edits.plants.edits_here(), edits.wrong_rows())
+
+    def record(text, bugs=counts[0], rows=counts[1]):
+        return edits.plants.faults(text, bugs, rows, lambda _commit, _crate: 0)
+
+    line = edits.plants.line_of(edits.plants.rows_of(page)["stations"])
+    yield refuses("a crate without a record", record, page, page.replace(f"{line}\n", ""), "no row of stations")
+    for count in (4, 11):
+        bugs = {**counts[0], "stations": count}
+        yield refuses(f"a crate of {count} planted bugs", lambda own: record(page, own), counts[0], bugs, f"stations has {count} bugs")
+    more = {**counts[1], "stations": counts[1]["stations"] + 1}
+    yield refuses("a wrong row that wasn't tried", lambda own: record(page, rows=own), counts[1], more, "of stations's")
 
 
 def main():

@@ -12,6 +12,8 @@ import edits
 import plants
 import refusals
 
+import wrong_definitions  # of bench/plant, which edits adds to the path
+
 # Sentences of the kit, each with the name of the goal that it says became false, or None.
 SENTENCES = [
     ("./proofs/page/Page/new/Answers.antt:7:20: error: `returns`: `omega`: the goal does not follow from what it read. All of that holds, and "
@@ -42,8 +44,8 @@ PAGE = """# Planted bugs
 <!-- written: record -->
 
 ```text
-crate            commit      date        bugs   rows   goals that became false
-hdlc             1234567     2026-01-31  9/9    6/6    ok:5,returns:10
+crate            commit/day             bugs+rows    goals that became false
+hdlc             1234567/2026-01-31     9/9+6/6      ok:5,returns:10
 ```
 
 <!-- end -->
@@ -58,21 +60,27 @@ def tries_sentences():
     wanted = [line for line, goal in SENTENCES if goal]
     assert refusals.goals(lines) == wanted
     assert refusals.is_read(lines) and not refusals.is_read(lines[1:2])
+    calls = ["fn a::laws::b: not proved", "fn a::c: no proof: it calls `b`, which is not proved", "fn a::d: not proved; it calls `c`, which .."]
+    assert wrong_definitions.refusing(calls) == ["a::laws::b"]
     assert refusals.are_proved(["only=1 proved=1 x"], 1) and not refusals.are_proved(lines, 3) and not refusals.are_proved(["only=1 proved=10"], 1)
     return len(SENTENCES)
 
 
 def tries_records():
     """A record of which all is right, and each fault of one."""
-    def said(text=PAGE, edits=None, since=plants.MOST_COMMITS):
-        return list(plants.faults(text, edits or {"hdlc": 9}, lambda _commit, _crate: since))
+    def said(text=PAGE, edits=None, rows=6, since=plants.MOST_COMMITS):
+        return list(plants.faults(text, edits or {"hdlc": 9}, {"hdlc": rows}, lambda _commit, _crate: since))
 
     assert said() == []
     wrong = {
-        "more than 200": said(edits={"hdlc": 201}),
+        "201 bugs, more than 200": said(edits={"hdlc": 9, **{f"crate{number}": 8 for number in range(24)}}),
+        "hdlc has 11 bugs, and a crate has 5 to 10": said(edits={"hdlc": 11}),
+        "hdlc has 4 bugs, and a crate has 5 to 10": said(edits={"hdlc": 4}),
+        "has no row of stations": said(edits={"hdlc": 9, "stations": 9}),
         "of hdlc's 10 planted bugs 9 of 9": said(edits={"hdlc": 10}),
         "9 planted bugs 8 of 9": said(PAGE.replace("9/9", "8/9")),
-        "wrong rows 5 of 6": said(PAGE.replace("6/6", "5/6")),
+        "6 wrong rows 5 of 6": said(PAGE.replace("6/6", "5/6")),
+        "7 wrong rows 6 of 6": said(rows=7),
         "no commit 1234567": said(since=None),
         "31 commits have changed hdlc": said(since=31),
         "has no record, or one": said(PAGE.replace("\n\n<!--", 60 * "\nline" + "\n\n<!--", 2)),
@@ -86,12 +94,18 @@ def tries_records():
         return list(plants.named_faults(text, lambda bug: bug == "hdlc/y"))
 
     assert named(table[:table.index("| two")]) == [] and len(named(table)) == 1 and len(named(table.replace("`hdlc/x`", ""))) == 1 and named("")
-    assert plants.untried(PAGE, {"hdlc": 9, "stations": 9}) == ["stations"]
     row = plants.Row("calls", "89abcde", "2026-02-01", 2, 2, 3, 3, plants.goals_told(["ok", "ok", "returns"]))
-    anew = plants.written(PAGE, [row], "7 of 7")
-    assert set(plants.rows_of(anew)) == {"hdlc", "calls"} and plants.rows_of(anew)["calls"] == row and "alike: 7 of 7" in anew
+    anew = plants.written(PAGE, [row], plants.alike_told(7, 7, "89abcde", "2026-02-01"))
+    assert set(plants.rows_of(anew)) == {"hdlc", "calls"} and plants.rows_of(anew)["calls"] == row and "alike: 7/7" in anew
     assert plants.written(anew, [row]) == anew
-    return len(wrong)
+
+    def said_alike(text=anew, bodies=7, since=plants.MOST_COMMITS):
+        return list(plants.alike_faults(text, bodies, lambda _commit, _crate: since))
+
+    assert said_alike() == []
+    bad = [said_alike(PAGE), said_alike(bodies=8), said_alike(anew.replace("7/7", "6/7")), said_alike(since=None), said_alike(since=31)]
+    assert all(bad), bad
+    return len(wrong) + len(bad)
 
 
 def tries_bodies():
