@@ -34,7 +34,9 @@ CALLS = {
     "BlockStore::put": ("partial_page", "store.rt", "        self.make_ready()?;\n        self.keep(n, octets);\n", "Err(BlockFault::NoMemory)",
                         "n > 200"),
     "Answerer::step": ("stations", "answerer.rt", "        self.advance(input)\n", "Err(AllocError)", "self.pages.len() > 200"),
-    "World::event": ("line_sim", "world.rt", "        self.apply(event)\n", "Err(AllocError)", "self.transcript.len() > 5_000"),
+    "World::event": ("line_sim", "world.rt", "        self.apply(event)\n", "Err(AllocError)", "self.transcript.len() > 1_500"),
+    # it makes events, and its test 66,834 of them
+    "World::polite": ("line_sim", "world.rt", "        self.apply(event)\n", "Err(AllocError)", "self.transcript.len() > 5_000"),
     "code_engine": ("page_files", "pages.rt", "    let page = read_image(alloc, reader)?;\n    write_code(alloc, &page, coding, order, writer)\n",
                     "Err(ToolFault::No(9))",
                     "    let page = read_image(alloc, reader)?;\n    if page.rows().len() > 15_000 {\n        return WRONG;\n    }\n"
