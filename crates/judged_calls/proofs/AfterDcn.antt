@@ -20,14 +20,13 @@ use Rattle.stations.specs.declared.turn.Turn.{Turn}
 use Rattle.stations.specs.declared.turn.Turn.TheVariants as turn
 use Rattle.line_sim.specs.Line.{World, Outcome, Done, Nothing, InputLost, Cut, sent, new_world, caller_sends, answerer_sends}
 use Rattle.line_sim.specs.Line.{caller_acts, answerer_acts}
-use Rattle.line_sim.specs.declared.event.Event.TheVariants as event
 use Rattle.referee.specs.History.{PlainSaid, look, is_fcd}
 use Rattle.referee.specs.Questions.{tell, is_dcn, same_side}
 use Rattle.referee.specs.declared.question.Question.TheVariants.{HasEnded}
 use Rattle.referee.specs.declared.rule.Rule.TheVariants.{Ended}
 use Rattle.judged_calls.proofs.Events.{PartsKeep, run_keeps, Any, all_any, NoFact}
 use Rattle.judged_calls.proofs.OwnSignals.{each_append, sent_each}
-use Rattle.judged_calls.specs.SaidCalls.{and_said, caller_speaks, answerer_speaks, speaks, Keeps, RuleIsKept}
+use Rattle.judged_calls.specs.SaidCalls.{and_said, caller_speaks, answerer_speaks, Keeps, RuleIsKept}
 
 -- whether a station has said DCN, and whether an FCD came since says nothing of it
 abbrev pub ended_said : Side → Bool → List PlainSaid → Bool

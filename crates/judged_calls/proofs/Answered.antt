@@ -36,7 +36,6 @@ use Rattle.line_sim.specs.Line.{World, Outcome, Done, Nothing, InputLost, Cut, s
 use Rattle.line_sim.specs.Line.{caller_acts, answerer_acts, spoiled}
 use Rattle.line_sim.specs.LineFacts.{LineFacts, MayReachAnswerer}
 use Rattle.line_sim.specs.declared.event.Event.{Event}
-use Rattle.line_sim.specs.declared.event.Event.TheVariants as event
 use Rattle.referee.specs.History.{PlainSaid, look, is_fcd}
 use Rattle.referee.specs.Questions.{tell, is_dcs}
 use Rattle.referee.specs.Rules.{is_not_trained, has_no_command}

@@ -22,12 +22,10 @@ use Rattle.stations.specs.declared.turn.End.TheVariants.{PeerLeft}
 use Rattle.stations.specs.declared.turn.Turn.{Turn}
 use Rattle.stations.specs.declared.turn.Turn.TheVariants as turn
 use Rattle.line_sim.proofs.Lists.{either}
-use Rattle.line_sim.specs.Entries.{heard}
 use Rattle.line_sim.specs.Headline.{LineHolds}
 use Rattle.line_sim.specs.Line.{World, Outcome, Done, Nothing, InputLost, Cut, sent, new_world, caller_sends, answerer_sends}
 use Rattle.line_sim.specs.Line.{caller_acts, answerer_acts}
 use Rattle.line_sim.specs.LineFacts.{LineFacts, MayReachAnswerer}
-use Rattle.line_sim.specs.declared.event.Event.TheVariants as event
 use Rattle.referee.specs.History.{PlainSaid}
 use Rattle.referee.specs.Rules.{is_not_busy}
 use Rattle.referee.specs.declared.question.Question.TheVariants.{IsBusy}

@@ -21,13 +21,11 @@ use Rattle.stations.specs.declared.turn.CallerState.TheVariants.{WaitDis, WaitCf
 use Rattle.stations.specs.declared.turn.End.{End}
 use Rattle.stations.specs.declared.turn.Turn.{Turn}
 use Rattle.stations.specs.declared.turn.Turn.TheVariants as turn
-use Rattle.line_sim.specs.Entries.{heard}
 use Rattle.line_sim.specs.Headline.{LineHolds}
 use Rattle.line_sim.specs.Line.{World, Outcome, Done, Nothing, InputLost, Cut, sent, new_world, caller_sends, answerer_sends}
 use Rattle.line_sim.specs.Line.{caller_acts, answerer_acts}
 use Rattle.line_sim.specs.LineFacts.{LineFacts}
 use Rattle.line_sim.specs.declared.event.Event.{Event}
-use Rattle.line_sim.specs.declared.event.Event.TheVariants as event
 use Rattle.referee.specs.History.{PlainSaid, look, is_fcd}
 use Rattle.referee.specs.Questions.{tell, of_caller, unless_dcn, is_dcs, asks_for_answer, is_not_below}
 use Rattle.referee.specs.Rules.{is_no_burst, is_out_of_order}

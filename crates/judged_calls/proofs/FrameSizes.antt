@@ -25,7 +25,6 @@ use Rattle.line_sim.specs.Headline.{LineHolds}
 use Rattle.line_sim.specs.Line.{World, Outcome, Done, Nothing, InputLost, Cut, sent, new_world, caller_sends, answerer_sends}
 use Rattle.line_sim.specs.Line.{caller_acts, answerer_acts, spoiled}
 use Rattle.line_sim.specs.LineFacts.{LineFacts, IsOneGroup, Phase}
-use Rattle.line_sim.specs.declared.event.Event.TheVariants as event
 use Rattle.referee.specs.History.{PlainSaid, is_fcd}
 use Rattle.referee.specs.Rules.{has_bad_length}
 use Rattle.referee.specs.declared.rule.Rule.TheVariants.{BadLength}

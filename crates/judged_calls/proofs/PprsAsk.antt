@@ -37,7 +37,6 @@ use Rattle.line_sim.specs.Line.{World, Outcome, Done, Nothing, InputLost, Cut, s
 use Rattle.line_sim.specs.Line.{caller_acts, answerer_acts, spoiled}
 use Rattle.line_sim.specs.LineFacts.{LineFacts, AskedFits, SaysBlock, MayReachAnswerer}
 use Rattle.line_sim.specs.declared.event.Event.{Event}
-use Rattle.line_sim.specs.declared.event.Event.TheVariants as event
 use Rattle.referee.proofs.Numbers.{here, nowhere}
 use Rattle.referee.specs.Frames.{asked, holds, some_frame}
 use Rattle.referee.specs.History.{PlainSaid, look}

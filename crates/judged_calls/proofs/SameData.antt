@@ -26,7 +26,6 @@ use Rattle.line_sim.proofs.Lists.{either}
 use Rattle.line_sim.specs.Line.{World, Outcome, Done, Nothing, InputLost, Cut, sent, new_world, caller_sends, answerer_sends}
 use Rattle.line_sim.specs.Line.{caller_acts, answerer_acts}
 use Rattle.line_sim.specs.LineFacts.{frame_at}
-use Rattle.line_sim.specs.declared.event.Event.TheVariants as event
 use Rattle.referee.specs.History.{PlainSaid, look, is_fcd}
 use Rattle.referee.specs.Questions.{other_data_by, begins_block}
 use Rattle.referee.specs.Rules.{has_new_data}
@@ -34,7 +33,7 @@ use Rattle.referee.specs.declared.rule.Rule.TheVariants.{NewData}
 use Rattle.judged_calls.proofs.OwnSignals.{each_append, sent_each}
 use Rattle.judged_calls.proofs.AfterDcn.{sent_none}
 use Rattle.judged_calls.proofs.Events.{KnownToCaller, caller_takes, each_rest, PartsKeep, run_keeps, Any, all_any, NoFact}
-use Rattle.judged_calls.specs.SaidCalls.{and_said, caller_speaks, answerer_speaks, speaks, Keeps, RuleIsKept}
+use Rattle.judged_calls.specs.SaidCalls.{and_said, caller_speaks, answerer_speaks, Keeps, RuleIsKept}
 
 -- ---- what was said of a frame's data
 
