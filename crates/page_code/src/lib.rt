@@ -21,5 +21,5 @@ pub use crate::page_rows::{MAX_HELD, NextRow, RowReader};
 pub use crate::row_coder::RowCoder;
 pub use crate::t6::T6;
 pub use crate::t6::page_end::RowsToEnd;
-pub use crate::turned::turn_from;
+pub use crate::turned::{code_of, turn_from, turned_code};
 pub use raster::Coding;

@@ -59,7 +59,7 @@ fn turned_on(octets: &[u8], kept: Vec<u8>) -> Result<Vec<u8>, AllocError>
 
 /// The code of a page turned, if the least significant bit comes first and there are 4 MiB at most; else no
 /// octets. Octets that are kept turned already aren't turned again. Errs only if memory is refused.
-pub(crate) fn turned_code(
+pub fn turned_code(
     alloc: Global,
     octets: &[u8],
     order: Order,
@@ -81,7 +81,7 @@ pub(crate) fn turned_code(
 
 /// The octets from which a page is read, and their order of bits: the turned ones, if there are any.
 #[inline(always)]
-pub(crate) fn code_of<'a>(octets: &'a [u8], order: Order, turned: &'a [u8]) -> (&'a [u8], Order)
+pub fn code_of<'a>(octets: &'a [u8], order: Order, turned: &'a [u8]) -> (&'a [u8], Order)
     requires { IsTurnedCode order octets.now turned.now }
     ensures { bits_of result.1 result.0.now ≡ bits_of order octets.now }
 {
