@@ -189,14 +189,32 @@ try_each_mended() {
     rm -rf each/out/*
 }
 
-# try_each_early: damage in one of the first two rows of T.4 hides its width, so all rows are given only if that is said, as docs/ARCHIVE.md
-# has it.
-try_each_early() {
-    for bit in 15 17 42 44; do
-        python3 -B -c 'import sys
+# turned BIT: the octets of standard input, with this bit turned.
+turned() {
+    python3 -B -c 'import sys
 octets, bit = bytearray(sys.stdin.buffer.read()), int(sys.argv[1])
 octets[bit // 8] ^= 0x80 >> bit % 8
-sys.stdout.buffer.write(octets)' "$bit" < "$data/page.mh.msb" > each/hidden
+sys.stdout.buffer.write(octets)' "$1"
+}
+
+# try_each_early: damage in the first row of T.4 hides its width, and so does damage in the second if the width is no usual one. So all rows
+# are given only if it is said, as docs/ARCHIVE.md has it. In a usual width the first row is enough, whatever bit of the second is turned.
+try_each_early() {
+    python3 -B -c 'import sys
+rows = [bytes(216), b"\xf0" + bytes(215), b"\x0f\xf0" + bytes(214), b"\xff" * 216]
+for name, some in (("sent", rows), ("copied", [rows[0], *rows[:1], *rows[2:]])):
+    with open(f"each/{name}.pbm", "wb") as file:
+        file.write(b"P4\n1728 4\n" + b"".join(some))'
+    works code --code mh each/sent.pbm each/sent.mh
+    for bit in $(seq 41 61); do
+        turned "$bit" < each/sent.mh > each/turned
+        gives 0 decode --repair --salvage --each each/out each/turned
+        [ "$(head -n 1 "$work/output")" = "each/turned: repaired 1 rows of page 1" ] || fails "bit $bit of the second row: $(cat "$work/output")"
+        is_same each/out/each/turned-0001.pbm each/copied.pbm "the rows of a page with bit $bit turned"
+        rm -rf each/out/*
+    done
+    for bit in 15 17 42 44; do
+        turned "$bit" < "$data/page.mh.msb" > each/hidden
         tells_each 1 "each/hidden: not read: identify may tell what it is\n" decode --repair --salvage --each each/out each/hidden
         gives 0 decode --repair --code mh --width 315 --each each/out each/hidden
         [ "$(head -n 1 "$work/output")" = "each/hidden: repaired 1 rows of page 1" ] && [ "$(wc -c < each/out/each/hidden-0001.pbm)" = "$(wc -c < "$data/page.pbm")" ] ||

@@ -12,10 +12,10 @@ use Rattle.page_files.specs.declared.two_dim.TwoDim.{TwoDim}
 abbrev pub chance_rows : ℕ
 chance_rows = 15
 
--- Octets that begin with so many rows in this code are a damaged page. An EOL ends each row of T.4, but one row comes by chance where a page of
--- T.4 in two dimensions begins; rows of T.6 must be more than come by chance.
+-- Octets that begin with so many rows in this code are a damaged page. Those that begin so in T.4 are known by these rows (`HasBegun`); rows
+-- of T.6 must be more than come by chance.
 abbrev pub is_page_in : Coding → ℕ → Bool
-is_page_in OneDim rows = nat_lt 1 rows
+is_page_in OneDim rows = nat_lt 0 rows
 is_page_in T6 rows = nat_lt chance_rows rows
 
 -- octets that begin with rows in this way are a damaged page
@@ -24,7 +24,7 @@ is_damaged_page way = is_page_in way.form.coding way.rows
 
 -- octets with so many rows in this code are decoded: if they are a damaged page, and if such pages are asked for, also as T.6 with few rows
 abbrev pub is_taken_in : Coding → Bool → ℕ → Bool
-is_taken_in OneDim asked rows = nat_lt 1 rows
+is_taken_in OneDim asked rows = nat_lt 0 rows
 is_taken_in T6 asked rows = asked || nat_lt chance_rows rows
 
 -- octets that read furthest in this way are decoded
@@ -36,8 +36,8 @@ abbrev pub two_dim_beside : Coding → Option TwoDim → Option TwoDim
 two_dim_beside OneDim said = None
 two_dim_beside T6 said = said
 
--- What octets say of themselves in T.4 in two dimensions, if that is taken for true: they read as no page, and no two rows of T.4 are read;
--- rows of T.6 come by chance.
+-- What octets say of themselves in T.4 in two dimensions, if that is taken for true: they read as no page, and aren't known as T.4; rows of
+-- T.6 come by chance.
 abbrev pub two_dim_among : Found → Option TwoDim → Option TwoDim
 two_dim_among (found.Format name) said = None
 two_dim_among (found.Page way) said = None

@@ -2,6 +2,7 @@
 use Rattle.std.specs.Prelude.{ℕ, ◌≡◌, Bool, IfSome, List, Option, Some, None, Result, Ok, Err, if◌then◌else◌}
 use Rattle.page_files.specs.Found.{FindsBy}
 use Rattle.page_files.specs.LaterPages.{BeginsWith, asks_damaged}
+use Rattle.page_files.specs.Sources.{IsPageIn}
 use Rattle.page_files.specs.declared.found.Found.{Found}
 use Rattle.page_files.specs.declared.found.Found.TheVariants as found
 use Rattle.page_files.specs.declared.options.DecodeOptions.{DecodeOptions}
@@ -44,9 +45,9 @@ abbrev pub form_in : Result Way FileEnd → Result PageForm FileEnd
 form_in (Ok way) = Ok way.form
 form_in (Err end) = Err end
 
--- octets begin with a page's code of as many bits as a way knows
+-- octets begin with a page's code of as many bits as a way knows, and with the page that it has
 abbrev pub BeginsSo : List ℕ → Way → Type 0
-BeginsSo octets way = IfSome way.used (BeginsWith way.form octets)
+BeginsSo octets way = IfSome way.used (BeginsWith way.form octets) × IfSome way.page (IsPageIn octets)
 
 -- how octets are decoded: in the form that is given, or else as they are identified
 abbrev pub IsFormOf : Option PageForm → Option ℕ → DecodeOptions → Bool → List ℕ → Result PageForm FileEnd → Type 0

@@ -9,13 +9,13 @@ use page_files::{Found, Tried, TwoDim, two_dim_of};
 /// How many rows of T.6 octets have at most that are no page of it: a few, by chance.
 pub(crate) const CHANCE_ROWS: u32 = 15;
 
-/// Returns whether octets that begin with rows in this way are a damaged page. An EOL ends each row of T.4, but one row comes by chance where a
-/// page of T.4 in two dimensions begins; rows of T.6 must be more than come by chance.
+/// Returns whether octets that begin with rows in this way are a damaged page. Those that begin so in T.4 are known by these rows; rows of T.6
+/// must be more than come by chance.
 pub(crate) fn is_damaged_page(way: &Tried) -> bool
     ensures { result ≡ is_damaged_page way.now }
 {
     match way.form.coding {
-        Coding::OneDim => way.rows > 1,
+        Coding::OneDim => way.rows > 0,
         Coding::T6 => way.rows > CHANCE_ROWS as usize,
     }
 }
@@ -26,13 +26,13 @@ pub(crate) fn is_taken(asked: bool, way: &Tried) -> bool
     ensures { result ≡ is_taken asked way.now }
 {
     match way.form.coding {
-        Coding::OneDim => way.rows > 1,
+        Coding::OneDim => way.rows > 0,
         Coding::T6 => asked || way.rows > CHANCE_ROWS as usize,
     }
 }
 
-/// Returns what octets that are this say of themselves in T.4 in two dimensions, if that is taken for true: they read as no page, and no
-/// two rows of T.4 are read. Rows of T.6 come by chance.
+/// Returns what octets that are this say of themselves in T.4 in two dimensions, if that is taken for true: they read as no page, and
+/// aren't known as T.4. Rows of T.6 come by chance.
 fn two_dim_among(found: &Found, said: Option<TwoDim>) -> Option<TwoDim>
     ensures { result ≡ two_dim_among found.now said }
 {

@@ -52,6 +52,16 @@ module _ (form : PageForm) (octets image : List ℕ) (page : PagePixels) (writes
     not_written = writes.1;
   }
 
+-- a page that was read before, unless all rows are asked for
+pub found_gives : (broken : Broken) (form : PageForm) (octets image lines : List ℕ) (page : PagePixels) (bits : ℕ) → broken ≢ AllRows
+    → ReadsPage (ReadsIn form.coding) form.width form.fine (bits_of form.order octets) page bits
+    → WritesPage page (Some []) (Some image) → lines ≡ [] → GivesPage broken form octets (End bits) (length page.rows) image lines
+found_gives Nothing form octets image lines page bits some reads writes none =
+    (whole form octets image page writes form.coding bits reads, none)
+found_gives WholeRows form octets image lines page bits some reads writes none =
+    (whole form octets image page writes form.coding bits reads, none)
+found_gives AllRows form octets image lines page bits some reads writes none = absurd (some refl)
+
 -- ---- why nothing is given
 
 pub refused_code : (coding : Coding) (order : Order) (width : ℕ) (octets : List ℕ) (code : RefusedCode)

@@ -5,6 +5,7 @@ mod DecodedRows
 mod PageEnds
 mod LaterPages
 mod TurnedPages
+mod Sources
 mod FirstImage
 mod Furthest
 mod RepairedLines
@@ -19,5 +20,6 @@ mod RefusedRows
 mod RepairsMean
 mod RepairsT6
 mod Identifying
+mod IdentifyLaws
 mod OwnWidths
 mod NoEols

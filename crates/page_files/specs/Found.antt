@@ -3,12 +3,15 @@ use Rattle.std.specs.Prelude.{ℕ, ◌≡◌, ◌<◌, ◌≤◌, ◌⊎◌, Lis
 use Rattle.std.specs.List.{filter}
 use Rattle.page_code.specs.declared.Coding.{Coding}
 use Rattle.page_code.specs.declared.Coding.TheVariants.{OneDim, T6}
+use Rattle.raster.specs.declared.packed.Order.{Order}
 use Rattle.raster.specs.declared.packed.Order.TheVariants.{LsbFirst, MsbFirst}
 use Rattle.raster.specs.Packed.{bits_of}
-use Rattle.page_files.specs.Identified.{AreOneDimTried, AreTried, AreTwoDim, IsWay, ReadsTo, fits_one, format_line, format_of, identity_of, no_eols_line}
+use Rattle.page_files.specs.Identified.{AreOneDimTried, AreTried, AreTwoDim, IsWay, ReadsTo, fits_one, format_line, format_of, identity_of, least_lines}
+use Rattle.page_files.specs.Identified.{no_eols_line}
 use Rattle.page_files.specs.Identified.{tried_line, tried_widths, two_dim_line, wide_line}
 use Rattle.page_files.specs.NoEols.{FirstAlone}
 use Rattle.page_files.specs.declared.found.Found.{Found}
+use Rattle.page_files.specs.declared.found.SaidWidths.{SaidWidths}
 use Rattle.page_files.specs.declared.found.Found.TheVariants as found
 use Rattle.page_files.specs.declared.identify.Fit.TheVariants.{Whole, NoEofb, Early, Mended, Begun}
 use Rattle.page_files.specs.declared.identify.Identity.{Identity}
@@ -27,40 +30,45 @@ abbrev pub best_of : List ℕ → List Tried → Option Tried
 best_of octets tried = or_way (find (fits_one Whole octets) tried) (or_way (find (fits_one NoEofb octets) tried)
     (or_way (find (fits_one Early octets) tried) (find (fits_one Mended octets) tried)))
 
--- The least rows by which damaged octets are known in a code. One row of T.4 comes by chance in octets of T.6, and where a page of T.4 in two
--- dimensions begins.
-abbrev pub least_rows : Coding → ℕ
-least_rows OneDim = 2
-least_rows T6 = 1
+-- what octets say in this order of bits
+abbrev pub said_in : Order → Said → Option ℕ
+said_in MsbFirst said = said.msb
+said_in LsbFirst said = said.lsb
+
+-- the least rows by which damaged octets, which say these widths, are known in a code
+abbrev pub least_rows : SaidWidths → Coding → Order → ℕ
+least_rows said OneDim order = least_lines (said_in order said.own) (said_in order said.two)
+least_rows said T6 order = 1
 
 -- the way is one in this code in which octets begin with rows, not too few, and read to no page's end
-abbrev pub HasBegun : Coding → List ℕ → Tried → Type 0
-HasBegun coding octets one = (one.form.coding ≡ coding) × IsTrue (fits_one Begun octets one) × (least_rows coding ≤ one.rows)
+abbrev pub HasBegun : Coding → SaidWidths → List ℕ → Tried → Type 0
+HasBegun coding said octets one =
+    (one.form.coding ≡ coding) × IsTrue (fits_one Begun octets one) × (least_rows said coding one.form.order ≤ one.rows)
 
 -- Of the ways in this code in which octets begin so, this one reads the most rows: no other one reads more, and none before it as
 -- many.
-pub record ReadsMost (coding : Coding) (octets : List ℕ) (tried : List Tried) (one : Tried) : Type 0 where
+pub record ReadsMost (coding : Coding) (said : SaidWidths) (octets : List ℕ) (tried : List Tried) (one : Tried) : Type 0 where
   pub before : List Tried
   pub after : List Tried
   pub among : tried ≡ before ++ one ∷ after
-  pub begun : HasBegun coding octets one
-  pub most : All (λ other. HasBegun coding octets other → other.rows ≤ one.rows) tried
-  pub first : All (λ other. HasBegun coding octets other → other.rows < one.rows) before
+  pub begun : HasBegun coding said octets one
+  pub most : All (λ other. HasBegun coding said octets other → other.rows ≤ one.rows) tried
+  pub first : All (λ other. HasBegun coding said octets other → other.rows < one.rows) before
 
 -- in no way in this code octets begin so
-abbrev pub NoneHasBegun : Coding → List ℕ → List Tried → Type 0
-NoneHasBegun coding octets tried = All (λ other. ¬ HasBegun coding octets other) tried
+abbrev pub NoneHasBegun : Coding → SaidWidths → List ℕ → List Tried → Type 0
+NoneHasBegun coding said octets tried = All (λ other. ¬ HasBegun coding said octets other) tried
 
 -- the way in this code that reads the most rows, if there is one
-abbrev pub IsMost : Coding → List ℕ → List Tried → Option Tried → Type 0
-IsMost coding octets tried (Some one) = ReadsMost coding octets tried one
-IsMost coding octets tried None = NoneHasBegun coding octets tried
+abbrev pub IsMost : Coding → SaidWidths → List ℕ → List Tried → Option Tried → Type 0
+IsMost coding said octets tried (Some one) = ReadsMost coding said octets tried one
+IsMost coding said octets tried None = NoneHasBegun coding said octets tried
 
 -- the way in which damaged octets read furthest: that of T.4 that reads the most rows; or else that of T.6, since any octets have a few
 -- rows of T.6 by chance
-abbrev pub IsFurthest : List ℕ → List Tried → Option Tried → Type 0
-IsFurthest octets tried most = ((one : Tried) × ReadsMost OneDim octets tried one × (most ≡ Some one))
-    ⊎ (NoneHasBegun OneDim octets tried × IsMost T6 octets tried most)
+abbrev pub IsFurthest : SaidWidths → List ℕ → List Tried → Option Tried → Type 0
+IsFurthest said octets tried most = ((one : Tried) × ReadsMost OneDim said octets tried one × (most ≡ Some one))
+    ⊎ (NoneHasBegun OneDim said octets tried × IsMost T6 said octets tried most)
 
 -- What octets are that begin as no known format, by the best way in which they read as a page, and the one in which they read furthest
 -- if they are no page.
@@ -84,8 +92,10 @@ pub record IsBest (widths : List ℕ) (octets : List ℕ) (what : Found) : Type 
   pub tried : List Tried
   pub own : Said
   pub are_tried : AreTried widths octets tried own
+  pub two : Said
+  pub are_two : AreTwoDim octets two.msb two.lsb
   pub furthest : Option Tried
-  pub is_furthest : IsFurthest octets tried furthest
+  pub is_furthest : IsFurthest (record { own = own; two = two }) octets tried furthest
   pub found_is : what ≡ found_by (identity_of None octets tried) (best_of octets tried) furthest
 
 -- what octets are: the format that they begin as, or what the ways in which they read in these widths say
@@ -133,14 +143,14 @@ found_line octets (found.Begun one) = tried_line octets one
 found_line octets found.Several = codes "the width is not known\n"
 found_line octets found.Nothing = []
 
--- the lines of what octets may be that isn't read: T.4 of a width that no page can have, T.4 in two dimensions if no two rows of T.4 are
--- read, T.4 without EOLs
+-- the lines of what octets may be that isn't read: T.4 of a width that no page can have, T.4 in two dimensions if they aren't known as T.4,
+-- T.4 without EOLs
 abbrev pub UnreadLines : List ℕ → List ℕ → Type 0
 UnreadLines octets lines = (tried : List Tried) × (own : Said) × (two_msb two_lsb : Option ℕ) × (first_msb first_lsb : Option (ℕ × ℕ))
     × AreOneDimTried tried_widths octets tried own × AreTwoDim octets two_msb two_lsb
     × FirstAlone (bits_of MsbFirst octets) tried_widths first_msb × FirstAlone (bits_of LsbFirst octets) tried_widths first_lsb
-    × (lines ≡ wide_line MsbFirst own.msb ++ (wide_line LsbFirst own.lsb ++ (two_dim_line MsbFirst tried two_msb
-    ++ (two_dim_line LsbFirst tried two_lsb ++ (no_eols_line MsbFirst first_msb ++ no_eols_line LsbFirst first_lsb)))))
+    × (lines ≡ wide_line MsbFirst own.msb ++ (wide_line LsbFirst own.lsb ++ (two_dim_line MsbFirst own.msb tried two_msb
+    ++ (two_dim_line LsbFirst own.lsb tried two_lsb ++ (no_eols_line MsbFirst first_msb ++ no_eols_line LsbFirst first_lsb)))))
 
 -- a page reads as far as its way says
 abbrev pub ReadsSo : List ℕ → Found → Type 0

@@ -1,7 +1,7 @@
 -- What `faxtool identify` says of octets: the format that they begin as, and in which ways they read as a page.
 use Rattle.std.specs.Prelude.{ℕ, ◌≡◌, ◌+◌, ◌<◌, Bool, true, false, List, [], ◌∷◌, ◌++◌, ◌||◌, ◌&&◌, Option, Some, None}
 use Rattle.std.specs.Prelude.{Result, Ok, Err, All, MatchResult, codes, cond, drop, find, flat_map, if◌then◌else◌, is_some, length, map, nat_eq}
-use Rattle.std.specs.Prelude.{nat_lt, not, sum, take}
+use Rattle.std.specs.Prelude.{nat_le, nat_lt, not, sum, take}
 use Rattle.std.specs.Fmt.{decimal}
 use Rattle.std.specs.Io.KnownBytes.{Appends}
 use Rattle.std.specs.Str.{bytes_eq}
@@ -74,6 +74,21 @@ format_of octets = format_among formats octets
 -- 200 dots an inch
 abbrev pub tried_widths : List ℕ
 tried_widths = 1728 ∷ 2048 ∷ 2432 ∷ 1216 ∷ 864 ∷ 1700 ∷ 1654 ∷ []
+
+-- the width is one of these
+abbrev pub is_among : ℕ → List ℕ → Bool
+is_among width widths = is_some (find (nat_eq width) widths)
+
+-- a width that octets say, if they say one, is one of those that are tried where they say none
+abbrev pub is_usual : Option ℕ → Bool
+is_usual (Some width) = is_among width tried_widths
+is_usual None = false
+
+-- The least rows by which octets are known as T.4, by the widths that they say as T.4 and as T.4 in two dimensions. One row comes by chance
+-- where a page of T.4 in two dimensions begins: the 1 before its first row and the row's code words are mostly code words of another row
+-- too. So one is enough only if EOLs lie about a row of a usual width, and not about one of two dimensions.
+abbrev pub least_lines : Option ℕ → Option ℕ → ℕ
+least_lines own two = cond (is_usual own && not (is_usual two)) 1 2
 
 -- a way to read octets as a page: a code, an order of bits and a width
 abbrev pub form_in : Coding → Order → ℕ → PageForm
@@ -256,14 +271,14 @@ same_order MsbFirst MsbFirst = true
 same_order LsbFirst LsbFirst = true
 same_order order other = false
 
--- this way reads two rows or more of T.4 in this order of bits
-abbrev pub reads_rows : Order → Coding → Order → ℕ → Bool
-reads_rows order OneDim other rows = same_order order other && nat_lt 1 rows
-reads_rows order T6 other rows = false
+-- this way reads so many rows or more of T.4 in this order of bits
+abbrev pub reads_rows : Order → ℕ → Coding → Order → ℕ → Bool
+reads_rows order least OneDim other rows = same_order order other && nat_le least rows
+reads_rows order least T6 other rows = false
 
--- a way of T.4 in this order of bits reads two rows or more
-abbrev pub has_rows : Order → List Tried → Bool
-has_rows order tried = is_some (find (λ one. reads_rows order one.form.coding one.form.order one.rows) tried)
+-- a way of T.4 in this order of bits reads so many rows or more
+abbrev pub has_rows : Order → ℕ → List Tried → Bool
+has_rows order least tried = is_some (find (λ one. reads_rows order least one.form.coding one.form.order one.rows) tried)
 
 -- the line of a page of T.4 in two dimensions of this width
 abbrev pub two_dim_text : Order → ℕ → List ℕ
@@ -271,22 +286,23 @@ two_dim_text order width =
     codes "T.4 in two dimensions (MR), " ++ (order_name order ++ (codes ", width " ++ (decimal width ++ codes ": not read\n")))
 
 -- The line of a width in T.4 in two dimensions, which isn't read. Of such a page one row is read, the first one, since it is coded in one
--- dimension. So the line is written only if no way of T.4 in this order of bits reads two rows. One row proves nothing: the 1 before the
--- first row and the row's code words are mostly code words of another row too.
-abbrev pub two_dim_line : Order → List Tried → Option ℕ → List ℕ
-two_dim_line order tried None = []
-two_dim_line order tried (Some width) = cond (nat_lt 0 width && not (has_rows order tried)) (two_dim_text order width) []
+-- dimension. So the line is written only if no way of T.4 in this order of bits reads as many rows as it is known by, if octets say this
+-- width (the first one) of their own in T.4.
+abbrev pub two_dim_line : Order → Option ℕ → List Tried → Option ℕ → List ℕ
+two_dim_line order own tried None = []
+two_dim_line order own tried (Some width) =
+    cond (nat_lt 0 width && not (has_rows order (least_lines own (Some width)) tried)) (two_dim_text order width) []
 
 -- what octets say of their width in T.4 in two dimensions, most and least significant bit first
 abbrev pub AreTwoDim : List ℕ → Option ℕ → Option ℕ → Type 0
 AreTwoDim octets msb lsb = SaysTwoDim (bits_of MsbFirst octets) msb × SaysTwoDim (bits_of LsbFirst octets) lsb
 
 -- What is written of octets that are nothing known: a line for each way that reads a first row (`.. width 1728: fault 11 at bit 3999
--- after 27 rows`), one for a width that no page can have, and one if they begin as T.4 in two dimensions, in an order of bits in which no
--- two rows of T.4 are read.
+-- after 27 rows`), one for a width that no page can have, and one if they begin as T.4 in two dimensions, in an order of bits in which they
+-- aren't known as T.4.
 abbrev pub nothing_lines : List ℕ → List Tried → Said → Option ℕ → Option ℕ → List ℕ
 nothing_lines octets tried own msb lsb = lines_of Begun octets tried ++ (wide_line MsbFirst own.msb ++ (wide_line LsbFirst own.lsb
-    ++ (two_dim_line MsbFirst tried msb ++ two_dim_line LsbFirst tried lsb)))
+    ++ (two_dim_line MsbFirst own.msb tried msb ++ two_dim_line LsbFirst own.lsb tried lsb)))
 
 -- what is written after the lines of the ways: of several ways, that the width isn't known; of nothing, as above
 abbrev pub TellsIdentity : List ℕ → List Tried → Said → Identity → Option (List ℕ) → Option (List ℕ) → Type 0

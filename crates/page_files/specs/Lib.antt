@@ -16,6 +16,8 @@ pub mod FormatRows
 pub mod MarkRows
 pub mod Found
 pub mod Identified
+pub mod Sources
+pub mod IdentifyLaws
 pub mod TwoDims
 pub mod DecodeRecords
 pub mod RepairsMean

@@ -1,6 +1,7 @@
 //! The way of decoding a page that is asked for, and what it gives.
 ghost use Rattle.page_files.specs.CodedPages.{WritesPage};
 ghost use Rattle.page_files.specs.Decodings.{GivesPage, IsKept, KeepsReadTo, RefusesDecoding, RefusesKept, broken_asked};
+ghost use Rattle.page_files.specs.Sources.{IsPageIn};
 ghost use Rattle.faults.specs.Faults.{IsOutside};
 ghost use Rattle.page_code.specs.PageReaders.{IsPageRefused};
 ghost use Rattle.raster.specs.Packed.{bits_of};
@@ -11,6 +12,7 @@ use crate::coded::{read_code, read_rows};
 use crate::options::PageForm;
 use crate::repair::repair_lines;
 use crate::repair_t6::repair_t6;
+use crate::source::FoundPage;
 use faults::ToolFault;
 use page_code::{Coding, PageRead, RefusedCode};
 use raster::Page;
@@ -89,6 +91,22 @@ fn decode_whole(
         lines,
         read_to,
     })
+}
+
+/// Returns what `decode_page` gives of octets that were read as this page before, unless all rows are asked for.
+pub(crate) fn decoded_of(alloc: Global, found: FoundPage) -> Decoded
+    ensures given { (broken : Broken) (octets image : List ℕ) → broken ≢ Broken.AllRows → IsPageIn octets found
+        → WritesPage result.page (Some []) (Some image)
+        → GivesPage broken found.form octets result.read_to (length result.page.rows) image result.lines.items }
+    ensures end { KeepsReadTo None result.read_to }
+{
+    let lines = Vec::new(alloc);
+    let read_to = ReadTo::End(found.bits);
+    Decoded {
+        page: found.page,
+        lines,
+        read_to,
+    }
 }
 
 /// Returns the page that octets begin with, or its whole rows before the refused bit; then `kept` holds how far they were read.

@@ -8,6 +8,7 @@ ghost use Rattle.page_files.specs.TurnedPages.{PagesLeft, in_msb, msb_form};
 ghost use Rattle.page_files.specs.LaterPages.{AfterMark, AfterPage, BeginsWith, HasNoMark, IsFrom, Passes};
 ghost use Rattle.page_files.specs.Marks.{end_of_mark};
 ghost use Rattle.page_files.specs.PageEnds.{LacksEnd};
+ghost use Rattle.page_files.specs.Sources.{IsPageIn};
 ghost use Rattle.page_code.specs.PageReaders.{IsPageRefused};
 ghost use Rattle.raster.specs.Packed.{bits_of};
 ghost use Rattle.raster.specs.Pixels.{IsWidth};
@@ -17,11 +18,12 @@ ghost use Rattle.std.specs.Prelude.{IfErr, IfNone, IfOk, IfSome, OnErr, true};
 
 use crate::answer::{DecodeAnswer, answer_decoded};
 use crate::coded::read_code;
-use crate::decoding::{Broken, Decoded, ReadTo, decode_page};
+use crate::decoding::{Broken, Decoded, ReadTo, decode_page, decoded_of};
 use crate::later_pages::{later_in, without_first};
 use crate::marks::end_of_mark;
 use crate::options::{DecodeOptions, PageForm};
 use crate::page_end::lacks_end;
+use crate::source::FoundPage;
 use faults::ToolFault;
 use page_code::{RefusedCode, turn_from};
 use raster::packed::Order;
@@ -150,6 +152,19 @@ fn lacks_left(turned: &[u8], form: PageForm, read_to: ReadTo) -> bool
     lacks_end(turned, msb_form(form), read_to)
 }
 
+/// Returns the page that was found, if it was read in this form and not all rows are asked for.
+fn found_so(found: Option<FoundPage>, form: PageForm, broken: Broken) -> Option<FoundPage>
+    ensures { IfSome result (λ page. (found ≡ Some page) × (page.form ≡ form) × (broken ≢ Broken.AllRows)) }
+{
+    match broken {
+        Broken::AllRows => None,
+        Broken::Nothing | Broken::WholeRows => match found {
+            Some(page) if page.form == form => Some(page),
+            Some(_) | None => None,
+        },
+    }
+}
+
 /// Sets the bits before this one in its octet to 0, of octets from `first` on, and returns that octet.
 fn clear_before(octets: &mut Vec<u8>, first: usize, start: u128) -> usize
     requires within { first ≤ length octets.old.items }
@@ -199,13 +214,15 @@ impl FilePages {
     }
 
     /// Decodes the page that the octets left begin with as `broken` asks, and returns what `decode_page` returns of them, with the same
-    /// errors and the same `kept`.
+    /// errors and the same `kept`. A page that was found there isn't read again if it was read in this form, unless all rows are asked for.
     pub fn decode(
         &self,
         alloc: Global,
         broken: Broken,
+        found: Option<FoundPage>,
         kept: &mut Option<RefusedCode>,
     ) -> Result<Decoded, ToolFault>
+        requires { IfSome found (IsPageIn self.now.octets) }
         ensures known { IfSome kept.new (IsPageRefused self.now.form.coding self.now.form.width
             (bits_of self.now.form.order self.now.octets)) }
         ensures given { IfOk result (λ given. (image : List ℕ) → WritesPage given.page (Some []) (Some image)
@@ -215,6 +232,10 @@ impl FilePages {
         ensures kept_rows { broken ≢ Broken.AllRows → IfOk result (λ given. KeepsReadTo kept.new given.read_to) }
         ensures kept_none { broken ≡ Broken.AllRows → kept.new ≡ None }
     {
+        if let Some(page) = found_so(found, self.form, broken) {
+            *kept = None;
+            return Ok(decoded_of(alloc, page));
+        }
         let left = left_from(&self.octets, self.first);
         decode_left(alloc, left, self.form, broken, kept)
     }

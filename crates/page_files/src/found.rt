@@ -3,19 +3,22 @@
 ghost use Rattle.faults.specs.Faults.{IsOutside};
 ghost use Rattle.page_files.specs.Found.{Finds, FindsBy, FindsIn, IsChosen, ReadsSo, others, page_or_several, widths_from};
 ghost use Rattle.page_files.specs.Found.{HasBegun, least_rows, HasItsWidth, IsFurthest, IsMost, UnreadLines, best_of, found_by};
-ghost use Rattle.page_files.specs.Found.{found_line};
+ghost use Rattle.page_files.specs.Found.{found_line, said_in};
 ghost use Rattle.page_files.specs.declared.found.Found.TheVariants.{Several};
 ghost use Rattle.page_files.specs.declared.identify.Tried.{Tried};
-ghost use Rattle.page_files.specs.Identified.{IsTried, IsWay, fits_one};
+ghost use Rattle.page_files.specs.Identified.{AreTwoDim, IsTried, IsWay, fits_one};
+ghost use Rattle.page_files.specs.Sources.{IsPageIn};
 ghost use Rattle.std.specs.Io.KnownBytes.{Appends};
 ghost use Rattle.raster.specs.Pixels.{IsWidth};
 ghost use Rattle.std.specs.Prelude.{◌≡◌, ◌++◌, ◌∷◌, ◌↔◌, [], List, ℕ, All, IfErr, IfOk, IfSome, IsTrue, OnOk, Some, find};
 
 use crate::identify::{
-    Fit, Identity, Tried, WIDTHS, fits, format_of, identity_of, tell_format, tell_tried,
-    tell_two_dim, tell_wide, try_one_dim, try_ways,
+    Fit, Identity, Said, Tried, WIDTHS, fits, format_of, identity_of, least_lines, tell_format,
+    tell_tried, tell_two_dim, tell_wide, try_one_dim, try_ways,
 };
 use crate::no_eols::tell_order;
+use crate::own_widths::two_dim_width;
+use crate::source::FoundPage;
 use faults::{NO_MEMORY, ToolFault};
 use page_code::Coding;
 use run_tables::Order;
@@ -69,29 +72,55 @@ fn best_of(octets: &[u8], tried: &[Tried]) -> Option<Tried>
     first_fit(Fit::Mended, octets, tried)
 }
 
-/// Returns how many rows are the least by which damaged octets are known in this code: one row of T.4 comes by chance.
-fn least_rows(coding: Coding) -> usize
-    ensures { result ≡ least_rows coding }
+/// The widths that octets say themselves, in T.4 and in T.4 in two dimensions.
+#[derive(Clone, Copy, Debug, PartialEq, Eq)]
+struct SaidWidths {
+    own: Said,
+    two: Said,
+}
+
+/// Returns what octets say in this order of bits.
+fn said_in(order: Order, said: Said) -> Option<u128>
+    ensures { result ≡ said_in order said }
+{
+    match order {
+        Order::MsbFirst => said.msb,
+        Order::LsbFirst => said.lsb,
+    }
+}
+
+/// Returns how many rows are the least by which damaged octets, which say these widths, are known in this code.
+fn least_rows(said: SaidWidths, coding: Coding, order: Order) -> usize
+    ensures { result ≡ least_rows said coding order }
 {
     match coding {
-        Coding::OneDim => 2,
+        Coding::OneDim => least_lines(said_in(order, said.own), said_in(order, said.two)),
         Coding::T6 => 1,
     }
 }
 
 /// Returns whether a way is one in this code in which octets begin with rows, not too few, and read to no page's end.
-fn has_begun(coding: Coding, octets: &[u8], one: &Tried) -> bool
-    ensures { IsTrue result ↔ HasBegun coding octets.now one.now }
+fn has_begun(coding: Coding, said: SaidWidths, octets: &[u8], one: &Tried) -> bool
+    ensures { IsTrue result ↔ HasBegun coding said octets.now one.now }
 {
-    one.form.coding == coding && fits(Fit::Begun, octets, one) && least_rows(coding) <= one.rows
+    one.form.coding == coding
+        && fits(Fit::Begun, octets, one)
+        && least_rows(said, coding, one.form.order) <= one.rows
 }
 
 /// Returns the way that reads more rows: the one that reads the most so far, if there is one, or the next one.
-fn more_of(coding: Coding, octets: &[u8], most: Option<Tried>, one: &Tried) -> Option<Tried>
-    ensures most { (tried : List Tried) → IsMost coding octets.now tried most → IsMost coding octets.now (tried ++ one.now ∷ []) result }
+fn more_of(
+    coding: Coding,
+    said: SaidWidths,
+    octets: &[u8],
+    most: Option<Tried>,
+    one: &Tried,
+) -> Option<Tried>
+    ensures most { (tried : List Tried) → IsMost coding said octets.now tried most
+        → IsMost coding said octets.now (tried ++ one.now ∷ []) result }
     ensures way { IfSome most IsWay → IsWay one.now → IfSome result IsWay }
 {
-    if !has_begun(coding, octets, one) {
+    if !has_begun(coding, said, octets, one) {
         return most;
     }
     match most {
@@ -107,26 +136,26 @@ fn more_of(coding: Coding, octets: &[u8], most: Option<Tried>, one: &Tried) -> O
 }
 
 /// Returns the way in this code that reads the most rows of octets that are no page, the first one of several; None if none reads a row.
-fn most_in(coding: Coding, octets: &[u8], tried: &[Tried]) -> Option<Tried>
-    ensures most { IsMost coding octets.now tried.now result }
+fn most_in(coding: Coding, said: SaidWidths, octets: &[u8], tried: &[Tried]) -> Option<Tried>
+    ensures most { IsMost coding said octets.now tried.now result }
     ensures way { All IsWay tried.now → IfSome result IsWay }
 {
     let mut most = None;
     for one in tried {
-        most = more_of(coding, octets, most, one);
+        most = more_of(coding, said, octets, most, one);
     }
     most
 }
 
 /// Returns the way in which octets that are no page read furthest: that of T.4 with the most rows, or else that of T.6.
-fn furthest_of(octets: &[u8], tried: &[Tried]) -> Option<Tried>
-    ensures furthest { IsFurthest octets.now tried.now result }
+fn furthest_of(said: SaidWidths, octets: &[u8], tried: &[Tried]) -> Option<Tried>
+    ensures furthest { IsFurthest said octets.now tried.now result }
     ensures way { All IsWay tried.now → IfSome result IsWay }
 {
-    if let Some(one) = most_in(Coding::OneDim, octets, tried) {
+    if let Some(one) = most_in(Coding::OneDim, said, octets, tried) {
         return Some(one);
     }
-    most_in(Coding::T6, octets, tried)
+    most_in(Coding::T6, said, octets, tried)
 }
 
 /// Returns what octets are by their identity, the best way, and the one in which they read furthest if they are no page.
@@ -143,23 +172,40 @@ fn found_by(identity: Identity, best: Option<Tried>, furthest: Option<Tried>) ->
     }
 }
 
-/// Returns what octets are by the ways in these widths. Errors: `NoMemory` (9).
+/// Returns the widths that octets say in T.4 in two dimensions.
+fn two_dims_said(octets: &[u8]) -> Said
+    ensures { AreTwoDim octets.now result.msb result.lsb }
+{
+    Said {
+        msb: two_dim_width(octets, Order::MsbFirst),
+        lsb: two_dim_width(octets, Order::LsbFirst),
+    }
+}
+
+/// Returns what octets are by the ways in these widths, and a page that they begin with, if one is read to its end. Errors: `NoMemory` (9).
 #[tactic(auto, using(crate::proofs::PagesFound::found_reads))]
-fn find_in(alloc: Global, octets: &[u8], widths: &[u32]) -> Result<Found, ToolFault>
+fn find_in(
+    alloc: Global,
+    octets: &[u8],
+    widths: &[u32],
+) -> Result<(Found, Option<FoundPage>), ToolFault>
     requires { All IsWidth widths.now }
-    ensures found { IfOk result (FindsIn widths.now octets.now) }
-    ensures width { IfOk result HasItsWidth }
-    ensures reads { IfOk result (ReadsSo octets.now) }
+    ensures found { IfOk result (λ read. FindsIn widths.now octets.now read.0) }
+    ensures width { IfOk result (λ read. HasItsWidth read.0) }
+    ensures reads { IfOk result (λ read. ReadsSo octets.now read.0) }
+    ensures page { IfOk result (λ read. IfSome read.1 (IsPageIn octets.now)) }
     ensures fault { IfErr result IsOutside }
 {
     if let Some(name) = format_of(octets) {
-        return Ok(Found::Format(name));
+        return Ok((Found::Format(name), None));
     }
-    let (tried, _said) = try_ways(alloc, octets, widths)?;
+    let (results, own) = try_ways(alloc, octets, widths)?;
+    let two = two_dims_said(octets);
+    let tried = results.tried;
     let identity = identity_of(None, octets, &tried);
     let best = best_of(octets, &tried);
-    let furthest = furthest_of(octets, &tried);
-    Ok(found_by(identity, best, furthest))
+    let furthest = furthest_of(SaidWidths { own, two }, octets, &tried);
+    Ok((found_by(identity, best, furthest), results.found))
 }
 
 /// Returns what octets are. Errors: `NoMemory` (9).
@@ -169,7 +215,8 @@ pub fn find_way(alloc: Global, octets: &[u8]) -> Result<Found, ToolFault>
     ensures reads { IfOk result (ReadsSo octets.now) }
     ensures fault { IfErr result IsOutside }
 {
-    find_in(alloc, octets, &WIDTHS)
+    let (found, _page) = find_in(alloc, octets, &WIDTHS)?;
+    Ok(found)
 }
 
 /// Appends a width, unless it is this one. Errors: `NoMemory` (9).
@@ -227,49 +274,70 @@ fn page_or_several(best: Option<Tried>) -> Found
     }
 }
 
-/// Returns what octets are of which several ways read: a page of this width, if one of them has it. Errors: `NoMemory` (9).
+/// Returns what octets are of which several ways read: a page of this width, if one of them has it, and then the page. Errors: `NoMemory`
+/// (9).
 #[tactic(auto, using(crate::proofs::PagesFound::own_reads))]
-fn find_at(alloc: Global, octets: &[u8], width: u32) -> Result<Found, ToolFault>
+fn find_at(
+    alloc: Global,
+    octets: &[u8],
+    width: u32,
+) -> Result<(Found, Option<FoundPage>), ToolFault>
     requires { IsWidth width }
-    ensures chosen { IfOk result (IsChosen width octets.now Several) }
-    ensures width { IfOk result HasItsWidth }
-    ensures reads { IfOk result (ReadsSo octets.now) }
+    ensures chosen { IfOk result (λ read. IsChosen width octets.now Several read.0) }
+    ensures width { IfOk result (λ read. HasItsWidth read.0) }
+    ensures reads { IfOk result (λ read. ReadsSo octets.now read.0) }
+    ensures page { IfOk result (λ read. IfSome read.1 (IsPageIn octets.now)) }
     ensures fault { IfErr result IsOutside }
 {
     let widths = [width];
-    let (tried, _said) = try_ways(alloc, octets, &widths)?;
+    let (results, _said) = try_ways(alloc, octets, &widths)?;
+    let tried = results.tried;
     let best = best_of(octets, &tried);
-    Ok(page_or_several(best))
+    Ok((page_or_several(best), results.found))
 }
 
-/// Returns what octets are if this width is likely. Errors: `NoMemory` (9).
-fn find_near(alloc: Global, octets: &[u8], width: u32) -> Result<Found, ToolFault>
+/// Returns what octets are if this width is likely, and a page that they begin with, if one is read to its end. Errors: `NoMemory` (9).
+fn find_near(
+    alloc: Global,
+    octets: &[u8],
+    width: u32,
+) -> Result<(Found, Option<FoundPage>), ToolFault>
     requires { IsWidth width }
-    ensures found { IfOk result (FindsBy (Some width) octets.now) }
-    ensures width { IfOk result HasItsWidth }
-    ensures reads { IfOk result (ReadsSo octets.now) }
+    ensures found { IfOk result (λ read. FindsBy (Some width) octets.now read.0) }
+    ensures width { IfOk result (λ read. HasItsWidth read.0) }
+    ensures reads { IfOk result (λ read. ReadsSo octets.now read.0) }
+    ensures page { IfOk result (λ read. IfSome read.1 (IsPageIn octets.now)) }
     ensures fault { IfErr result IsOutside }
 {
     let widths = widths_from(alloc, width)?;
-    let found = find_in(alloc, octets, widths.as_slice())?;
+    let (found, page) = find_in(alloc, octets, widths.as_slice())?;
     match found {
-        Found::Several => find_at(alloc, octets, width),
-        Found::Format(_) | Found::Page(_) | Found::Begun(_) | Found::Nothing => Ok(found),
+        Found::Several => {
+            let (near, its_page) = find_at(alloc, octets, width)?;
+            Ok((near, its_page))
+        }
+        Found::Format(_) | Found::Page(_) | Found::Begun(_) | Found::Nothing => Ok((found, page)),
     }
 }
 
-/// Returns what octets are, if a width is likely or if none is: it decides where several ways read, and its ways are tried too. Errors:
+/// Returns what octets are, if a width is likely or if none is: it decides where several ways read, and its ways are tried too. With it
+/// comes a page that they begin with, if one is read to its end: mostly the one that they are, so that it need not be read again. Errors:
 /// `NoMemory` (9).
-pub fn find_way_by(alloc: Global, octets: &[u8], likely: Option<u32>) -> Result<Found, ToolFault>
+pub fn find_way_by(
+    alloc: Global,
+    octets: &[u8],
+    likely: Option<u32>,
+) -> Result<(Found, Option<FoundPage>), ToolFault>
     requires { IfSome likely IsWidth }
-    ensures found { IfOk result (FindsBy likely octets.now) }
-    ensures width { IfOk result HasItsWidth }
-    ensures reads { IfOk result (ReadsSo octets.now) }
+    ensures found { IfOk result (λ read. FindsBy likely octets.now read.0) }
+    ensures width { IfOk result (λ read. HasItsWidth read.0) }
+    ensures reads { IfOk result (λ read. ReadsSo octets.now read.0) }
+    ensures page { IfOk result (λ read. IfSome read.1 (IsPageIn octets.now)) }
     ensures fault { IfErr result IsOutside }
 {
     match likely {
         Some(width) => find_near(alloc, octets, width),
-        None => find_way(alloc, octets),
+        None => find_in(alloc, octets, &WIDTHS),
     }
 }
 
@@ -297,11 +365,12 @@ pub fn tell_unread<W: Write>(alloc: Global, octets: &[u8], writer: &mut W) -> Re
         × Appends (W.contents writer.old) (W.contents writer.new) lines) }
     ensures fault { IfErr result IsOutside }
 {
-    let (tried, said) = try_one_dim(alloc, octets, &WIDTHS)?;
+    let (results, said) = try_one_dim(alloc, octets, &WIDTHS)?;
+    let tried = results.tried;
     tell_wide(Order::MsbFirst, said.msb, writer)?;
     tell_wide(Order::LsbFirst, said.lsb, writer)?;
-    tell_two_dim(octets, Order::MsbFirst, &tried, writer)?;
-    tell_two_dim(octets, Order::LsbFirst, &tried, writer)?;
+    tell_two_dim(octets, Order::MsbFirst, said.msb, &tried, writer)?;
+    tell_two_dim(octets, Order::LsbFirst, said.lsb, &tried, writer)?;
     tell_order(alloc, octets, Order::MsbFirst, writer)?;
     tell_order(alloc, octets, Order::LsbFirst, writer)?;
     Ok(())

@@ -3,7 +3,7 @@
 ghost use Rattle.page_files.specs.Answers.{octets_after};
 ghost use Rattle.faults.specs.Faults.{IsOutside};
 ghost use Rattle.page_files.specs.Identified.{AreOneDimTried, AreTried, AreTwoDim, HasFirstRow, Identifies, IsTried, MendsTo, SaysOwn};
-ghost use Rattle.page_files.specs.Identified.{has_rows, reads_rows, same_order};
+ghost use Rattle.page_files.specs.Identified.{has_rows, is_among, is_usual, least_lines, reads_rows, same_order};
 ghost use Rattle.page_files.specs.Identified.{TellsIdentity, after_words};
 ghost use Rattle.page_files.specs.Identified.{coding_name, count_of, fits, form_of, format_among, format_line, format_of, forms_in};
 ghost use Rattle.page_files.specs.Identified.{identity_of, lacks_eofb, line_of, lines_of, no_page, nothing_lines, order_name, own_forms};
@@ -11,13 +11,15 @@ ghost use Rattle.page_files.specs.Identified.{tried_line, two_dim_line, two_dim_
 ghost use Rattle.page_files.specs.OwnWidths.{SaysTwoDim};
 ghost use Rattle.raster.specs.Packed.{bits_of};
 ghost use Rattle.raster.specs.Pixels.{IsWidth};
+ghost use Rattle.page_files.specs.Sources.{IsPageIn};
 ghost use Rattle.std.specs.Io.KnownBytes.{Appends};
-ghost use Rattle.std.specs.Prelude.{◌≡◌, ◌≤◌, ◌++◌, ◌↔◌, ℕ, Option, All, IfErr, IfOk, IsTrue, OnOk, length, map, option_map};
+ghost use Rattle.std.specs.Prelude.{◌≡◌, ◌≤◌, ◌++◌, ◌↔◌, ℕ, Option, All, IfErr, IfOk, IfSome, IsTrue, OnOk, length, map, option_map};
 
 use crate::coded::read_code;
 use crate::no_eols::tell_alone;
 use crate::options::PageForm;
-use crate::own_widths::{first_line, own_width, two_dim_width};
+use crate::own_widths::{first_line, two_dim_width};
+use crate::source::{FoundPage, Results, Source, turned_lsb};
 use faults::{FaultKind, NO_MEMORY, ToolFault};
 use page_code::{Coding, OneDim, RepairedPage};
 use raster::MAX_WIDTH;
@@ -165,12 +167,17 @@ fn mended_rows(alloc: Global, octets: &[u8], form: PageForm) -> Result<Option<us
     }
 }
 
-/// Reads octets in one way. Errors: `NoMemory` (9).
+/// Reads octets in one way: how far that is, and the page that they begin with, if it is read to its end. Errors: `NoMemory` (9).
 #[tactic(auto, using(crate::proofs::RefusedRows::whole_rows))]
-fn try_way(alloc: Global, octets: &[u8], form: PageForm) -> Result<Tried, ToolFault>
+pub(crate) fn try_way(
+    alloc: Global,
+    octets: &[u8],
+    form: PageForm,
+) -> Result<(Tried, Option<FoundPage>), ToolFault>
     requires { IsWidth form.width }
-    ensures tried { IfOk result (IsTried octets.now) }
-    ensures form { IfOk result (λ tried. tried.form ≡ form) }
+    ensures tried { IfOk result (λ read. IsTried octets.now read.0) }
+    ensures form { IfOk result (λ read. read.0.form ≡ form) }
+    ensures page { IfOk result (λ read. IfSome read.1 (λ found. IsPageIn octets.now found × (found.form ≡ form))) }
     ensures refused { IfErr result IsOutside }
 {
     let mut kept = None;
@@ -179,12 +186,13 @@ fn try_way(alloc: Global, octets: &[u8], form: PageForm) -> Result<Tried, ToolFa
             let rows = page.rows().len();
             let end = Ok(bits);
             let mended = None;
-            Ok(Tried {
+            let tried = Tried {
                 form,
                 rows,
                 end,
                 mended,
-            })
+            };
+            Ok((tried, Some(FoundPage { form, page, bits })))
         }
         Err(fault) => match kept {
             Some(code) => {
@@ -194,69 +202,68 @@ fn try_way(alloc: Global, octets: &[u8], form: PageForm) -> Result<Tried, ToolFa
                     Coding::OneDim => mended_rows(alloc, octets, form)?,
                     Coding::T6 => None,
                 };
-                Ok(Tried {
+                let tried = Tried {
                     form,
                     rows,
                     end,
                     mended,
-                })
+                };
+                Ok((tried, None))
             }
             None => Err(fault),
         },
     }
 }
 
-/// Reads octets in one code, one order of bits and each of these widths, and appends how far that is. Errors: `NoMemory` (9).
+/// Reads octets in one code and each of these widths, and appends how far that is. Errors: `NoMemory` (9).
 fn try_widths(
     alloc: Global,
-    octets: &[u8],
+    source: &Source<'_>,
     coding: Coding,
-    order: Order,
     widths: &[u32],
-    tried: &mut Vec<Tried>,
+    results: &mut Results,
 ) -> Result<(), ToolFault>
     requires { All IsWidth widths.now }
-    ensures forms { OnOk result (map form_of tried.new.items ≡ map form_of tried.old.items ++ forms_in coding order widths.now) }
-    ensures each { OnOk result (All (IsTried octets.now) tried.old.items → All (IsTried octets.now) tried.new.items) }
+    ensures forms { OnOk result (map form_of results.new.tried.items
+        ≡ map form_of results.old.tried.items ++ forms_in coding source.now.order widths.now) }
+    ensures each { OnOk result (All (IsTried source.now.octets) results.old.tried.items
+        → All (IsTried source.now.octets) results.new.tried.items) }
+    ensures found { OnOk result (IfSome results.old.found (IsPageIn source.now.octets)
+        → IfSome results.new.found (IsPageIn source.now.octets)) }
     ensures refused { IfErr result IsOutside }
 {
     for width in widths {
-        let form = PageForm {
-            coding,
-            order,
-            width: *width,
-            fine: false,
-        };
-        // only its counts are kept: one page at a time is in memory
-        let one = try_way(alloc, octets, form)?;
-        if tried.push(one).is_err() {
-            return Err(NO_MEMORY);
-        }
+        // of all pages one is kept: two at a time are in memory
+        let (one, page) = source.read_in(alloc, coding, *width)?;
+        results.add(source.octets(), one, page)?;
     }
     Ok(())
 }
 
-/// Reads octets in T.4 and one order of bits, at the width that they say themselves, if pages can have it, or else in these widths; appends
-/// how far that is, and returns their own width. Errors: `NoMemory` (9).
+/// Reads octets in T.4, at the width that they say themselves, if pages can have it, or else in these widths; appends how far that is, and
+/// returns their own width. Errors: `NoMemory` (9).
 fn try_own(
     alloc: Global,
-    octets: &[u8],
-    order: Order,
+    source: &Source<'_>,
     widths: &[u32],
-    tried: &mut Vec<Tried>,
+    results: &mut Results,
 ) -> Result<Option<u128>, ToolFault>
     requires { All IsWidth widths.now }
-    ensures own { IfOk result (SaysOwn order octets.now) }
-    ensures forms { IfOk result (λ own. map form_of tried.new.items ≡ map form_of tried.old.items ++ own_forms widths.now order own) }
-    ensures each { OnOk result (All (IsTried octets.now) tried.old.items → All (IsTried octets.now) tried.new.items) }
+    ensures own { IfOk result (SaysOwn source.now.order source.now.octets) }
+    ensures forms { IfOk result (λ own. map form_of results.new.tried.items
+        ≡ map form_of results.old.tried.items ++ own_forms widths.now source.now.order own) }
+    ensures each { OnOk result (All (IsTried source.now.octets) results.old.tried.items
+        → All (IsTried source.now.octets) results.new.tried.items) }
+    ensures found { OnOk result (IfSome results.old.found (IsPageIn source.now.octets)
+        → IfSome results.new.found (IsPageIn source.now.octets)) }
     ensures refused { IfErr result IsOutside }
 {
-    let own = own_width(octets, order);
+    let own = source.own_width();
     match own {
-        None => try_widths(alloc, octets, Coding::OneDim, order, widths, tried)?,
+        None => try_widths(alloc, source, Coding::OneDim, widths, results)?,
         Some(width) if width != 0 && width <= MAX_WIDTH as u128 => {
             let said = [width as u32];
-            try_widths(alloc, octets, Coding::OneDim, order, &said, tried)?;
+            try_widths(alloc, source, Coding::OneDim, &said, results)?;
         }
         Some(_) => {}
     }
@@ -271,19 +278,43 @@ pub(crate) struct Said {
 }
 
 /// Reads octets in T.4, at its own width or in these, in both bit orders, and returns what `try_ways` does. Errors: `NoMemory` (9).
+fn try_both(
+    alloc: Global,
+    msb: &Source<'_>,
+    lsb: &Source<'_>,
+    widths: &[u32],
+) -> Result<(Results, Said), ToolFault>
+    requires widths { All IsWidth widths.now }
+    requires msb { msb.now.order ≡ Order.MsbFirst }
+    requires lsb { lsb.now ≡ record { octets = msb.now.octets; order = Order.LsbFirst } }
+    ensures tried { IfOk result (λ ways. AreOneDimTried widths.now msb.now.octets ways.0.tried.items ways.1) }
+    ensures found { IfOk result (λ ways. IfSome ways.0.found (IsPageIn msb.now.octets)) }
+    ensures refused { IfErr result IsOutside }
+{
+    let mut results = Results::new(alloc);
+    let msb_said = try_own(alloc, msb, widths, &mut results)?;
+    let lsb_said = try_own(alloc, lsb, widths, &mut results)?;
+    let said = Said {
+        msb: msb_said,
+        lsb: lsb_said,
+    };
+    Ok((results, said))
+}
+
+/// Reads octets in T.4, at its own width or in these, in both bit orders, and returns what `try_ways` does. Errors: `NoMemory` (9).
 pub(crate) fn try_one_dim(
     alloc: Global,
     octets: &[u8],
     widths: &[u32],
-) -> Result<(Vec<Tried>, Said), ToolFault>
+) -> Result<(Results, Said), ToolFault>
     requires { All IsWidth widths.now }
-    ensures tried { IfOk result (λ ways. AreOneDimTried widths.now octets.now ways.0.items ways.1) }
+    ensures tried { IfOk result (λ ways. AreOneDimTried widths.now octets.now ways.0.tried.items ways.1) }
     ensures refused { IfErr result IsOutside }
 {
-    let mut tried = Vec::new(alloc);
-    let msb = try_own(alloc, octets, Order::MsbFirst, widths, &mut tried)?;
-    let lsb = try_own(alloc, octets, Order::LsbFirst, widths, &mut tried)?;
-    Ok((tried, Said { msb, lsb }))
+    let turned = turned_lsb(alloc, octets)?;
+    let msb = Source::of(octets, Order::MsbFirst, &[]);
+    let lsb = Source::of(octets, Order::LsbFirst, &turned);
+    try_both(alloc, &msb, &lsb, widths)
 }
 
 /// Reads octets in all ways that are tried: T.4 at its own width, or in these as T.6, both in both bit orders; and returns for each how far
@@ -293,29 +324,19 @@ pub(crate) fn try_ways(
     alloc: Global,
     octets: &[u8],
     widths: &[u32],
-) -> Result<(Vec<Tried>, Said), ToolFault>
+) -> Result<(Results, Said), ToolFault>
     requires { All IsWidth widths.now }
-    ensures tried { IfOk result (λ ways. AreTried widths.now octets.now ways.0.items ways.1) }
+    ensures tried { IfOk result (λ ways. AreTried widths.now octets.now ways.0.tried.items ways.1) }
+    ensures found { IfOk result (λ ways. IfSome ways.0.found (IsPageIn octets.now)) }
     ensures refused { IfErr result IsOutside }
 {
-    let (mut tried, said) = try_one_dim(alloc, octets, widths)?;
-    try_widths(
-        alloc,
-        octets,
-        Coding::T6,
-        Order::MsbFirst,
-        widths,
-        &mut tried,
-    )?;
-    try_widths(
-        alloc,
-        octets,
-        Coding::T6,
-        Order::LsbFirst,
-        widths,
-        &mut tried,
-    )?;
-    Ok((tried, said))
+    let turned = turned_lsb(alloc, octets)?;
+    let msb = Source::of(octets, Order::MsbFirst, &[]);
+    let lsb = Source::of(octets, Order::LsbFirst, &turned);
+    let (mut results, said) = try_both(alloc, &msb, &lsb, widths)?;
+    try_widths(alloc, &msb, Coding::T6, widths, &mut results)?;
+    try_widths(alloc, &lsb, Coding::T6, widths, &mut results)?;
+    Ok((results, said))
 }
 
 /// The name of a code.
@@ -339,7 +360,7 @@ pub(crate) fn order_name(order: Order) -> &'static str
 }
 
 /// How many octets come after those of a page's code.
-fn octets_after(octets: &[u8], bits: u128) -> u128
+pub(crate) fn octets_after(octets: &[u8], bits: u128) -> u128
     ensures { result ≡ octets_after octets.now bits }
 {
     (octets.len() as u128).saturating_sub(bits.div_ceil(8))
@@ -493,22 +514,56 @@ fn is_same_order(order: Order, other: Order) -> bool
     }
 }
 
-/// Returns whether a way is one of T.4 in this order of bits that reads two rows or more.
-fn reads_rows(order: Order, one: &Tried) -> bool
-    ensures { result ≡ reads_rows order one.now.form.coding one.now.form.order one.now.rows }
+/// Returns whether a width that octets say, if they say one, is one of those that are tried where they say none.
+fn is_usual(said: Option<u128>) -> bool
+    ensures { result ≡ is_usual said }
+{
+    match said {
+        Some(width) => is_among(width, &WIDTHS),
+        None => false,
+    }
+}
+
+/// Returns whether a width is one of these.
+fn is_among(width: u128, widths: &[u32]) -> bool
+    ensures { result ≡ is_among width widths.now }
+{
+    for other in widths {
+        if width == *other as u128 {
+            return true;
+        }
+    }
+    false
+}
+
+/// Returns how many rows are the least by which octets are known as T.4 in one order of bits, by the widths that they say in it as T.4 and as
+/// T.4 in two dimensions.
+pub(crate) fn least_lines(own: Option<u128>, two: Option<u128>) -> usize
+    ensures { result ≡ least_lines own two }
+{
+    if is_usual(own) && !is_usual(two) {
+        1
+    } else {
+        2
+    }
+}
+
+/// Returns whether a way is one of T.4 in this order of bits that reads so many rows or more.
+fn reads_rows(order: Order, least: usize, one: &Tried) -> bool
+    ensures { result ≡ reads_rows order least one.now.form.coding one.now.form.order one.now.rows }
 {
     match one.form.coding {
-        Coding::OneDim => is_same_order(order, one.form.order) && one.rows > 1,
+        Coding::OneDim => is_same_order(order, one.form.order) && least <= one.rows,
         Coding::T6 => false,
     }
 }
 
-/// Returns whether a way of T.4 in this order of bits reads two rows or more.
-fn has_rows(order: Order, tried: &[Tried]) -> bool
-    ensures { result ≡ has_rows order tried.now }
+/// Returns whether a way of T.4 in this order of bits reads so many rows or more.
+fn has_rows(order: Order, least: usize, tried: &[Tried]) -> bool
+    ensures { result ≡ has_rows order least tried.now }
 {
     for one in tried {
-        if reads_rows(order, one) {
+        if reads_rows(order, least, one) {
             return true;
         }
     }
@@ -533,19 +588,21 @@ pub(crate) fn tell_two_dim_of<W: Write>(
     Ok(())
 }
 
-/// Writes the line of a width that octets say themselves in T.4 in two dimensions, if they say one and no way of T.4 in this order of bits
-/// reads two rows.
+/// Writes the line of a width that octets say themselves in T.4 in two dimensions, if they say one and aren't known as T.4 in this order of
+/// bits, in which they say this width of their own.
 fn tell_two_dim_width<W: Write>(
     order: Order,
+    own: Option<u128>,
     tried: &[Tried],
     said: Option<u128>,
     writer: &mut W,
 ) -> Result<(), ToolFault>
-    ensures told { OnOk result (Appends (W.contents writer.old) (W.contents writer.new) (two_dim_line order tried.now said)) }
+    ensures told { OnOk result (Appends (W.contents writer.old) (W.contents writer.new) (two_dim_line order own tried.now said)) }
     ensures fault { IfErr result IsOutside }
 {
+    let least = least_lines(own, said);
     match said {
-        Some(width) if width > 0 && !has_rows(order, tried) => {
+        Some(width) if width > 0 && !has_rows(order, least, tried) => {
             tell_two_dim_of(order, width, writer)?;
         }
         _ => {}
@@ -553,19 +610,21 @@ fn tell_two_dim_width<W: Write>(
     Ok(())
 }
 
-/// Writes the line of a page of T.4 in two dimensions, if octets begin as one and no way of T.4 in this order of bits reads two rows.
+/// Writes the line of a page of T.4 in two dimensions, if octets begin as one and aren't known as T.4 in this order of bits, in which they
+/// say this width of their own.
 pub(crate) fn tell_two_dim<W: Write>(
     octets: &[u8],
     order: Order,
+    own: Option<u128>,
     tried: &[Tried],
     writer: &mut W,
 ) -> Result<(), ToolFault>
     ensures told { OnOk result ((said : Option ℕ) × SaysTwoDim (bits_of order octets.now) said
-        × Appends (W.contents writer.old) (W.contents writer.new) (two_dim_line order tried.now said)) }
+        × Appends (W.contents writer.old) (W.contents writer.new) (two_dim_line order own tried.now said)) }
     ensures fault { IfErr result IsOutside }
 {
     let said = two_dim_width(octets, order);
-    tell_two_dim_width(order, tried, said, writer)?;
+    tell_two_dim_width(order, own, tried, said, writer)?;
     Ok(())
 }
 
@@ -627,8 +686,8 @@ fn tell_nothing<W: Write>(
     tell_those(Fit::Begun, octets, tried, writer)?;
     tell_wide(Order::MsbFirst, said.msb, writer)?;
     tell_wide(Order::LsbFirst, said.lsb, writer)?;
-    tell_two_dim(octets, Order::MsbFirst, tried, writer)?;
-    tell_two_dim(octets, Order::LsbFirst, tried, writer)?;
+    tell_two_dim(octets, Order::MsbFirst, said.msb, tried, writer)?;
+    tell_two_dim(octets, Order::LsbFirst, said.lsb, tried, writer)?;
     Ok(())
 }
 
@@ -654,8 +713,8 @@ fn tell_identity<W: Write>(
 /// Writes the format that octets begin as, if it is known, and a line for each way in which they read as a page: first those without octets
 /// after it, then those without EOFB, then those with octets after it, then those of `decode --repair`. Where several ways read, says that
 /// the width isn't known, unless one of them alone ends with the octets. With neither, writes how far each way reads that has a first row,
-/// a width that no page can have, that it begins as T.4 in two dimensions (if no two rows of T.4 are read in this order of bits), and that
-/// it is T.4 without EOLs; then the identity has the fault: `NoPages` (7) if there is no octet, otherwise `Unidentified` (29). Errors:
+/// a width that no page can have, that it begins as T.4 in two dimensions (if it isn't known as T.4 in this order of bits), and that it is
+/// T.4 without EOLs; then the identity has the fault: `NoPages` (7) if there is no octet, otherwise `Unidentified` (29). Errors:
 /// `Io` (8) from the writer, `NoMemory` (9).
 pub fn identify_engine<W: Write>(
     alloc: Global,
@@ -667,7 +726,8 @@ pub fn identify_engine<W: Write>(
 {
     // pages are tried even if a format is known, since a page may begin so by chance
     let format = format_of(octets);
-    let (tried, said) = try_ways(alloc, octets, &WIDTHS)?;
+    let (results, said) = try_ways(alloc, octets, &WIDTHS)?;
+    let tried = results.tried;
     tell_format(format, writer)?;
     tell_those(Fit::Whole, octets, &tried, writer)?;
     tell_those(Fit::NoEofb, octets, &tried, writer)?;

@@ -1,6 +1,7 @@
 //! Laws of the definitions. Nothing runs.
 
 ghost use Rattle.page_files.specs.FormatRows.{FlagsByOctets, FormatsByOctets, WidthsMean};
+ghost use Rattle.page_files.specs.IdentifyLaws.{FindsWhatIsSaid, FirstLineIsBest};
 ghost use Rattle.page_files.specs.MarkRows.{MarksByGaps};
 ghost use Rattle.page_files.specs.OwnWidths.{PagesSayWidths};
 ghost use Rattle.page_files.specs.RepairsMean.{RowsAreListed, TornIsOneBitOff};
@@ -14,6 +15,13 @@ pub fn repairs_mean()
 /// A page of T.4 says its width, so that `identify` needs no list of widths for it (ITU-T T.4, 4.1.2).
 pub fn own_widths()
     ensures { PagesSayWidths }
+{}
+
+/// What `decode --each` does is what `identify` says: it reads octets in the way of the first line, and what it finds follows from the ways
+/// that `identify` tried.
+pub fn each_as_identified()
+    ensures first { FirstLineIsBest }
+    ensures finds { FindsWhatIsSaid }
 {}
 
 /// The formats that `identify` names, by octets; and which widths it tries where a file says none.

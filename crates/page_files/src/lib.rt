@@ -20,6 +20,7 @@ mod pages;
 mod refused;
 mod repair;
 mod repair_t6;
+mod source;
 mod two_dim;
 mod zeros;
 
@@ -39,4 +40,5 @@ pub use crate::pages::{
 };
 pub use crate::refused::{ends_in_empty_runs, refused_at, refused_in};
 pub use crate::repair::{Repair, repair_engine};
+pub use crate::source::FoundPage;
 pub use crate::two_dim::{TwoDim, tell_two_dims, two_dim_of};

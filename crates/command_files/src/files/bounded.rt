@@ -9,7 +9,7 @@ use crate::context::{Cause, Context, Part};
 use crate::files::input::{self, Source};
 use crate::files::progress::Watch;
 use faults::{TOO_MANY_OCTETS, ToolFault};
-use page_code::{CodesPages, Coding, PageRead};
+use page_code::{CodesPages, Coding, PageRead, code_of, turned_code};
 use page_files::{PageForm, WIDTHS, own_width};
 use run_tables::Order;
 use std::alloc::{AllocError, Global};
@@ -207,8 +207,11 @@ fn is_order_in_vain(
     if own_width(octets, order).is_some() {
         return Ok(false);
     }
+    // turned once for all ways
+    let turned = turned_code(alloc, octets, order, Vec::new(alloc))?;
+    let (code, first) = code_of(octets, order, &turned);
     for coding in [Coding::T6, Coding::OneDim] {
-        if !are_refused_early(alloc, octets, coding, order, likely)? {
+        if !are_refused_early(alloc, code, coding, first, likely)? {
             return Ok(false);
         }
     }

@@ -10,7 +10,7 @@ use crate::damaged::{is_taken, two_dims_of};
 use crate::decode::ends::FileEnd;
 use crate::identify::several::bits_in;
 use faults::ToolFault;
-use page_files::{DecodeOptions, Found, PageForm, TwoDim, asks_damaged, find_way_by};
+use page_files::{DecodeOptions, Found, FoundPage, PageForm, TwoDim, asks_damaged, find_way_by};
 use std::alloc::Global;
 
 /// Returns a way to read pages, with the lines that are asked for.
@@ -51,12 +51,14 @@ fn form_by(
 }
 
 /// How octets are decoded.
-#[derive(Clone, Copy)]
+#[derive(Drop)]
 pub(crate) struct Way {
     /// The form of their pages.
     pub(crate) form: PageForm,
     /// The number of bits of the first page's code, if it is read to its end and that is known.
     pub(crate) used: Option<u128>,
+    /// A page that the octets begin with, if one was read to its end.
+    pub(crate) page: Option<FoundPage>,
 }
 
 /// What is asked for of how octets are decoded.
@@ -98,12 +100,12 @@ fn found_form(
     ensures used { IfOk result (λ way. IfOk way (BeginsSo octets.now)) }
     ensures fault { IfErr result IsOutside }
 {
-    let found = find_way_by(alloc, octets, likely)?;
+    let (found, page) = find_way_by(alloc, octets, likely)?;
     let two_dims = two_dims_of(octets, &found);
     match form_by(asked, fine, two_dims, found) {
         Ok(form) => {
             let used = used_in(&found);
-            Ok(Ok(Way { form, used }))
+            Ok(Ok(Way { form, used, page }))
         }
         Err(end) => Ok(Err(end)),
     }
@@ -123,7 +125,11 @@ pub(crate) fn form_of(
     ensures fault { IfErr result IsOutside }
 {
     match asked.form {
-        Some(form) => Ok(Ok(Way { form, used: None })),
+        Some(form) => Ok(Ok(Way {
+            form,
+            used: None,
+            page: None,
+        })),
         None => found_form(
             alloc,
             octets,

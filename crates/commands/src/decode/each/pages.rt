@@ -8,6 +8,7 @@ ghost use Rattle.commands.specs.Pages.{repaired_end, with_front};
 ghost use Rattle.commands.specs.Places.{page_name};
 ghost use Rattle.faults.specs.Faults.{IsOutside};
 ghost use Rattle.page_files.specs.LaterPages.{BeginsWith};
+ghost use Rattle.page_files.specs.Sources.{IsPageIn};
 ghost use Rattle.page_code.specs.declared.page_reader.RefusedCode.{RefusedCode as RefusedCodeValue};
 ghost use Rattle.raster.specs.Pixels.{IsWidth};
 ghost use Rattle.std.specs.Prelude.{◌≡◌, ◌++◌, ◌∷◌, ◌⊎◌, ◌<◌, ◌^◌, [], IfErr, IfOk, IfSome, None, OnOk, Some, codes, false};
@@ -24,7 +25,7 @@ use command_files::files::images::{save_missing_images, save_new_images};
 use command_files::files::output::make_folders;
 use faults::{FAILED, ToolFault};
 use page_code::RefusedCode;
-use page_files::{Broken, DecodeOptions, FilePages, PageForm, ReadTo, asks_damaged};
+use page_files::{Broken, DecodeOptions, FilePages, FoundPage, PageForm, ReadTo, asks_damaged};
 use raster::Page;
 use std::alloc::{AllocError, Global};
 use std::io::Write;
@@ -136,19 +137,21 @@ fn is_answered(end: Result<bool, ToolFault>) -> bool
     }
 }
 
-/// Returns the first page that is left, and its report: the lines and the end that `decode` gives it with these options. Errors: the fault
-/// of a page that can't be repaired; `NoMemory` (9).
+/// Returns the first page that is left, and its report: the lines and the end that `decode` gives it with these options. A page that was
+/// found there isn't read again. Errors: the fault of a page that can't be repaired; `NoMemory` (9).
 fn read_so(
     alloc: Global,
     left: &FilePages,
     options: DecodeOptions,
+    found: Option<FoundPage>,
 ) -> Result<(Page, PageReport), ToolFault>
+    requires { IfSome found (IsPageIn left.now.octets) }
     ensures read { IfOk result (λ read. IsReadSo options left.now.form left.now.octets read.1) }
     ensures refused { IfErr result (IsRefusal options left.now.form left.now.octets) }
 {
     let broken = Broken::asked(options.salvage, options.repair);
     let mut kept = None;
-    let decoded = match left.decode(alloc, broken, &mut kept) {
+    let decoded = match left.decode(alloc, broken, found, &mut kept) {
         Ok(decoded) => decoded,
         Err(fault) => return read_refused(alloc, left.form(), fault, kept),
     };
@@ -176,14 +179,16 @@ fn read_page(
     alloc: Global,
     left: &FilePages,
     options: DecodeOptions,
+    found: Option<FoundPage>,
 ) -> Result<(Page, PageReport), ToolFault>
+    requires { IfSome found (IsPageIn left.now.octets) }
     ensures { IfOk result (λ read. IsPageReport options left.now.form left.now.octets read.1) }
 {
     let repairing = DecodeOptions {
         salvage: options.salvage && !options.repair,
         ..options
     };
-    let read = read_so(alloc, left, repairing);
+    let read = read_so(alloc, left, repairing, found);
     if read.is_ok() || !options.salvage || !options.repair {
         return read;
     }
@@ -191,7 +196,7 @@ fn read_page(
         repair: false,
         ..options
     };
-    read_so(alloc, left, salvaging)
+    read_so(alloc, left, salvaging, None)
 }
 
 /// Returns a page without rows and the report of one that is refused; or the fault, if that isn't the refusal.
@@ -215,13 +220,21 @@ fn read_refused(
     }
 }
 
-/// Decodes the first page that is left, and writes its rows, if it has any, as the image of this number.
-fn decode_one(own: &mut Context<'_>, of: PagesOf<'_>, left: &FilePages, number: u32) -> PageReport
+/// Decodes the first page that is left, and writes its rows, if it has any, as the image of this number. A page that was found there isn't
+/// read again.
+fn decode_one(
+    own: &mut Context<'_>,
+    of: PagesOf<'_>,
+    left: &FilePages,
+    number: u32,
+    found: Option<FoundPage>,
+) -> PageReport
+    requires { IfSome found (IsPageIn left.now.octets) }
     ensures report { IsPageReport of.entry.options left.now.form left.now.octets result }
     ensures out { IfSome result.facts.out (λ name. string_bytes name ≡ page_name of.entry.place.now number) }
 {
     let alloc = own.alloc();
-    let (page, mut report) = match read_page(alloc, left, of.options) {
+    let (page, mut report) = match read_page(alloc, left, of.options, found) {
         Ok(read) => read,
         Err(fault) => return PageReport::without_answer(alloc, PageEnd::Lost(fault), None),
     };
@@ -398,13 +411,15 @@ pub(crate) fn decode_pages(
     let mends = asks_damaged(of.options);
     let form = way.form;
     let mut used = way.used;
+    let mut found = way.page;
     let mut left = FilePages::new(read, form);
     let mut told = Vec::new(alloc);
     let mut pages = Vec::new(alloc);
     let mut are_complete = true;
     for before in 0..of.most {
         let number = before + 1;
-        let page = decode_one(own, of, &left, number);
+        let page = decode_one(own, of, &left, number, found);
+        found = None;
         let end = page.facts.end;
         add_page(alloc, number, page.told.as_slice(), &mut told)?;
         add_facts(&mut pages, page.facts)?;

@@ -13,12 +13,14 @@ returns-clause-found c =
     inr (
       no_format,
       record {
-        tried = c.in_ok-tried.tried.items;
-        own = c.in_ok-tried._said;
-        are_tried = c.in_ok-tried.ensures.tried;
+        tried = c.in_ok-results.results.tried.items;
+        own = c.in_ok-results.own;
+        are_tried = c.in_ok-results.ensures.tried;
+        two = c.two_dims_said-two.result;
+        are_two = c.two_dims_said-two.ensures;
         furthest = c.furthest_of-furthest.result;
-        is_furthest = subst (λ (l : List Tried). IsFurthest octets l c.furthest_of-furthest.result) c.deref-3.ensures.value
-            c.furthest_of-furthest.ensures.furthest;
+        is_furthest = subst (λ (l : List Tried). IsFurthest (record { own = c.in_ok-results.own; two = c.two_dims_said-two.result }) octets l
+            c.furthest_of-furthest.result) c.deref-3.ensures.value c.furthest_of-furthest.ensures.furthest;
         found_is = search rules;
       },
     )

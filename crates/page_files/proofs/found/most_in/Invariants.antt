@@ -7,6 +7,6 @@ use Rattle.page_files.proofs.found.most_in.Given as goal
 
 abbrev pub invariant-loop-one : goal.invariant-loop-one
 invariant-loop-one l = record {
-  most : IsMost l.coding l.octets (take l.one-index l.tried) l.most;
+  most : IsMost l.coding l.said l.octets (take l.one-index l.tried) l.most;
   way : All IsWay l.tried → IfSome l.most IsWay;
 }

@@ -11,13 +11,13 @@ use Rattle.page_files.proofs.identify.identify_engine.Goals as goal
 pub returns-clause-identified : goal.returns-clause-identified
 returns-clause-identified g c =
     let octets = c.args.octets.now in
-    let tried = c.in_ok-tried.tried.items in
+    let tried = c.in_ok-results.results.tried.items in
     let contents = g.W.Write.contents in
     let lines = λ (fit : Fit) (before after : Option (List ℕ)) (list : List Tried). Appends before after (lines_of fit octets list) in
     record {
       tried = tried;
-      own = c.in_ok-tried.said;
-      are_tried = c.in_ok-tried.ensures.tried;
+      own = c.in_ok-results.said;
+      are_tried = c.in_ok-results.ensures.tried;
       between = contents c.tell_those-4.new.writer;
       last = contents c.tell_identity.new.writer;
       written = Appends-trans _ _ _ _ _

@@ -38,6 +38,7 @@ loop-before-preserved c =
     record {
       form = c.in_ok-next.ensures.form ∙ c.loop-before.invariant.form;
       used = tt;
+      found = tt;
       pages = subst (λ (n : ℕ). ArePagesTo options form c.args.read.items n later c.add_facts.new.pages.items c.add_broken.new.lines.items
           c.both-are_complete.result) (sym (add-one c.loop-before.before)) (
             middle,
