@@ -363,7 +363,8 @@ def words():
     same = changed_in(told.HELP, old="an image's file is empty", new="the file is empty")
     yield refuses("words that are listed as others, and are the same", wordings, texts, same, "fault 7")
     assert not list(told.name_faults(texts))
-    for path, old, new in (told.NAMES, '(18, codes "CTC")', '(18, codes "CTR")'), (told.C_NAMES, '{0xce, "EOR"}', '{0xcf, "EOR"}'):
+    for path, old, new in ((told.NAMES, '(18, codes "CTC")', '(18, codes "CTR")'), (told.C_NAMES, '{0xce, "EOR"}', '{0xcf, "EOR"}'),
+                           (told.NAMES, ' ∷ (75, codes "TK")', "")):
         yield refuses(f"a frame that {path} names otherwise", told.name_faults, texts, changed_in(path, old=old, new=new), told.C_NAMES)
     for name, path, old, new, said in TOUCHED:
         yield refuses(name, touched, texts, changed_in(path, old=old, new=new), said)

@@ -175,7 +175,8 @@ def program_texts(texts):
 
 
 def name_faults(texts):
-    """The control fields that softfax names otherwise than the program does. The first bit of a field that softfax hasn't is taken for 0."""
+    """The control fields that softfax names otherwise than the program does, and the names that the program hasn't, if they are no signals
+    of the stations. The first bit of a field that softfax hasn't is taken for 0."""
     names = {int(field): name for field, name in re.findall(r'\((\d+), codes "([A-Z-]+)"\)', texts[NAMES])}
     here = {int(field, 16): name for field, name in re.findall(r'\{(0x[0-9a-f]+), "([A-Z-]+)"\}', texts[C_NAMES])}
     if len(names) < 60:
@@ -184,6 +185,8 @@ def name_faults(texts):
         other = here.get(field, here.get(field & 0xFE))
         if other != name:
             yield f"{C_NAMES} names {field:02x} {other}, and {NAMES} {name}"
+    own = {name.upper() for name in variants(texts["crates/signals/src/signal.rt"], "Signal")}
+    yield from (f"{C_NAMES} names {name}, and {NAMES} doesn't" for name in sorted({*here.values()} - {*names.values()} - own))
 
 
 def quote_faults(texts):

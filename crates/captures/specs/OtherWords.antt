@@ -4,7 +4,7 @@ use Rattle.captures.specs.Below.{some_below, texts_below}
 use Rattle.faults.specs.Explanations.{words_in}
 
 -- The names of frames by their facsimile control fields as octets, the first bit that is sent the least significant (T.30, 5.3.6.1 and A.4), in
--- five groups; the first bit of most is that of the station. First those by which a station tells what it is, or asks for a page.
+-- six groups; the first bit of most is that of the station. First those by which a station tells what it is, or asks for a page.
 abbrev pub asking_names : List (ℕ × List ℕ)
 asking_names = (32, codes "NSF") ∷ (33, codes "NSC") ∷ (64, codes "CSI") ∷ (65, codes "CIG") ∷ (129, codes "DTC")
     ∷ (161, codes "SEP") ∷ (193, codes "PWD") ∷ (97, codes "PSA") ∷ (225, codes "CIA") ∷ (17, codes "ISP") ∷ []
@@ -30,8 +30,13 @@ after_names = (142, codes "EOM") ∷ (143, codes "EOM") ∷ (78, codes "MPS") �
 -- responses to these
 abbrev pub response_names : List (ℕ × List ℕ)
 response_names = (204, codes "RTP") ∷ (205, codes "RTP") ∷ (76, codes "RTN") ∷ (77, codes "RTN") ∷ (172, codes "PIP")
-    ∷ (173, codes "PIP") ∷ (44, codes "PIN") ∷ (45, codes "PIN") ∷ (28, codes "ERR") ∷ (29, codes "ERR") ∷ (252, codes "FDM")
-    ∷ (253, codes "FDM") ∷ []
+    ∷ (173, codes "PIP") ∷ (44, codes "PIN") ∷ (45, codes "PIN") ∷ (108, codes "PID") ∷ (109, codes "PID") ∷ (28, codes "ERR")
+    ∷ (29, codes "ERR") ∷ (252, codes "FDM") ∷ (253, codes "FDM") ∷ []
+
+-- frames of a call with security (annexes G and H)
+abbrev pub security_names : List (ℕ × List ℕ)
+security_names = (160, codes "DES") ∷ (147, codes "DEC") ∷ (83, codes "DER") ∷ (154, codes "DNK") ∷ (155, codes "DNK")
+    ∷ (74, codes "RK") ∷ (75, codes "TK") ∷ []
 
 -- the name of a frame of that group; none of others
 abbrev pub asking_name : ℕ → List ℕ
@@ -53,6 +58,10 @@ after_name octet = words_in after_names [] octet
 abbrev pub response_name : ℕ → List ℕ
 response_name octet = words_in response_names [] octet
 
+-- the name of a frame of that group; none of others
+abbrev pub security_name : ℕ → List ℕ
+security_name octet = words_in security_names [] octet
+
 -- the first of two names, unless it is none
 abbrev pub either_name : List ℕ → List ℕ → List ℕ
 either_name [] other = other
@@ -61,7 +70,7 @@ either_name name other = name
 -- the name of a frame; none of one that has no name
 abbrev pub other_name : ℕ → List ℕ
 other_name octet = either_name (either_name (asking_name octet) (command_name octet))
-    (either_name (line_name octet) (either_name (after_name octet) (response_name octet)))
+    (either_name (either_name (line_name octet) (security_name octet)) (either_name (after_name octet) (response_name octet)))
 
 -- the information field is a number or a name by the signs of a telephone: CSI, CIG, TSI, SEP, SID, PWD and SUB
 abbrev pub has_signs : ℕ → Bool

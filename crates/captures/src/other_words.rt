@@ -1,6 +1,6 @@
 //! What frames that are no signals of these stations say in words, as `frames --explain` shows it: their names, and the digits of some.
 
-ghost use Rattle.captures.specs.OtherWords.{after_name, asking_name, command_name, either_name, line_name, response_name};
+ghost use Rattle.captures.specs.OtherWords.{after_name, asking_name, command_name, either_name, line_name, response_name, security_name};
 ghost use Rattle.captures.specs.OtherWords.{has_signs, is_shown, name_line, other_name, other_words, sign_after, sign_text, signs_text, signs_words};
 ghost use Rattle.faults.specs.Faults.{IsOutside};
 ghost use Rattle.std.specs.Io.KnownBytes.{Appends};
@@ -87,8 +87,24 @@ fn response_name(octet: u8) -> &'static str
         0x4C | 0x4D => "RTN",
         0xAC | 0xAD => "PIP",
         0x2C | 0x2D => "PIN",
+        0x6C | 0x6D => "PID",
         0x1C | 0x1D => "ERR",
         0xFC | 0xFD => "FDM",
+        _ => "",
+    }
+}
+
+/// Returns the name of a frame of a call with security (T.30, annexes G and H); empty of others.
+fn security_name(octet: u8) -> &'static str
+    ensures { result.now ≡ security_name octet }
+{
+    match octet {
+        0xA0 => "DES",
+        0x93 => "DEC",
+        0x53 => "DER",
+        0x9A | 0x9B => "DNK",
+        0x4A => "RK",
+        0x4B => "TK",
         _ => "",
     }
 }
@@ -100,13 +116,14 @@ fn either_name(name: &'static str, other: &'static str) -> &'static str
     if name.is_empty() { other } else { name }
 }
 
-/// Returns the name of a frame by its facsimile control field (T.30, 5.3.6.1 and A.4); empty if it has none.
-pub(crate) fn other_name(octet: u8) -> &'static str
+/// Returns the name of a frame by its facsimile control field (T.30, 5.3.6.1, A.4, and annexes G and H); empty if it has none.
+pub fn other_name(octet: u8) -> &'static str
     ensures { result.now ≡ other_name octet }
 {
     let before = either_name(asking_name(octet), command_name(octet));
     let after = either_name(after_name(octet), response_name(octet));
-    either_name(before, either_name(line_name(octet), after))
+    let others = either_name(line_name(octet), security_name(octet));
+    either_name(before, either_name(others, after))
 }
 
 /// Returns whether the information field of a frame is a number or a name by the signs of a telephone.
@@ -165,8 +182,9 @@ fn write_sign<W: Write>(
     Ok(true)
 }
 
-/// Writes the signs of an information field from the left, without the spaces before the first one.
-fn write_signs<W: Write>(fields: &[u8], writer: &mut W) -> Result<(), ToolFault>
+/// Writes the signs of an information field from the left, without the spaces before the first one. Errors: `Io` (8) from the writer,
+/// `NoMemory` (9).
+pub fn write_signs<W: Write>(fields: &[u8], writer: &mut W) -> Result<(), ToolFault>
     ensures text { OnOk result (Appends (W.contents writer.old) (W.contents writer.new) (signs_text fields.now)) }
     ensures fault { IfErr result IsOutside }
 {
