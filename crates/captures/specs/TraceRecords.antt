@@ -1,4 +1,4 @@
--- What a station hears and says, and how its call ended, as JSON for programs.
+-- What a station hears and says, as JSON for programs.
 use Rattle.std.specs.Prelude.{ℕ, Bool, true, false, List, codes}
 use Rattle.serde_json.specs.Data.{Data, member, no_members, object}
 use Rattle.signals.specs.Reading.{read_content}
@@ -17,8 +17,3 @@ traced_record at said content = traced at said (says_record (read_content conten
 -- the record of a training check that was heard or said at a time in milliseconds
 abbrev pub check_record : ℕ → Bool → Data
 check_record at said = traced at said (named (codes "TRAINING"))
-
--- the record of why a station's call ended, with the pages that the caller counts as confirmed or the answerer has stored
-abbrev pub ended_record : List ℕ → Bool → ℕ → Data
-ended_record why true pages = object (member (codes "confirmed") (count pages) (member (codes "end") (words why) no_members))
-ended_record why false pages = object (member (codes "end") (words why) (member (codes "pages") (count pages) no_members))

@@ -246,8 +246,8 @@ fn write_pps<W: Write>(
     Ok(())
 }
 
-/// Returns whether a frame is marked in a map.
-pub(crate) fn is_in_map(map: &[u8; 32], number: u16) -> bool
+/// Returns whether a frame is marked in the map of a PPR.
+pub fn is_in_map(map: &[u8; 32], number: u16) -> bool
     ensures { result ≡ is_in_map map.now number }
 {
     number < 256 && bit_of(Order::LsbFirst, map, u128::from(number))

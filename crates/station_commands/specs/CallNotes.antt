@@ -277,3 +277,8 @@ state_record false pages whole None = object (member (codes "pages") (count page
 state_record false pages whole (Some why) = object (member (codes "pages") (count pages)
     (member (codes "whole") (boolean whole)
     (member (codes "why") (words why) no_members)))
+
+-- the record of why a station's call ended, with the pages that the caller counts as confirmed or the answerer has stored
+abbrev pub ended_record : List ℕ → Bool → ℕ → Data
+ended_record why true pages = object (member (codes "confirmed") (count pages) (member (codes "end") (words why) no_members))
+ended_record why false pages = object (member (codes "end") (words why) (member (codes "pages") (count pages) no_members))

@@ -7,9 +7,8 @@ ghost use Rattle.std.specs.Prelude.{◌≡◌, IfErr, IfSome, option_map};
 
 use crate::station::folder::StoppedBy;
 use crate::station::no_line::NoLine;
-use crate::station::records::{State, write_state};
+use crate::station::records::{State, write_ended, write_state};
 use crate::station::{self, Halted, Talked};
-use captures::write_ended;
 use command_files::command::Completeness;
 use command_files::context::Context;
 use command_files::error_line::ErrorLine;
