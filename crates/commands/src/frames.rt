@@ -33,7 +33,7 @@ use std::alloc::AllocError;
 use std::io;
 use std::io::Write;
 
-/// What is written of each frame: records if they are asked for, otherwise lines, with words if those are.
+/// Returns what is written of each frame: records if they are asked for, otherwise lines, with words if those are.
 pub fn list_form(records: bool, words: bool) -> ListForm
     ensures { result ≡ list_form records words }
 {

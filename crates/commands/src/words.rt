@@ -106,7 +106,7 @@ pub(crate) fn words_of_file(
     Ok(Some(text))
 }
 
-/// What the input's octets say of a fault beside its number.
+/// Returns what the input's octets say of a fault beside its number.
 fn cause_of(form: Option<PageForm>, fault: ToolFault, context: &Context<'_>) -> Option<Cause>
     requires { IfSome form (λ form. IsWidth form.width) }
 {

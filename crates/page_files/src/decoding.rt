@@ -1,7 +1,7 @@
 //! The way of decoding a page that is asked for, and what it gives.
 ghost use Rattle.page_files.specs.CodedPages.{WritesPage};
 ghost use Rattle.page_files.specs.Decodings.{GivesPage, IsKept, KeepsReadTo, RefusesDecoding, RefusesKept, broken_asked};
-ghost use Rattle.page_files.specs.Sources.{IsPageIn};
+ghost use Rattle.page_files.specs.Sources.{GivesFound};
 ghost use Rattle.faults.specs.Faults.{IsOutside};
 ghost use Rattle.page_code.specs.PageReaders.{IsPageRefused};
 ghost use Rattle.raster.specs.Packed.{bits_of};
@@ -95,9 +95,7 @@ fn decode_whole(
 
 /// Returns what `decode_page` gives of octets that were read as this page before, unless all rows are asked for.
 pub(crate) fn decoded_of(alloc: Global, found: FoundPage) -> Decoded
-    ensures given { (broken : Broken) (octets image : List ℕ) → broken ≢ Broken.AllRows → IsPageIn octets found
-        → WritesPage result.page (Some []) (Some image)
-        → GivesPage broken found.form octets result.read_to (length result.page.rows) image result.lines.items }
+    ensures given { GivesFound found result.page result.lines.items result.read_to }
     ensures end { KeepsReadTo None result.read_to }
 {
     let lines = Vec::new(alloc);

@@ -154,7 +154,8 @@ fn lacks_left(turned: &[u8], form: PageForm, read_to: ReadTo) -> bool
 
 /// Returns the page that was found, if it was read in this form and not all rows are asked for.
 fn found_so(found: Option<FoundPage>, form: PageForm, broken: Broken) -> Option<FoundPage>
-    ensures { IfSome result (λ page. (found ≡ Some page) × (page.form ≡ form) × (broken ≢ Broken.AllRows)) }
+    ensures { IfSome result (λ page.
+        (found ≡ Some page) × (page.form ≡ form) × (broken ≢ Broken.AllRows)) }
 {
     match broken {
         Broken::AllRows => None,

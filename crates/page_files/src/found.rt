@@ -73,7 +73,7 @@ fn best_of(octets: &[u8], tried: &[Tried]) -> Option<Tried>
 }
 
 /// The widths that octets say themselves, in T.4 and in T.4 in two dimensions.
-#[derive(Clone, Copy, Debug, PartialEq, Eq)]
+#[derive(Clone, Copy)]
 struct SaidWidths {
     own: Said,
     two: Said,

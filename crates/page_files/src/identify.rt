@@ -19,7 +19,7 @@ use crate::coded::read_code;
 use crate::no_eols::tell_alone;
 use crate::options::PageForm;
 use crate::own_widths::{first_line, two_dim_width};
-use crate::source::{FoundPage, Results, Source, turned_lsb};
+use crate::source::{FoundPage, OrderedOctets, Results, turned_lsb};
 use faults::{FaultKind, NO_MEMORY, ToolFault};
 use page_code::{Coding, OneDim, RepairedPage};
 use raster::MAX_WIDTH;
@@ -177,7 +177,8 @@ pub(crate) fn try_way(
     requires { IsWidth form.width }
     ensures tried { IfOk result (λ read. IsTried octets.now read.0) }
     ensures form { IfOk result (λ read. read.0.form ≡ form) }
-    ensures page { IfOk result (λ read. IfSome read.1 (λ found. IsPageIn octets.now found × (found.form ≡ form))) }
+    ensures page { IfOk result (λ read.
+        IfSome read.1 (λ found. IsPageIn octets.now found × (found.form ≡ form))) }
     ensures refused { IfErr result IsOutside }
 {
     let mut kept = None;
@@ -218,7 +219,7 @@ pub(crate) fn try_way(
 /// Reads octets in one code and each of these widths, and appends how far that is. Errors: `NoMemory` (9).
 fn try_widths(
     alloc: Global,
-    source: &Source<'_>,
+    source: &OrderedOctets<'_>,
     coding: Coding,
     widths: &[u32],
     results: &mut Results,
@@ -244,7 +245,7 @@ fn try_widths(
 /// returns their own width. Errors: `NoMemory` (9).
 fn try_own(
     alloc: Global,
-    source: &Source<'_>,
+    source: &OrderedOctets<'_>,
     widths: &[u32],
     results: &mut Results,
 ) -> Result<Option<u128>, ToolFault>
@@ -280,14 +281,15 @@ pub(crate) struct Said {
 /// Reads octets in T.4, at its own width or in these, in both bit orders, and returns what `try_ways` does. Errors: `NoMemory` (9).
 fn try_both(
     alloc: Global,
-    msb: &Source<'_>,
-    lsb: &Source<'_>,
+    msb: &OrderedOctets<'_>,
+    lsb: &OrderedOctets<'_>,
     widths: &[u32],
 ) -> Result<(Results, Said), ToolFault>
     requires widths { All IsWidth widths.now }
     requires msb { msb.now.order ≡ Order.MsbFirst }
     requires lsb { lsb.now ≡ record { octets = msb.now.octets; order = Order.LsbFirst } }
-    ensures tried { IfOk result (λ ways. AreOneDimTried widths.now msb.now.octets ways.0.tried.items ways.1) }
+    ensures tried { IfOk result (λ ways.
+        AreOneDimTried widths.now msb.now.octets ways.0.tried.items ways.1) }
     ensures found { IfOk result (λ ways. IfSome ways.0.found (IsPageIn msb.now.octets)) }
     ensures refused { IfErr result IsOutside }
 {
@@ -308,12 +310,13 @@ pub(crate) fn try_one_dim(
     widths: &[u32],
 ) -> Result<(Results, Said), ToolFault>
     requires { All IsWidth widths.now }
-    ensures tried { IfOk result (λ ways. AreOneDimTried widths.now octets.now ways.0.tried.items ways.1) }
+    ensures tried { IfOk result (λ ways.
+        AreOneDimTried widths.now octets.now ways.0.tried.items ways.1) }
     ensures refused { IfErr result IsOutside }
 {
     let turned = turned_lsb(alloc, octets)?;
-    let msb = Source::of(octets, Order::MsbFirst, &[]);
-    let lsb = Source::of(octets, Order::LsbFirst, &turned);
+    let msb = OrderedOctets::of(octets, Order::MsbFirst, &[]);
+    let lsb = OrderedOctets::of(octets, Order::LsbFirst, &turned);
     try_both(alloc, &msb, &lsb, widths)
 }
 
@@ -331,8 +334,8 @@ pub(crate) fn try_ways(
     ensures refused { IfErr result IsOutside }
 {
     let turned = turned_lsb(alloc, octets)?;
-    let msb = Source::of(octets, Order::MsbFirst, &[]);
-    let lsb = Source::of(octets, Order::LsbFirst, &turned);
+    let msb = OrderedOctets::of(octets, Order::MsbFirst, &[]);
+    let lsb = OrderedOctets::of(octets, Order::LsbFirst, &turned);
     let (mut results, said) = try_both(alloc, &msb, &lsb, widths)?;
     try_widths(alloc, &msb, Coding::T6, widths, &mut results)?;
     try_widths(alloc, &lsb, Coding::T6, widths, &mut results)?;

@@ -29,7 +29,7 @@ pub struct FoundPage {
 }
 
 impl FoundPage {
-    /// The same page, of octets in this order of bits.
+    /// Returns the same page, of octets in this order of bits.
     fn in_order(self, order: Order) -> FoundPage
         ensures { result ≡ page_in_order order self }
     {
@@ -61,7 +61,7 @@ pub(crate) fn turned_lsb(alloc: Global, octets: &[u8]) -> Result<Vec<u8>, ToolFa
 
 /// Octets and an order of their bits.
 #[derive(Drop)]
-pub(crate) struct Source<'a> {
+pub(crate) struct OrderedOctets<'a> {
     octets: &'a [u8],
     order: Order,
     // Octets of the same bits, and the order in which these have them: they were turned once for all ways.
@@ -69,7 +69,7 @@ pub(crate) struct Source<'a> {
     first: Order,
 }
 
-impl<'a> Model for Source<'a> {
+impl<'a> Model for OrderedOctets<'a> {
     ghost use Rattle.page_files.specs.Sources.{SourceBits};
     ghost use Rattle.raster.specs.Packed.{bits_of};
     ghost use Rattle.std.specs.Prelude.{◌≡◌};
@@ -81,14 +81,14 @@ impl<'a> Model for Source<'a> {
     ghost invariant = { λ s. bits_of s.first s.code.now ≡ bits_of s.order s.octets.now };
 }
 
-impl<'a> Source<'a> {
+impl<'a> OrderedOctets<'a> {
     /// Octets in this order of bits, and what `turned_code` gives of them.
-    pub(crate) fn of(octets: &'a [u8], order: Order, turned: &'a [u8]) -> Source<'a>
+    pub(crate) fn of(octets: &'a [u8], order: Order, turned: &'a [u8]) -> OrderedOctets<'a>
         requires { IsTurnedCode order octets.now turned.now }
         ensures { result ≡ record { octets = octets.now; order = order } }
     {
         let (code, first) = code_of(octets, order, turned);
-        Source {
+        OrderedOctets {
             octets,
             order,
             code,
@@ -194,8 +194,8 @@ impl Results {
         found: Option<FoundPage>,
     ) -> Result<(), ToolFault>
         ensures tried { OnOk result (self.new.tried.items ≡ self.old.tried.items ++ tried ∷ []) }
-        ensures found { (octets : List ℕ) → IfSome self.old.found (IsPageIn octets) → IfSome found (IsPageIn octets)
-            → IfSome self.new.found (IsPageIn octets) }
+        ensures found { (octets : List ℕ) → IfSome self.old.found (IsPageIn octets)
+            → IfSome found (IsPageIn octets) → IfSome self.new.found (IsPageIn octets) }
         ensures refused { IfErr result IsOutside }
     {
         if let Some(page) = found {
@@ -212,7 +212,8 @@ impl Results {
 
 /// Returns whether a page is better than the one that was found before, if there is one: if it alone ends with the octets.
 fn is_better(octets: &[u8], page: &FoundPage, before: &Option<FoundPage>) -> bool
-    ensures { result ≡ is_better octets.now page.now.bits (option_map (λ before. before.bits) before.now) }
+    ensures { result ≡ is_better octets.now page.now.bits
+        (option_map (λ before. before.bits) before.now) }
 {
     match before {
         Some(before) => page.ends_with(octets) && !before.ends_with(octets),

@@ -231,7 +231,7 @@ struct TraceLines {
 }
 
 /// Frames of a block whose numbers follow each other, and the octets of data in the last one.
-#[derive(Clone, Copy, Debug, PartialEq, Eq)]
+#[derive(Clone, Copy, PartialEq, Eq)]
 struct FrameRun {
     first: u8,
     last: u8,

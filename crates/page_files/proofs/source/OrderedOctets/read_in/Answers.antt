@@ -4,7 +4,7 @@ use Rattle.page_files.specs.Identified.{IsTried}
 use Rattle.page_files.specs.Sources.{in_order}
 use Rattle.page_files.specs.declared.options.PageForm.{PageForm}
 use Rattle.page_files.proofs.Sources.{tried_alike}
-use Rattle.page_files.proofs.source.Source.read_in.Goals as goal
+use Rattle.page_files.proofs.source.OrderedOctets.read_in.Goals as goal
 
 pub returns-clause-tried : goal.returns-clause-tried
 returns-clause-tried c =
