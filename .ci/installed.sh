@@ -83,8 +83,9 @@ sed 's|^prefix=.*|prefix=${pcfiledir}|; s|^libdir=.*|libdir=${prefix}|; s|^inclu
 cmp "$work/again/opt/g3fax/lib/pkgconfig/g3fax.pc" "$work/stage/opt/g3fax/lib/pkgconfig/g3fax.pc" || fails "g3fax.pc after make lib-try"
 
 # the version in the header is that of the library and of the file VERSION; each function of the header is exported, with the version that
-# bindings/exports has it in, and nothing below them
-python3 - "$work/prefix" "$(cat "$top/VERSION")" "$top/bindings/exports" << 'ABI' || fails "the header and the shared library differ"
+# it came with, and nothing below them
+"$top/bindings/from_header.py" exports > "$work/exports"
+python3 - "$work/prefix" "$(cat "$top/VERSION")" "$work/exports" << 'ABI' || fails "the header and the shared library differ"
 import ctypes
 import re
 import sys
@@ -101,7 +102,7 @@ lost = sorted(set(names) ^ set(nodes)) + [name for name in names if not find(lib
 major, minor, patch = map(int, version.split("."))
 number = major * 10000 + minor * 100 + patch
 if len(names) < 60 or lost:
-    sys.exit(f"{len(names)} functions, of which aren't exported as bindings/exports says: {lost}")
+    sys.exit(f"{len(names)} functions, of which aren't exported as from_header.py says: {lost}")
 if f"#define G3_VERSION_NUMBER {number}\n" not in header or library.g3_version_number() != number:
     sys.exit(f"version {version} isn't {number} in the header and in the library")
 if hasattr(library, "g3_core_free"):

@@ -24,9 +24,10 @@ builds() {
     [ -s "$copy/crates/g3fax/out/libg3fax.a" ] || fails "$2: there is no library"
 }
 
-mkdir -p "$copy/packaging" "$copy/bindings" "$copy/crates/g3fax/src" "$KIT/bin"
+mkdir -p "$copy/packaging" "$copy/bindings/python/g3fax" "$copy/crates/g3fax/src" "$KIT/bin"
 cp "$top/packaging/build_library.sh" "$top/packaging/trust.py" "$copy/packaging/"
-cp "$top/bindings/build.sh" "$top/bindings/own_names.py" "$top/bindings/from_header.py" "$top/bindings/exports" "$copy/bindings/"
+cp "$top/bindings/build.sh" "$top/bindings/own_names.py" "$top/bindings/from_header.py" "$copy/bindings/"
+cp "$top/bindings/python/g3fax/_header.py" "$copy/bindings/python/g3fax/"
 cp "$top/crates.txt" "$top/HANDLES" "$top/VERSION" "$copy/"
 echo "//! One." > "$copy/crates/g3fax/src/lib.rt"
 echo "a kit" > "$KIT/KIT-ID"

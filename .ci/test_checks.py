@@ -263,29 +263,31 @@ def of_house():
 
 
 def of_header():
-    """A status that a page doesn't list, by a test; and a number that changed, a function that the record hasn't, and one in the node of a
-    version that is out."""
+    """A status that a page doesn't list, by a test; and of a version that is out a number that changed, a function that went, one that came
+    after it, and no record."""
     header = (make_library.TOP / "bindings/g3fax.h").read_text()
-    exported = (make_library.TOP / "bindings/exports").read_text()
     found = make_library.items(header)
     for status, name in ("G3_NO_IMAGE", "g3_row_coder_take"), ("G3_FRAME_LOST", "g3_page_size"), ("G3_EMPTY_HANDLE", "g3_agree"):
         yield refuses(status, lambda tests: make_library.untold(found, tests), "", f"    IS({status}, {name}(&it));", f"list {status}")
     sizes = "    SIZES(it, g3_row_coder_take(&it, &o));"
     yield refuses("a struct of another size", lambda tests: make_library.untold(found, tests), "", sizes, "list G3_BAD_SIZE")
-    open_, out = "## 0.1.0, unreleased\n", "## 0.1.1, unreleased\n\n## 0.1.0, 2026-01-01\n"
+    made = make_library.from_header
+    old, out = made.plain(header), "## 0.1.1, unreleased\n\n## 0.1.0, 2026-01-01\n"
 
-    def recorded(changes):
-        return lambda texts: make_library.from_header.record_faults(header, *texts, changes)
+    def recorded(texts):
+        return made.record_faults(texts[0], texts[1], out)
 
-    sound = header, exported
-    assert not [*recorded(open_)(sound), *recorded(out)(sound)]
-    swapped = header.replace("G3_END_TRAINING = 4", "G3_END_TRAINING = 5").replace("G3_END_NO_REPLY = 5", "G3_END_NO_REPLY = 4"), exported
-    for changes in open_, out:
-        yield refuses("a number that changed", recorded(changes), sound, swapped, "G3_END_TRAINING was 4")
+    later = header.replace("G3_VERSION_NUMBER 100\n", "G3_VERSION_NUMBER 101\n")
+    assert not [*made.record_faults([], header, "## 0.1.0, unreleased\n"), *recorded(([old], header)), *recorded(([old], later))]
+    swapped = header.replace("G3_END_TRAINING = 4", "G3_END_TRAINING = 5").replace("G3_END_NO_REPLY = 5", "G3_END_NO_REPLY = 4")
+    yield refuses("a number that changed", recorded, ([old], header), ([old], swapped), "G3_END_TRAINING was 4")
+    yield refuses("a function that went", recorded, ([old], header), ([old], header.replace("g3_agree(", "g3_agrees(")), "g3_agree is another")
     last = "uint64_t *count);\n"
-    more = header.replace(last, f"{last}void g3_later(g3_page *page);\n", 1), exported.replace("g3_agree;", "g3_later;\n    g3_agree;")
-    yield refuses("a function that the record hasn't", recorded(open_), sound, more, "isn't out")
-    yield refuses("a function in a node that is out", recorded(out), sound, more, "g3_later came after 0.1.0")
+    more = later.replace(last, f"{last}void g3_later(g3_page *page);\n", 1)
+    yield refuses("a function of a version that is out", recorded, ([old], more), ([old], more.replace("NUMBER 101", "NUMBER 100")),
+                  "g3_later came after 0.1.0")
+    yield refuses("no record", recorded, ([old], header), ([], header), "is it out?")
+    assert made.nodes([old, more]) == {"G3FAX_0.1.0": {name for _, name, _ in made.Header(old).functions}, "G3FAX_0.1.1": {"g3_later"}}
 
 
 def guarantees():

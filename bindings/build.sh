@@ -28,16 +28,17 @@ else
     "$kit/toolchain/bin/llvm-ar" x "$archive"
 fi
 "$kit/toolchain/bin/llvm-ar" x "$kit/c/liblibc_c.a"
-"$top/bindings/from_header.py" > wrappers.h
+"$top/bindings/from_header.py" wrappers > wrappers.h
+"$top/bindings/from_header.py" exports > exports
 "$kit/toolchain/bin/clang" -std=c11 -O2 -fPIC -Wall -Wextra -Werror -ffreestanding -nostdinc -isystem "$top/bindings/include" -I. \
     -DG3_VERSION="\"$said\"" -DG3_BUILT="$number" -c "$top/bindings/g3fax.c" -o g3fax_c.o
 # one object, whose only names for other programs are those of the functions of the header
 mkdir one
 "$kit/toolchain/bin/ld.lld" -r -o one/libg3fax.o ./*.o
-"$top/bindings/own_names.py" one/libg3fax.o "$top/bindings/exports"
+"$top/bindings/own_names.py" one/libg3fax.o exports
 rm -f "$to/libg3fax.a"
 "$kit/toolchain/bin/llvm-ar" rcs "$to/libg3fax.a" one/libg3fax.o
-"$kit/toolchain/bin/ld.lld" -shared -soname libg3fax.so.0 -z relro -z noexecstack --version-script "$top/bindings/exports" \
+"$kit/toolchain/bin/ld.lld" -shared -soname libg3fax.so.0 -z relro -z noexecstack --version-script exports \
     -o "$to/libg3fax.so.0" ./*.o "$kit/toolchain/lib/libc.so.6"
 cp "$top/bindings/g3fax.h" "$to/g3fax.h"
 sed "s|@VERSION@|$version|; $description" "$top/bindings/g3fax.pc.in" > "$to/g3fax.pc"

@@ -1,64 +1,81 @@
 #!/usr/bin/env python3
-"""What follows from g3fax.h:
+"""What follows from g3fax.h. Each word prints a part of it:
 
-    bindings/from_header.py    prints the functions of one shape, in C: bindings/build.sh compiles them with g3fax.c
+    bindings/from_header.py wrappers    the functions of one shape, in C: bindings/build.sh compiles them with g3fax.c. One that g3fax.c has
+                                        stays as it is there
+    bindings/from_header.py exports     the version script of the shared library: each function in the version that it came with
+    bindings/from_header.py older       the same of the last version that is out, or if none is, of today's
+    bindings/from_header.py record      the header as it is recorded once its version is out: without comments
+    bindings/from_header.py calls       a random call of each function, for tests/random.c
 
-docs/man/make_library.py writes the rest by it: bindings/exports, and what python/g3fax/_native.py knows of structs and functions. A function
-that g3fax.c has stays as it is there. It needs Python's standard library alone."""
+tests/older/VERSION/g3fax.h is the record of a version that is out: packaging/README.md says when it is written. A function that no record
+has came with the version of the file VERSION. It needs Python's standard library alone."""
 
 import re
+import sys
 from pathlib import Path
 
 HERE = Path(__file__).resolve().parent
-FUNCTION = re.compile(r"^(?:G3_CHECK )?(g3_status|uint32_t|void|const char \*) ?(g3_\w+)\(([^;]*)\);$", re.M)
-STRUCT = re.compile(r"^typedef struct (g3_\w+) \{(.*?)\} \1;$", re.M | re.S)
-CTYPES = {"uint64_t": "_u64", "uint32_t": "_u32", "size_t": "_size", "uint8_t": "_u8", "char": "_char", "g3_status": "_u32",
-          "const char *": "_text", "void": "None"}
+sys.dont_write_bytecode = True
+sys.path.insert(0, str(HERE / "python" / "g3fax"))
+from _header import Header, plain  # noqa: E402
 
-
-class Header:
-    """The structs and functions of g3fax.h, in order."""
-
-    @staticmethod
-    def plain(text):
-        """The header without its comments."""
-        return re.sub(r"[ \t]+$", "", re.sub(r"/\*.*?\*/", "", text, flags=re.S), flags=re.M)
-
-    def __init__(self, text):
-        plain = self.plain(text)
-        #: each struct's members: a type, a name, and of an array how many there are, as text
-        self.structs = {}
-        for name, inside in STRUCT.findall(plain):
-            members = []
-            for kind, names in re.findall(r"([\w ]+?) (\*?\w+(?:\[\d+\])?(?:, \w+(?:\[\d+\])?)*);", inside):
-                members += [(kind.strip(), *re.match(r"(\*?\w+)(?:\[(\d+)\])?", one).groups()) for one in names.split(", ")]
-            self.structs[name] = members
-        self.handles = [name for name, members in self.structs.items() if members == [("void", "*at", None)]]
-        self.sized = [name for name, members in self.structs.items() if members[0] == ("uint64_t", "size", None)]
-        #: each function: what it returns, its name, and its parameters, a type and a name each
-        self.functions = [(kind, name, [re.match(r"(.*?)(\w+)$", one).groups() for one in words.split(", ") if one != "void"])
-                          for kind, name, words in FUNCTION.findall(plain)]
+RECORDS = HERE / "tests" / "older"
 
 
 def numbers(text):
     """Each number that a header names."""
-    return {name: int(number) for name, number in re.findall(r"\b(G3_\w+) = (\d+)", Header.plain(text))}
+    return {name: int(number) for name, number in re.findall(r"\b(G3_\w+) = (\d+)", plain(text))}
 
 
-def record_faults(old, new, exported, changes):
-    """What differs of a header from the record of a version: a number that changed or went; until that version is out, as the change log says,
-    anything; and from then on a name that was put into its node."""
-    for name, number in numbers(old).items():
-        if numbers(new).get(name) != number:
-            yield f"{name} was {number} in bindings/tests/older/g3fax.h"
-    one, other = Header(old), Header(new)
-    number = int(re.search(r"G3_VERSION_NUMBER (\d+)", old)[1])
-    version = f"{number // 10000}.{number // 100 % 100}.{number % 100}"
-    if f"## {version}, unreleased\n" not in changes:
-        late = nodes(exported)[f"G3FAX_{version}"] - {name for _, name, _ in one.functions}
-        yield from (f"{name} came after {version}, which is out: a later VERSION gives it a node" for name in sorted(late))
-    elif (one.structs, one.functions, numbers(old)) != (other.structs, other.functions, numbers(new)):
-        yield f"bindings/tests/older/g3fax.h is another, and {version} isn't out: its head says how it is written"
+def version_of(text):
+    """The version of a header, in three numbers."""
+    number = int(re.search(r"G3_VERSION_NUMBER (\d+)", text)[1])
+    return number // 10000, number // 100 % 100, number % 100
+
+
+def records():
+    """The header of each version that is out, the first one first."""
+    return sorted((file.read_text() for file in RECORDS.glob("*/g3fax.h")), key=version_of)
+
+
+def nodes(texts):
+    """The functions that came with each version, of headers in the order of their versions."""
+    found, known = {}, set()
+    for text in texts:
+        names = {name for _, name, _ in Header(text).functions} - known
+        if names:
+            found.setdefault("G3FAX_" + ".".join(map(str, version_of(text))), set()).update(names)
+        known |= names
+    return found
+
+
+def exports(texts):
+    """The version script, by the headers of the versions that are out and that of today."""
+    lines, before = [], ""
+    for node, names in nodes(texts).items():
+        lines += [f"{node} {{", "global:", *[f"    {name};" for name in sorted(names)], *([] if before else ["local:", "    *;"]), f"}}{before};"]
+        before = f" {node}"
+    return "\n".join(lines) + "\n"
+
+
+def record_faults(olds, new, changes):
+    """What differs of today's header from those of versions that are out, and from what the change log says is out: a number that changed or
+    went; a function that came after a version, and has its node; and a version that is out and has no record, or one that isn't and has."""
+    for old in olds:
+        version = ".".join(map(str, version_of(old)))
+        for name, number in numbers(old).items():
+            if numbers(new).get(name) != number:
+                yield f"{name} was {number} in version {version}"
+        gone = {(name, kind) for kind, name, _ in Header(old).functions} - {(name, kind) for kind, name, _ in Header(new).functions}
+        yield from (f"{name} is another function than in version {version}, or none" for name, _ in sorted(gone))
+    if olds and version_of(olds[-1]) >= version_of(new):
+        late = {name for _, name, _ in Header(new).functions} - {name for old in olds for _, name, _ in Header(old).functions}
+        yield from (f"{name} came after {'.'.join(map(str, version_of(olds[-1])))}, which is out: a later VERSION gives it a node"
+                    for name in sorted(late))
+    told = {tuple(map(int, version.split("."))) for version in re.findall(r"^## (\d+\.\d+\.\d+), \d", changes, re.M)}
+    for version in sorted(told ^ {version_of(old) for old in olds}):
+        yield f"CHANGELOG.md and bindings/tests/older don't say the same of version {'.'.join(map(str, version))}: is it out?"
 
 
 def wrapper(header, kind, name, parameters):
@@ -110,71 +127,49 @@ def wrappers(header, source):
     return "\n".join(texts) + "\n"
 
 
-def nodes(text):
-    """The names of each version, as bindings/exports has them."""
-    return {node: set(re.findall(r"g3_\w+", inside)) for node, inside in re.findall(r"^(G3FAX_[\d.]+) \{\n(.*?)^\}", text, re.M | re.S)}
+def random_word(written, word):
+    """A random argument of a parameter that is no address of a struct, as tests/random.c makes it."""
+    if "**" in written:
+        return "below(50) ? &address : NULL"
+    if "uint8_t *" in written:
+        return "octets" if "const" in written else "room"
+    if "*" in written:
+        return f"below(50) ? &{'why' if 'uint32_t' in written else 'place' if word == 'place' else 'told'} : NULL"
+    return "length" if written.strip() == "size_t" else f'word("{word}")'
 
 
-def exports(header, text, version):
-    """bindings/exports: each name in the version that it came with; a name that it hasn't came with this one."""
-    known = nodes(text)
-    new = {name for _, name, _ in header.functions} - set().union(*known.values())
-    if new:
-        known.setdefault(f"G3FAX_{version}", set()).update(new)
-    lines, before = [], ""
-    for node, names in known.items():
-        lines += [f"{node} {{", "global:", *[f"    {name};" for name in sorted(names)], *([] if before else ["local:", "    *;"]), f"}}{before};"]
-        before = f" {node}"
+def random_call(header, kind, name, parameters):
+    """A call of a function with random arguments."""
+    words = []
+    for written, word in parameters:
+        pointed = re.sub(r"const |[* ]", "", written) if "*" in written else ""
+        if pointed in header.handles:
+            words.append(f"{'empty' if word == 'out' else 'full'}(A_{pointed[3:].upper()})")
+        elif pointed in header.structs:
+            words.append(f"below(50) ? a_{pointed[3:]}() : NULL")
+        else:
+            words.append(random_word(written, word))
+    call = f"{name}({', '.join(words)})"
+    return f"return {call};" if kind == "g3_status" else f"{call if kind == 'void' else f'(void){call}'}; return G3_OK;"
+
+
+def random_calls(header):
+    """A function of C that calls each function of the header, by its number; the kinds of handles have numbers too."""
+    lines = [f"enum {{ {', '.join(f'A_{name[3:].upper()}' for name in header.handles)} }};", f"enum {{ FUNCTIONS = {len(header.functions)} }};",
+             "static g3_status any(uint32_t which, const uint8_t *octets, uint8_t *room, size_t length)", "{", "    switch (which) {",
+             *[f"    case {at}: {random_call(header, *function)}" for at, function in enumerate(header.functions)],
+             "    default: return G3_OK;", "    }", "}"]
     return "\n".join(lines) + "\n"
 
 
-def class_of(name):
-    """The class of a struct, by its name."""
-    return "_" + name.replace("g3_", "", 1).capitalize()
-
-
-def natives(header):
-    """What _native.py has of the header."""
-    lines = []
-    for name, members in header.structs.items():
-        if name in header.handles:
-            continue
-        sized = name in header.sized
-        shown = []
-        for kind, member, count in members:
-            of = CTYPES.get(kind) or class_of(kind)
-            shown.append(f'("{member}", {of}{f" * {count}" if count else ""})')
-        lines += ["", "", f"class {class_of(name)}({'_Sized' if sized else 'ctypes.Structure'}):", f"    _fields_ = [{wrapped(shown, 16)}]"]
-    lines += ["", "", "#: what each function returns and takes", "_FUNCTIONS: Dict[str, Tuple[Any, List[Any]]] = {"]
-    for kind, name, parameters in header.functions:
-        types = ["_address" if "*" in written else CTYPES[written.strip()] for written, _ in parameters]
-        lines.append(f'    "{name}": ({CTYPES[kind]}, [{", ".join(types)}]),')
-    return "\n".join([*lines, "}"]) + "\n"
-
-
-def wrapped(words, indent):
-    """Words with commas, in lines of 140 columns."""
-    lines = [""]
-    for word in words:
-        if len(lines[-1]) + len(word) + indent > 136:
-            lines.append("")
-        lines[-1] += word + ", "
-    return f"\n{' ' * indent}".join(line.rstrip() for line in lines).rstrip(",")
-
-
-def native_file(header, text):
-    """_native.py, with what the header says between its marks."""
-    begin, end = "# ---- from here on written by docs/man/make_library.py, by g3fax.h\n", "# ---- to here\n"
-    before, rest = text.split(begin)
-    return before + begin + natives(header) + "\n\n" + end + rest.split(end)[1]
-
-
-def written(version):
-    """Each file that follows from the header, and its text."""
-    header = Header((HERE / "g3fax.h").read_text())
-    native = HERE / "python/g3fax/_native.py"
-    return {HERE / "exports": exports(header, (HERE / "exports").read_text(), version), native: native_file(header, native.read_text())}
+def printed(word):
+    """What a word prints."""
+    text = (HERE / "g3fax.h").read_text()
+    parts = {"wrappers": lambda: wrappers(Header(text), (HERE / "g3fax.c").read_text()), "exports": lambda: exports([*records(), text]),
+             "older": lambda: exports(records() or [text]),
+             "record": lambda: re.sub(r"\n{2,}", "\n", plain(text)).lstrip("\n"), "calls": lambda: random_calls(Header(text))}
+    return parts[word]() if word in parts else sys.exit(__doc__)
 
 
 if __name__ == "__main__":
-    print(wrappers(Header((HERE / "g3fax.h").read_text()), (HERE / "g3fax.c").read_text()), end="")
+    print(printed(" ".join(sys.argv[1:])), end="")

@@ -80,8 +80,7 @@ unproved_sum() {
         for crate in "$1" $(sed -n "s/^$1\( *staticlib\)\{0,1\}://p" crates.txt); do
             [ ! -d "crates/$crate" ] || find "crates/$crate/src" -type f
         done | LC_ALL=C sort | xargs -d '\n' sha256sum
-        sha256sum crates.txt VERSION packaging/build_unproved.sh packaging/reach_exports.py bindings/build.sh bindings/exports \
-            bindings/g3fax.*
+        sha256sum crates.txt VERSION packaging/build_unproved.sh packaging/reach_exports.py bindings/build.sh bindings/g3fax.*
         cat "$KIT/KIT-ID" "$KIT/WHAT"
     ) | sha256sum | cut -d ' ' -f 1
 }

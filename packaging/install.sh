@@ -76,7 +76,7 @@ gather_library() {
     puts 644 bindings/c/*.[ch] "$docs/c"
     puts 644 bindings/c/softfax/*.[ch] bindings/c/softfax/Makefile bindings/c/softfax/inits.txt "$docs/c/softfax"
     puts 644 bindings/tests/heap.h "$docs/tests"
-    puts 644 bindings/python/g3fax/*.py bindings/python/g3fax/py.typed "$docs/python/g3fax"
+    puts 644 bindings/python/g3fax/*.py bindings/g3fax.h bindings/python/g3fax/py.typed "$docs/python/g3fax"
     puts 644 docs/man/*.3 "$prefix/share/man/man3"
 }
 

@@ -8,7 +8,7 @@ first_copy() {
     cp -r "$top/packaging" "$first/"
     cp -r "$top/docs/examples" "$first/docs/"
     cp "$top/crates.txt" "$top/VERSION" "$first/"
-    cp "$top/bindings/build.sh" "$top/bindings/exports" "$top"/bindings/g3fax.* "$first/bindings/"
+    cp "$top/bindings/build.sh" "$top"/bindings/g3fax.* "$first/bindings/"
     for crate in "$top"/crates/*/src; do
         crate=${crate%/src}
         mkdir -p "$first/crates/${crate##*/}"

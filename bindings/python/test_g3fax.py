@@ -12,8 +12,10 @@ import itertools
 import multiprocessing
 import os
 import pickle
+import shutil
 import subprocess
 import sys
+import tempfile
 import threading
 import timeit
 import unittest
@@ -371,18 +373,16 @@ class Pages(unittest.TestCase):
         self.assertEqual((g3fax.version(), g3fax.__version__), (version, version))
 
     def test_import(self):
-        program = """if True:
-            import sys
-            try:
-                exec(compile(sys.stdin.read(), "_native.py", "exec"), dict(__file__="_native.py", __name__="g3fax._native"))
-            except ImportError as error:
-                print(error)"""
+        program, folder = "try: import g3fax\nexcept ImportError as error: print(error)", tempfile.TemporaryDirectory()
+        self.addCleanup(folder.cleanup)
+        shutil.copytree(HERE / "g3fax", Path(folder.name) / "g3fax")
+        native, text = Path(folder.name) / "g3fax" / "_native.py", (HERE / "g3fax" / "_native.py").read_text()
 
         def said(library, version=g3fax.__version__):
             """What the import of the module says of a library, were it for a version."""
-            source = (HERE / "g3fax" / "_native.py").read_text().replace(f'__version__ = "{g3fax.__version__}"', f'__version__ = "{version}"')
-            done = subprocess.run([sys.executable, "-c", program], input=source, text=True, capture_output=True,
-                                  env={**os.environ, "G3FAX_LIBRARY": library})
+            native.write_text(text.replace(f'__version__ = "{g3fax.__version__}"', f'__version__ = "{version}"'))
+            env = {**os.environ, "G3FAX_LIBRARY": library, "PYTHONPATH": folder.name, "PYTHONDONTWRITEBYTECODE": "1"}
+            done = subprocess.run([sys.executable, "-c", program], text=True, capture_output=True, env=env)
             self.assertEqual((done.returncode, done.stderr), (0, ""))
             return done.stdout
         here = os.environ["G3FAX_LIBRARY"]

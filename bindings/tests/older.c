@@ -1,5 +1,5 @@
-/* A program of version 0.1.0: it is compiled with the header of then, older/g3fax.h, and linked to an empty library that has the
- * functions of then, whose names are in names.h; and it runs over the library of today. Each function has to be there. Each struct that
+/* A program of the last version that is out: it is compiled with the header of then, and linked to an empty library that has the functions
+ * of then, whose names are in names.h; and it runs over the library of today. Before the first version is out "then" is today. Each function has to be there. Each struct that
  * is written is written as it was, with no octet after it; one that begins with a size that isn't known is refused, and stays as it was.
  * Prints what differs, and ends with 1 then. */
 #include "g3fax.h"

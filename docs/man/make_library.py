@@ -1,14 +1,12 @@
 #!/usr/bin/env python3
-"""Writes what follows from bindings/g3fax.h: the man pages of the library for C, by group, from its comments; and by bindings/from_header.py
-the names in bindings/exports, and what Python knows of structs and functions:
+"""Writes the man pages of the library for C, by group, from the comments of bindings/g3fax.h:
 
-    docs/man/make_library.py            writes docs/man/g3fax_*.3, bindings/exports and bindings/python/g3fax/_native.py; the examples of the
-                                        pages are those of docs/man/examples
+    docs/man/make_library.py            writes docs/man/g3fax_*.3; the examples of the pages are those of docs/man/examples
     docs/man/make_library.py --check    writes nothing; names each file that would be another, and ends with status 1 then
 
 Each function, struct and list of numbers of the header stands in one page, with the comment before it. A name that no page takes ends the
-script with status 1; so does a status that bindings/tests has of a function and its page hasn't, or a number that isn't that of the record in
-bindings/tests/older. It needs Python's standard library alone."""
+script with status 1; so does a status that bindings/tests has of a function and its page hasn't, or what isn't as in a version that is out.
+It needs Python's standard library alone."""
 
 import re
 import sys
@@ -228,9 +226,9 @@ def grouped(chosen):
 def faults():
     """What the header's readers would miss: a status in its page, or what the record of a version has."""
     tests = [*sorted((TOP / "bindings/tests").glob("*.c")), TOP / "bindings/c/misuse.c"]
-    old, new, exported = [(TOP / "bindings" / name).read_text() for name in ("tests/older/g3fax.h", "g3fax.h", "exports")]
-    return [*untold(items(new), "\n".join(file.read_text() for file in tests)),
-            *from_header.record_faults(old, new, exported, (TOP / "CHANGELOG.md").read_text())]
+    header = (TOP / "bindings/g3fax.h").read_text()
+    return [*untold(items(header), "\n".join(file.read_text() for file in tests)),
+            *from_header.record_faults(from_header.records(), header, (TOP / "CHANGELOG.md").read_text())]
 
 
 def main():
@@ -241,7 +239,7 @@ def main():
     files = {TOP / f"docs/man/g3fax_{group}.3": page(group, about, found, version, date)
              for group, about, _ in GROUPS}
     others = []
-    for file, text in {**files, **from_header.written(version)}.items():
+    for file, text in files.items():
         if sys.argv[1:] != ["--check"]:
             file.write_text(text)
         elif not file.is_file() or file.read_text() != text:
