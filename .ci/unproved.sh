@@ -10,5 +10,6 @@ installed=$(mktemp -d)
 trap 'rm -rf "$installed"' EXIT
 cp build/libg3fax.* build/g3fax.* "$installed"
 .ci/installed.sh "$installed"
+.ci/wheel.sh "$installed"
 .ci/growths.py
 .ci/end_to_end.sh build/faxtool
