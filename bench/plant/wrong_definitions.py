@@ -43,6 +43,10 @@ ROWS, SPENDING = "stations/proofs/CallerRows.antt", "stations/proofs/Spending.an
 LIMITS, RUN_LAWS = "stations/proofs/OpenLimits.antt", "stations/proofs/RunLaws.antt"
 LINE, CALL, SENT = "line_sim/specs/Line.antt", "line_sim/src/call.rt", "line_sim/proofs/Sent.antt"
 SENDS, MARKS = "line_sim/proofs/call/Call/caller_sends/Answers.antt", "line_sim/proofs/Marks.antt"
+HOW_FAR, KEEPS = "stations/specs/HowFar.antt", "line_sim/proofs/CallerKeeps"
+# What names the page due by the number of confirmed pages, and its caller.
+DUE = [("stations/proofs/BlocksDue", "t"), ("stations/specs/EndsMean", "c"), ("stations/specs/Keeping", "c"), ("stations/proofs/Lasting", "c"),
+       ("stations/proofs/Sizes", "c"), ("stations/proofs/CallersEnds", "c"), (KEEPS, "c"), ("line_sim/proofs/CallerCounts", "c")]
 # Of each wrong body its edits: the file, its text and what takes its place. Those of a proof keep what is true of
 # the wrong body too, so that the first refusal is that of a false goal.
 WRONG = {
@@ -118,6 +122,13 @@ WRONG = {
         (ROWS, "blocks_of, confirmed,", "blocks_of, due_page,"),
         (SPENDING, "(confirmed c)", "(due_page c)"),
         (SPENDING, "blocks_of, confirmed,", "blocks_of, due_page,"),
+        # what is still true of it
+        *[(f"{name}.antt", f"(confirmed {of})", f"(due_page {of})") for name, of in DUE],
+        *[(f"{name}.antt", known, known.replace("confirmed", "due_page"))
+          for (name, _), known in zip(DUE, ["Caller, confirmed,", *["blocks_of, confirmed"] * 7])],
+        (HOW_FAR, "(slice_get t.document (confirmed t))", "(slice_get t.document (due_page t))"),
+        (HOW_FAR, "{Caller, confirmed,", "{Caller, confirmed, due_page,"),
+        (f"{KEEPS}.antt", "page_due : confirmed c", "page_due : due_page c"),
         (CALLER, "slice_get t.document (confirmed t)", "slice_get t.document (due_page t)"),
         (CALLER, "0 < confirmed t", "0 < due_page t"),
         (CALLER, "answers_mcf, goes_on, caller_step", "answers_mcf, goes_on, due_page, caller_step"),
@@ -230,20 +241,20 @@ def checked(edits, proofs):
 
 
 def stands(proofs):
-    """Whether the headline is proved; it is told."""
+    """Whether the headline is proved; None where no goal became false, so that only a text of a proof no longer fits. It is told."""
     ended, lines = ran(["rt", "check", "--only", "line_sim::laws::headline"], f"{proofs}/line_sim")
     safe = ended and are_proved(lines, 1)
     print(f"  headline: {'proved' if safe else told(lines)}", flush=True)
     print(f"  clauses: {'none falls' if safe else fallen(lines)}", flush=True)
-    return safe
+    return safe if safe or goals(lines) else None
 
 
 def judged(root, top, edits):
-    """What is told of a body: whether its code meets its contracts, whether no theorem refuses it, and whether some run isn't safe."""
+    """What is told of a body: whether its code meets its contracts, whether the headline stands, and whether some run isn't safe."""
     proofs, runs = f"{top}/proofs/crates", f"{top}/runs/crates"
     planted(root, proofs, edits)
     alike, laws = checked(edits, proofs)
-    safe = not laws and stands(proofs)
+    safe = False if laws else stands(proofs)
     planted(root, runs, edits)
     write(f"{runs}/runs/src/lib.rt", RUNS)
     write(f"{runs}/runs/src/tests.rt", read(f"{root}/bench/plant/wrong/runs.txt"))
@@ -269,7 +280,7 @@ def tried(word=""):
             if not edits and not (alike and safe and not broken):
                 print("the right bodies are refused", flush=True)
                 return 0, len(chosen) - 1
-            count += bool(edits) and alike and not safe and broken
+            count += bool(edits) and alike and safe is False and broken
     print(f"{count} of {len(chosen) - 1} bodies that are wrong in code and definition alike are refused by a law or the headline, and by a run")
     return count, len(chosen) - 1
 
