@@ -36,9 +36,10 @@ def sum_of(file):
 def sources_sum():
     """The sum of the sources, as the first lines say it."""
     files = [file for part in ("src", "specs", "proofs") for file in TOP.glob(f"crates/*/{part}/**/*") if file.is_file()]
-    others = ["crates.txt", "HANDLES", "VERSION", *(f"bindings/{name}" for name in ("build.sh", "own_names.py", "from_header.py", "python/g3fax/_header.py"))]
-    files += [TOP / name for name in others]
-    files += [file for shape in ("bindings/*.[ch]", "bindings/*.in", "bindings/include/*", "bindings/tests/older/*/*") for file in TOP.glob(shape) if file.is_file()]
+    scripts = ("build.sh", "own_names.py", "from_header.py", "python/g3fax/_header.py")
+    files += [TOP / name for name in ("crates.txt", "HANDLES", "VERSION", *(f"bindings/{name}" for name in scripts))]
+    shapes = ("bindings/*.[ch]", "bindings/*.in", "bindings/include/*", "bindings/tests/older/*/*")
+    files += [file for shape in shapes for file in TOP.glob(shape) if file.is_file()]
     names = sorted(str(file.relative_to(TOP)) for file in files)
     lines = "".join(f"{sum_of(TOP / name)}  {name}\n" for name in names)
     return hashlib.sha256(lines.encode()).hexdigest()
