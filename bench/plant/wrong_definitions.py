@@ -44,7 +44,7 @@ LIMITS, RUN_LAWS = "stations/proofs/OpenLimits.antt", "stations/proofs/RunLaws.a
 LINE, CALL, SENT = "line_sim/specs/Line.antt", "line_sim/src/call.rt", "line_sim/proofs/Sent.antt"
 SENDS, MARKS = "line_sim/proofs/call/Call/caller_sends/Answers.antt", "line_sim/proofs/Marks.antt"
 TAKING = "stations/proofs/AnswererTaking.antt"
-HOW_FAR, KEEPS = "stations/specs/HowFar.antt", "line_sim/proofs/CallerKeeps"
+HOW_FAR, KEEPS, MOVES = "stations/specs/HowFar.antt", "line_sim/proofs/CallerKeeps", "line_sim/proofs/MovesOf.antt"
 # What names the page due by the number of confirmed pages, and its caller.
 DUE = [("stations/proofs/BlocksDue", "t"), ("stations/specs/EndsMean", "c"), ("stations/specs/Keeping", "c"), ("stations/proofs/Lasting", "c"),
        ("stations/proofs/Sizes", "c"), ("stations/proofs/CallersEnds", "c"), (KEEPS, "c"), ("line_sim/proofs/CallerCounts", "c")]
@@ -137,6 +137,8 @@ WRONG = {
         (HOW_FAR, "(slice_get t.document (confirmed t))", "(slice_get t.document (due_page t))"),
         (HOW_FAR, "{Caller, confirmed,", "{Caller, confirmed, due_page,"),
         (f"{KEEPS}.antt", "page_due : confirmed c", "page_due : due_page c"),
+        (MOVES, "ap (λ b. pages_past b (confirmed c)) is ∙", "ap (λ b. pages_past b (due_page c)) is ∙"),
+        (MOVES, "blocks_of, confirmed}", "blocks_of, confirmed, due_page}"),
         (CALLER, "slice_get t.document (confirmed t)", "slice_get t.document (due_page t)"),
         (CALLER, "0 < confirmed t", "0 < due_page t"),
         (CALLER, "answers_mcf, goes_on, caller_step", "answers_mcf, goes_on, due_page, caller_step"),
