@@ -89,7 +89,8 @@ def build_wheel(wheel_directory, config_settings=None, metadata_directory=None):
         version += UNPROVED
     tag, info = f"py3-none-{platform(library)}", f"g3fax-{version}.dist-info"
     files = {
-        **{f"g3fax/{file.name}": file.read_bytes() for file in [*sorted(HERE.glob("g3fax/*.py")), HERE / "g3fax/g3fax.h", HERE / "g3fax/py.typed"]},
+        **{f"g3fax/{file.name}": file.read_bytes() for file in [*sorted(HERE.glob("g3fax/*.py")), HERE / "g3fax/py.typed"]},
+        "g3fax/g3fax.h": (HERE.parent / "g3fax.h").read_bytes(),
         f"g3fax/{LIBRARY}": library,
         f"{info}/METADATA": metadata(version).encode(),
         f"{info}/WHEEL": f"Wheel-Version: 1.0\nGenerator: make_wheel.py\nRoot-Is-Purelib: false\nTag: {tag}\n".encode(),

@@ -16,7 +16,9 @@ _text = ctypes.c_char_p
 _TYPES = {"uint64_t": _u64, "uint32_t": _u32, "size_t": _size, "uint8_t": _u8, "char": ctypes.c_char, "g3_status": _u32, "const char *": _text,
           "void": None}
 _folder = os.path.dirname(os.path.abspath(__file__))
-with open(os.path.join(_folder, "g3fax.h"), encoding="ascii") as _file:
+# the header is beside this file in a package, and two folders above it in the repository
+_places = [os.path.join(_folder, *above, "g3fax.h") for above in ([], ["..", ".."])]
+with open(next((place for place in _places if os.path.isfile(place)), _places[0]), encoding="ascii") as _file:
     _header = Header(_file.read())
 
 
