@@ -17,7 +17,7 @@ _TYPES = {"uint64_t": _u64, "uint32_t": _u32, "size_t": _size, "uint8_t": _u8, "
           "void": None}
 _folder = os.path.dirname(os.path.abspath(__file__))
 # the header is beside this file in a package, and two folders above it in the repository
-_places = [os.path.join(_folder, *above, "g3fax.h") for above in ([], ["..", ".."])]
+_places = [os.path.join(_folder, "g3fax.h"), os.path.join(_folder, "..", "..", "g3fax.h")]
 with open(next((place for place in _places if os.path.isfile(place)), _places[0]), encoding="ascii") as _file:
     _header = Header(_file.read())
 
