@@ -375,8 +375,7 @@ class Pages(unittest.TestCase):
     def test_import(self):
         program, folder = "try: import g3fax\nexcept ImportError as error: print(error)", tempfile.TemporaryDirectory()
         self.addCleanup(folder.cleanup)
-        shutil.copytree(HERE / "g3fax", Path(folder.name) / "g3fax")
-        shutil.copy(HERE.parent / "g3fax.h", Path(folder.name) / "g3fax")
+        shutil.copy(HERE.parent / "g3fax.h", shutil.copytree(HERE / "g3fax", Path(folder.name) / "g3fax"))
         native, text = Path(folder.name) / "g3fax" / "_native.py", (HERE / "g3fax" / "_native.py").read_text()
 
         def said(library, version=g3fax.__version__):
