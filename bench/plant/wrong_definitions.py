@@ -43,7 +43,7 @@ ROWS, SPENDING = "stations/proofs/CallerRows.antt", "stations/proofs/Spending.an
 LIMITS, RUN_LAWS = "stations/proofs/OpenLimits.antt", "stations/proofs/RunLaws.antt"
 LINE, CALL, SENT = "line_sim/specs/Line.antt", "line_sim/src/call.rt", "line_sim/proofs/Sent.antt"
 SENDS, MARKS = "line_sim/proofs/call/Call/caller_sends/Answers.antt", "line_sim/proofs/Marks.antt"
-TAKING = "stations/proofs/AnswererTaking.antt"
+TAKING, ENDS = "stations/proofs/AnswererTaking.antt", "stations/proofs/AnswerersEnds.antt"
 HOW_FAR, KEEPS, MOVES = "stations/specs/HowFar.antt", "line_sim/proofs/CallerKeeps", "line_sim/proofs/MovesOf.antt"
 # What names the page due by the number of confirmed pages, and its caller.
 DUE = [("stations/proofs/BlocksDue", "t"), ("stations/specs/EndsMean", "c"), ("stations/specs/Keeping", "c"), ("stations/proofs/Lasting", "c"),
@@ -65,6 +65,8 @@ WRONG = {
         (MARKS, "rw (eq-eqb m.page m.page refl, eq-eqb m.block m.block refl)", "eq-eqb m.block m.block refl"),
         (TAKING, "same_itself mark =\n    and_from (nat_eq mark.page mark.page) (nat_eq mark.block mark.block) (eq-eqb mark.page mark.page refl)\n"
          "    (eq-eqb mark.block mark.block refl)", "same_itself mark = eq-eqb mark.block mark.block refl"),
+        (ENDS, "    ∙ and_from (nat_eq h.0.mark.page page) (nat_eq h.0.mark.block block) (eq-eqb h.0.mark.page page h.2) (eq-eqb h.0.mark.block block h.3)",
+         "    ∙ eq-eqb h.0.mark.block block h.3"),
         (TAKING, "      let parts = and_parts (nat_eq asked.mark.page mark.page) (nat_eq asked.mark.block mark.block) same in\n"
          "      let page = eqb-true asked.mark.page mark.page parts.0 in\n      let block = eqb-true asked.mark.block mark.block parts.1 in\n"
          "      differs (rw (page, block) refl)) in",
