@@ -1,9 +1,9 @@
 -- What is noted of contents that wait, one after the other.
-use Rattle.std.proofs.Common.{◌≡◌, ◌∙◌, ◌∷◌, ℕ, Bool, List, [], ap, refl, subst, sym}
+use Rattle.std.proofs.Common.{◌≡◌, ◌∙◌, ◌∷◌, ℕ, List, [], ap, refl, subst, sym}
 use Rattle.std.specs.Prelude.{Some, drop, slice_get}
 use Rattle.hdlc.specs.DeframerState.{DeframerState}
 use Rattle.signals.specs.Reading.{read_content}
-use Rattle.station_commands.specs.CallNotes.{confirms_after, is_confirmation, noted_after, noted_heard}
+use Rattle.station_commands.specs.CallNotes.{noted_after, noted_heard, noted_said, said_after}
 use Rattle.station_commands.specs.declared.station.notes.Noted.{Noted}
 
 -- what is noted with the contents that are left is what is noted with all
@@ -43,12 +43,11 @@ all_left after start before = record { same = refl; rest = refl }
 
 pub noted_left : (start now later : DeframerState) (before noted next : Noted) (content : List ℕ)
     → later ≡ record now { queue = drop 1 now.queue } → slice_get now.queue 0 ≡ Some content
-    → next ≡ noted_heard noted (read_content content) → IsLeft noted_after start now before noted
-    → IsLeft noted_after start later before next
-noted_left = goes_left noted_after (λ noted content. noted_heard noted (read_content content)) (λ noted content contents. refl)
+    → next ≡ noted_heard noted content → IsLeft noted_after start now before noted → IsLeft noted_after start later before next
+noted_left = goes_left noted_after noted_heard (λ noted content contents. refl)
 
-pub confirms_left : (start now later : DeframerState) (before confirms next : Bool) (content : List ℕ)
+pub said_left : (start now later : DeframerState) (before noted next : Noted) (content : List ℕ)
     → later ≡ record now { queue = drop 1 now.queue } → slice_get now.queue 0 ≡ Some content
-    → next ≡ is_confirmation (read_content content) → IsLeft confirms_after start now before confirms
-    → IsLeft confirms_after start later before next
-confirms_left = goes_left confirms_after (λ confirms content. is_confirmation (read_content content)) (λ confirms content contents. refl)
+    → next ≡ noted_said noted (read_content content) → IsLeft said_after start now before noted
+    → IsLeft said_after start later before next
+said_left = goes_left said_after (λ noted content. noted_said noted (read_content content)) (λ noted content contents. refl)

@@ -13,6 +13,7 @@ use Rattle.terminals.specs.declared.watching.Refusal.TheVariants.{NoErrorCorrect
 use Rattle.faults.specs.RecordLines.{count, words}
 use Rattle.faults.specs.Explanations.{reason_words as system_words}
 use Rattle.std.specs.declared.io.ErrorKind.{ErrorKind}
+use Rattle.station_commands.specs.Figures.{figures_heard, figures_said, no_figures}
 use Rattle.station_commands.specs.declared.station.folder.StoppedBy.{StoppedBy}
 use Rattle.station_commands.specs.declared.station.folder.StoppedBy.TheVariants.{Pages, Octets, Seconds, LostPage}
 use Rattle.station_commands.specs.declared.station.notes.Noted.{Noted}
@@ -46,20 +47,30 @@ abbrev pub is_of_mark : Option Pps → Mark → Bool
 is_of_mark None mark = false
 is_of_mark (Some heard) mark = same_mark heard.mark mark
 
--- What is noted once a content was heard: of a PPS what it says, of a DIS what it offers. A block that was confirmed has the end that its PPS
--- said then: a PPS that repeats it may say another one.
-abbrev pub noted_heard : Noted → Result PlainSignal SignalFault → Noted
-noted_heard old (Ok (pps ends page block last)) = let mark : Mark = record { page = page; block = block } in
-    if old.confirms && is_of_mark old.pps mark then old
-    else record old { pps = Some (record { ends = ends; mark = mark; last = last }) }
-noted_heard old (Ok (dis caps)) = record old { caps = Some caps }
-noted_heard old (Ok signal) = old
-noted_heard old (Err fault) = old
+-- nothing was heard or said
+abbrev pub no_notes : Noted
+no_notes = record { pps = None; caps = None; confirms = false; figures = no_figures }
+
+-- What is noted of a PPS: a block that was confirmed has the end that its PPS said then, as a PPS that repeats it may say another one.
+abbrev pub with_pps : Noted → Pps → Noted
+with_pps old heard = if old.confirms && is_of_mark old.pps heard.mark then old else record old { pps = Some heard }
+
+-- what is noted, beside the figures, once a content was heard: of a PPS what it says, of a DIS what it offers
+abbrev pub known_heard : Noted → Result PlainSignal SignalFault → Noted
+known_heard old (Ok (pps ends page block last)) = with_pps old
+    (record { ends = ends; mark = record { page = page; block = block }; last = last })
+known_heard old (Ok (dis caps)) = record old { caps = Some caps }
+known_heard old (Ok signal) = old
+known_heard old (Err fault) = old
+
+-- the same with the figures
+abbrev pub noted_heard : Noted → List ℕ → Noted
+noted_heard old content = record (known_heard old (read_content content)) { figures = figures_heard old.figures content }
 
 -- the same of contents in order
 abbrev pub noted_after : Noted → List (List ℕ) → Noted
 noted_after noted [] = noted
-noted_after noted (content ∷ contents) = noted_after (noted_heard noted (read_content content)) contents
+noted_after noted (content ∷ contents) = noted_after (noted_heard noted content) contents
 
 -- a content that a station said is MCF
 abbrev pub is_confirmation : Result PlainSignal SignalFault → Bool
@@ -67,10 +78,14 @@ is_confirmation (Ok mcf) = true
 is_confirmation (Ok signal) = false
 is_confirmation (Err fault) = false
 
--- the last of the contents that a station said is MCF; as before if there are none
-abbrev pub confirms_after : Bool → List (List ℕ) → Bool
-confirms_after before [] = before
-confirms_after before (content ∷ contents) = confirms_after (is_confirmation (read_content content)) contents
+-- what is noted once a content was said
+abbrev pub noted_said : Noted → Result PlainSignal SignalFault → Noted
+noted_said old read = record old { confirms = is_confirmation read; figures = figures_said old.figures read }
+
+-- the same of contents in order
+abbrev pub said_after : Noted → List (List ℕ) → Noted
+said_after noted [] = noted
+said_after noted (content ∷ contents) = said_after (noted_said noted (read_content content)) contents
 
 -- ---- the trace
 
@@ -277,8 +292,3 @@ state_record false pages whole None = object (member (codes "pages") (count page
 state_record false pages whole (Some why) = object (member (codes "pages") (count pages)
     (member (codes "whole") (boolean whole)
     (member (codes "why") (words why) no_members)))
-
--- the record of why a station's call ended, with the pages that the caller counts as confirmed or the answerer has stored
-abbrev pub ended_record : List ℕ → Bool → ℕ → Data
-ended_record why true pages = object (member (codes "confirmed") (count pages) (member (codes "end") (words why) no_members))
-ended_record why false pages = object (member (codes "end") (words why) (member (codes "pages") (count pages) no_members))

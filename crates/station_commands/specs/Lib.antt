@@ -1,5 +1,7 @@
 -- The definitions of `dial` and `answer`.
 pub mod CallNotes
+pub mod EndRecords
+pub mod Figures
 pub mod Files
 pub mod FolderBooks
 pub mod Folders

@@ -1,6 +1,8 @@
 //! One end of a call, by lines of text on standard input and output.
 
+pub(crate) mod end_records;
 pub(crate) mod ending;
+pub(crate) mod figures;
 pub(crate) mod folder;
 pub mod given;
 pub(crate) mod lateness;
@@ -26,6 +28,7 @@ ghost use Rattle.terminals.specs.Clocks.{duration};
 ghost use Rattle.terminals.specs.Timing.{wait_millis};
 
 use crate::station::ending::end_station;
+use crate::station::figures::Figures;
 use crate::station::folder::{CallLimits, Folder, StoppedBy};
 use crate::station::given::{GivenLimits, GivenWaits};
 use crate::station::lateness::Lateness;
@@ -110,6 +113,10 @@ pub(crate) struct Talked {
     pub(crate) whole: bool,
     /// Whether the last block that an answerer was asked about isn't confirmed.
     pub(crate) unconfirmed: bool,
+    /// What it came to.
+    pub(crate) figures: Figures,
+    /// The time of its last line, in whole seconds.
+    pub(crate) seconds: u64,
     /// Why its lines went no further, if that is so.
     pub(crate) halted: Option<Halted>,
 }
@@ -472,6 +479,8 @@ impl AnswerCommand {
             pages: folder.stored(),
             whole: noted.is_whole(progress.accepted, folder.has_gap()),
             unconfirmed: noted.is_unconfirmed(),
+            figures: noted.figures(),
+            seconds: conversation.clock().now / 1000,
             halted,
         })
     }
@@ -663,15 +672,18 @@ impl DialCommand {
         };
         let halted = talk_out(context, &mut conversation, &mut confirmed, &mut notes)?;
         let progress = conversation.terminal().station().station().progress();
+        let noted = notes.noted();
         Ok(Talked {
             end: conversation.end(),
             refused: None,
             stopped: None,
             failed: None,
-            missing: notes.noted().missing(self.wish(), self.options.fine),
+            missing: noted.missing(self.wish(), self.options.fine),
             pages: progress.confirmed,
             whole: progress.confirmed == progress.pages,
             unconfirmed: false,
+            figures: noted.figures(),
+            seconds: conversation.clock().now / 1000,
             halted,
         })
     }

@@ -1,14 +1,18 @@
 //! How the call of a station ended, and how that is shown.
 
 ghost use Rattle.faults.specs.Faults.{IsOutside};
+ghost use Rattle.captures.specs.OtherWords.{other_name};
 ghost use Rattle.station_commands.specs.CallNotes.{end_why, has_left, left_why, missing_why, reason_words, refusal_words, stopped_why, why_words};
+ghost use Rattle.station_commands.specs.EndRecords.{left_out, left_out_words, named};
 ghost use Rattle.station_commands.specs.Stations.{IsHalt, ended_of};
-ghost use Rattle.std.specs.Prelude.{◌≡◌, IfErr, IfSome, option_map};
+ghost use Rattle.std.specs.Prelude.{◌≡◌, IfErr, IfSome, Some, option_map, string_bytes};
 
+use crate::station::end_records::{Ended, write_ended, write_figures};
 use crate::station::folder::StoppedBy;
 use crate::station::no_line::NoLine;
-use crate::station::records::{State, write_ended, write_state};
+use crate::station::records::{State, write_state};
 use crate::station::{self, Halted, Talked};
+use captures::other_name;
 use command_files::command::Completeness;
 use command_files::context::Context;
 use command_files::error_line::ErrorLine;
@@ -17,6 +21,7 @@ use conversations::Refusal;
 use faults::{ToolFault, write_line_fault};
 use signals::Reason;
 use stations::{CallEnd, End};
+use std::alloc::Global;
 use std::io::Write;
 
 /// Shows what came of the lines of a station: how its call ended, or why the lines went no further. It is complete if the call is whole and
@@ -134,16 +139,45 @@ fn end_why(talked: &Talked) -> Option<&'static str>
     }
 }
 
+/// Returns the name of a frame by its control field, if it has one.
+fn named(octet: u8) -> Option<&'static str>
+    ensures { option_map (λ name. name.now) result ≡ named (other_name octet) }
+{
+    let name = other_name(octet);
+    if name.is_empty() { None } else { Some(name) }
+}
+
+/// Returns the name of the last frame that was heard, by its control field, if that is no signal of ours and a call ended so after it.
+fn left_out(end: Option<CallEnd>, unread: Option<u8>) -> Option<&'static str>
+    ensures { option_map (λ name. name.now) result ≡ left_out end unread }
+{
+    match (end, unread) {
+        (Some(CallEnd::By(End::Normal | End::NotCompatible) | CallEnd::Stopped), _) => None,
+        (Some(CallEnd::By(_) | CallEnd::LineLost), Some(octet)) => named(octet),
+        (None, _) | (_, None) => None,
+    }
+}
+
+/// Says that a call ended so after a frame which isn't answered. It says nothing without memory.
+fn left_out_words(alloc: Global, talked: &Talked) -> Option<String>
+    ensures { IfSome result (λ words. left_out_words talked.now.end talked.now.figures.unread
+        ≡ Some (string_bytes words)) }
+{
+    let name = left_out(talked.end, talked.figures.unread)?;
+    format!(in alloc; "{name}, which isn't answered").ok()
+}
+
 /// Records how a call stands at its end, if records are asked for.
 fn record_state(context: &Context<'_>, talked: &Talked, calls: bool) {
     if !context.is_json() {
         return;
     }
+    let left_out = left_out_words(context.alloc(), talked);
     let state = State {
         calls,
         pages: talked.pages,
         whole: talked.whole,
-        why: why_words(talked),
+        why: why_words(talked).or(left_out.as_deref()),
     };
     let mut line = ErrorLine::new(context.streams());
     let made = write_state(context.alloc(), &state, &mut line);
@@ -172,19 +206,44 @@ fn show_why(streams: &Streams<'_>, talked: &Talked) {
     }
 }
 
-/// Shows how the call of a station ended; as a line, after one of why it is refused, if it is.
+/// Shows how the call of a station ended: as a record, or as a line after one of why it ended so, if more is known, and one of its figures.
 fn show_end(context: &Context<'_>, talked: &Talked, calls: bool) {
     let streams = context.streams();
-    let word = station::word_of(talked.end, talked.unconfirmed, talked.refused);
+    let left_out = left_out_words(context.alloc(), talked);
+    let ended = Ended {
+        calls,
+        end: station::word_of(talked.end, talked.unconfirmed, talked.refused),
+        pages: talked.pages,
+        seconds: talked.seconds,
+        figures: talked.figures,
+        why: why_words(talked).or(left_out.as_deref()).unwrap_or(""),
+    };
     let mut line = ErrorLine::new(streams);
-    if context.is_json()
-        && write_ended(context.alloc(), word, calls, talked.pages, &mut line).is_ok()
-    {
+    if context.is_json() && write_ended(context.alloc(), &ended, &mut line).is_ok() {
         return line.end(Ok::<(), ToolFault>(()));
     }
     show_why(streams, talked);
-    let counted = if calls { "confirmed" } else { "pages" };
-    let made = writeln!(line, "end {word} {counted} {}", talked.pages);
+    if let (None, Some(words)) = (why_words(talked), left_out.as_deref()) {
+        show_line(streams, words);
+    }
+    show_end_words(streams, &ended);
+}
+
+/// Shows a line of words.
+fn show_line(streams: &Streams<'_>, words: &str) {
+    let mut line = ErrorLine::new(streams);
+    let made = writeln!(line, "{words}");
+    line.end(made);
+}
+
+/// Shows what the call of a station came to, and how it ended.
+fn show_end_words(streams: &Streams<'_>, ended: &Ended<'_>) {
+    let mut line = ErrorLine::new(streams);
+    let made = write_figures(ended.seconds, ended.figures, &mut line);
+    line.end(made);
+    let counted = if ended.calls { "confirmed" } else { "pages" };
+    let mut line = ErrorLine::new(streams);
+    let made = writeln!(line, "end {} {counted} {}", ended.end, ended.pages);
     line.end(made);
 }
 

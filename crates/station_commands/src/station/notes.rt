@@ -1,11 +1,12 @@
 //! What is noted of a station's call while it runs, beside its trace, and what the other station says that is no signal of ours.
 
-ghost use Rattle.station_commands.specs.CallNotes.{IsMissing, confirms_after, ends_all, ends_document, is_confirmation, is_of_mark, is_whole, noted_after};
-ghost use Rattle.station_commands.specs.CallNotes.{noted_heard};
+ghost use Rattle.station_commands.specs.CallNotes.{IsMissing, ends_all, ends_document, is_confirmation, is_of_mark, is_whole, noted_after};
+ghost use Rattle.station_commands.specs.CallNotes.{known_heard, no_notes, noted_heard, noted_said, said_after, with_pps};
 ghost use Rattle.signals.specs.Reading.{read_content};
 ghost use Rattle.faults.specs.Faults.{IsOutside};
-ghost use Rattle.std.specs.Prelude.{◌≡◌, ◌&&◌, ◌+◌, ◌-◌, ◌^◌, [], IfErr, None, Some, false, if◌then◌else◌, min, not};
+ghost use Rattle.std.specs.Prelude.{◌≡◌, ◌+◌, ◌-◌, ◌^◌, [], IfErr, min, not};
 
+use crate::station::figures::Figures;
 use crate::station::lateness::Lateness;
 use crate::station::records::{other_line, write_heard, write_heard_words, write_lost};
 use crate::station::trace::Trace;
@@ -28,6 +29,8 @@ pub(crate) struct Noted {
     caps: Option<Caps>,
     /// Whether it said MCF last.
     confirms: bool,
+    /// What the call came to so far.
+    figures: Figures,
 }
 
 impl Noted {
@@ -36,11 +39,34 @@ impl Noted {
         pps: None,
         caps: None,
         confirms: false,
+        figures: Figures::NONE,
     };
 
     /// What is noted once a content was heard too.
     fn heard(self, content: &[u8]) -> Noted
-        ensures { result ≡ noted_heard self (read_content content.now) }
+        ensures { result ≡ noted_heard self content.now }
+    {
+        let noted = self.known(content);
+        Noted {
+            figures: self.figures.heard(content),
+            ..noted
+        }
+    }
+
+    /// What is noted once a content was said too.
+    fn said(self, content: &[u8]) -> Noted
+        ensures { result ≡ noted_said self (read_content content.now) }
+    {
+        Noted {
+            confirms: is_confirmation(content),
+            figures: self.figures.said(content),
+            ..self
+        }
+    }
+
+    /// What is noted, beside the figures, once a content was heard too.
+    fn known(self, content: &[u8]) -> Noted
+        ensures { result ≡ known_heard self (read_content content.now) }
     {
         match read(content) {
             Ok(
@@ -65,7 +91,7 @@ impl Noted {
 
     /// What is noted once a PPS was heard: nothing of one that repeats a block which was confirmed.
     fn heard_pps(self, pps: Pps) -> Noted
-        ensures { result ≡ if self.confirms && is_of_mark self.pps pps.mark then self else record self { pps = Some pps } }
+        ensures { result ≡ with_pps self pps }
     {
         if self.confirms && is_of_mark(self.pps, pps.mark) {
             return self;
@@ -82,6 +108,13 @@ impl Noted {
         ensures { result ≡ is_whole self accepted gap }
     {
         self.confirms && ends_document(self.pps, accepted) && !gap
+    }
+
+    /// Returns what the call came to so far.
+    pub(crate) fn figures(self) -> Figures
+        ensures { result ≡ self.figures }
+    {
+        self.figures
     }
 
     /// Whether MCF wasn't said last.
@@ -197,16 +230,16 @@ fn note_waiting(ear: &mut Deframer, before: Noted, teller: Teller<'_>) -> Noted
     noted
 }
 
-/// Whether the last of the contents that wait is MCF; as before if there are none.
-fn confirms_waiting(mouth: &mut Deframer, before: bool) -> bool
-    ensures last { result ≡ confirms_after before mouth.old.queue }
+/// Notes the contents that wait to be said. Returns what is noted then.
+fn note_saying(mouth: &mut Deframer, before: Noted) -> Noted
+    ensures notes { result ≡ said_after before mouth.old.queue }
     ensures taken { mouth.new ≡ record mouth.old { queue = [] } }
 {
-    let mut confirms = before;
+    let mut noted = before;
     while let Some(content) = mouth.next() {
-        confirms = is_confirmation(content);
+        noted = noted.said(content);
     }
-    confirms
+    noted
 }
 
 /// Observes a call: writes its trace, if one is asked for, and notes what is known of it at its end.
@@ -266,7 +299,7 @@ impl<'a> Notes<'a> {
         trace: Trace<'a>,
         lateness: Lateness<'a>,
     ) -> Notes<'a>
-        ensures { result.noted ≡ record { pps = None; caps = None; confirms = false } }
+        ensures { result.noted ≡ no_notes }
     {
         let alloc = streams.rt().alloc();
         Notes {
@@ -345,9 +378,9 @@ impl<'a> Notes<'a> {
 
     /// Notes octets of frames that are sent by V.21. If memory is refused nothing counts as confirmed.
     fn note_said(&mut self, octets: &[u8]) {
-        self.noted.confirms = match self.mouth.feed(octets) {
-            Ok(()) => confirms_waiting(&mut self.mouth, self.noted.confirms),
-            Err(_memory) => false,
-        };
+        match self.mouth.feed(octets) {
+            Ok(()) => self.noted = note_saying(&mut self.mouth, self.noted),
+            Err(_memory) => self.noted.confirms = false,
+        }
     }
 }

@@ -5,7 +5,7 @@ ghost use Rattle.captures.specs.Names.{code_name};
 ghost use Rattle.captures.specs.OtherWords.{other_words};
 ghost use Rattle.faults.specs.Faults.{IsOutside};
 ghost use Rattle.faults.specs.RecordLines.{record_line};
-ghost use Rattle.station_commands.specs.CallNotes.{bare, confirmed_record, ended_record, gap_record, heard_as, heard_record, page_record, state_record};
+ghost use Rattle.station_commands.specs.CallNotes.{bare, confirmed_record, gap_record, heard_as, heard_record, page_record, state_record};
 ghost use Rattle.station_commands.specs.CallNotes.{confirmed_words, gap_words, heard_words, lost_line, page_words};
 ghost use Rattle.serde_json.specs.View.{view};
 ghost use Rattle.std.specs.Io.KnownBytes.{Appends};
@@ -149,16 +149,6 @@ fn state_record(alloc: Global, state: &State<'_>) -> Result<Value, AllocError>
         (false, None) => json!(in alloc; {"pages": pages, "whole": whole}),
         (false, Some(why)) => json!(in alloc; {"pages": pages, "whole": whole, "why": why}),
     }
-}
-
-/// Why a call ended for a station, with how many pages a caller counts as confirmed, or how many an answerer has stored.
-fn ended_record(alloc: Global, why: &str, calls: bool, pages: u64) -> Result<Value, AllocError>
-    ensures { IfOk result (λ value. view value ≡ ended_record why.now calls pages) }
-{
-    if calls {
-        return json!(in alloc; {"end": why, "confirmed": pages});
-    }
-    json!(in alloc; {"end": why, "pages": pages})
 }
 
 /// Writes the record of a page that is in a file as one line. Errors: `Io` (8) from the writer, `NoMemory` (9).
@@ -334,22 +324,5 @@ pub(crate) fn write_state<W: Write>(
     ensures fault { IfErr result IsOutside }
 {
     let record = state_record(alloc, state)?;
-    write_record(alloc, &record, writer)
-}
-
-/// Writes the record of why a station's call ended, as one line, with the pages that a caller counts as confirmed or an answerer has
-/// stored. Errors: those of `write_page`.
-pub(crate) fn write_ended<W: Write>(
-    alloc: Global,
-    why: &str,
-    calls: bool,
-    pages: u64,
-    writer: &mut W,
-) -> Result<(), ToolFault>
-    ensures line { OnOk result (Appends (W.contents writer.old) (W.contents writer.new)
-        (record_line (ended_record why.now calls pages))) }
-    ensures fault { IfErr result IsOutside }
-{
-    let record = ended_record(alloc, why, calls, pages)?;
     write_record(alloc, &record, writer)
 }

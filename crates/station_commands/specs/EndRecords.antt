@@ -1,0 +1,93 @@
+-- What is told of a station's call at its end.
+use Rattle.std.specs.Prelude.{◌++◌, ℕ, Bool, true, false, List, [], ◌∷◌, Option, Some, None, codes, option_map}
+use Rattle.std.specs.Fmt.{decimal}
+use Rattle.captures.specs.OtherWords.{other_name, signs_text}
+use Rattle.conversations.specs.Lines.{channel_name}
+use Rattle.conversations.specs.declared.carrier.Channel.TheVariants.{Message}
+use Rattle.faults.specs.RecordLines.{count, words}
+use Rattle.serde_json.specs.Data.{Data, Members, member, no_members, null, object}
+use Rattle.signals.specs.declared.params.Speed.{Speed}
+use Rattle.stations.specs.declared.stopping.CallEnd.{CallEnd}
+use Rattle.stations.specs.declared.stopping.CallEnd.TheVariants.{By, LineLost, Stopped}
+use Rattle.stations.specs.declared.turn.End.TheVariants.{Normal, NotCompatible}
+use Rattle.station_commands.specs.declared.station.figures.Figures.{Figures}
+
+-- ---- a frame that the stations leave out
+
+-- a name, if there is one
+abbrev pub named : List ℕ → Option (List ℕ)
+named [] = None
+named name = Some name
+
+-- the name of the last frame that was heard, if that is no signal of ours and a call ended so after it
+abbrev pub left_out : Option CallEnd → Option ℕ → Option (List ℕ)
+left_out None unread = None
+left_out (Some end) None = None
+left_out (Some Stopped) (Some octet) = None
+left_out (Some (By Normal)) (Some octet) = None
+left_out (Some (By NotCompatible)) (Some octet) = None
+left_out (Some (By end)) (Some octet) = named (other_name octet)
+left_out (Some LineLost) (Some octet) = named (other_name octet)
+
+-- the same in words
+abbrev pub left_out_words : Option CallEnd → Option ℕ → Option (List ℕ)
+left_out_words end unread = option_map (λ name. name ++ codes ", which isn't answered") (left_out end unread)
+
+-- ---- the record
+
+-- a text, or null if it is empty
+abbrev pub maybe_words : List ℕ → Data
+maybe_words [] = null
+maybe_words text = words text
+
+-- the name of a speed, or null
+abbrev pub speed_record : Option Speed → Data
+speed_record None = null
+speed_record (Some speed) = maybe_words (channel_name (Message speed))
+
+-- what a station calls itself, or null
+abbrev pub name_record : Option (List ℕ) → Data
+name_record None = null
+name_record (Some name) = maybe_words (signs_text name)
+
+-- the figures between the end and an answerer's pages
+abbrev pub with_checks : Figures → Members → Members
+with_checks f more = member (codes "failed_checks") (count f.failed_checks)
+    (member (codes "first_speed") (speed_record f.first_speed)
+    (member (codes "last_speed") (speed_record f.last_speed) more))
+
+-- the figures after those, the call's time in whole seconds, and why it ended so
+abbrev pub with_requests : Figures → ℕ → List ℕ → Members
+with_requests f seconds why = member (codes "peer") (name_record f.name)
+    (member (codes "pprs") (count f.requests)
+    (member (codes "resent") (count f.resent)
+    (member (codes "retries") (count f.retries)
+    (member (codes "seconds") (count seconds)
+    (member (codes "why") (maybe_words why) no_members)))))
+
+-- the record of how a call ended, with the pages that the caller (true) counts as confirmed or the answerer has stored, and what it came to
+abbrev pub ended_record : Bool → List ℕ → ℕ → ℕ → Figures → List ℕ → Data
+ended_record true end pages seconds f why = object (member (codes "blocks") (count f.blocks)
+    (member (codes "confirmed") (count pages)
+    (member (codes "end") (words end) (with_checks f (with_requests f seconds why)))))
+ended_record false end pages seconds f why = object (member (codes "blocks") (count f.blocks)
+    (member (codes "end") (words end) (with_checks f (member (codes "pages") (count pages) (with_requests f seconds why)))))
+
+-- ---- the line of words
+
+-- the speeds of the first DCS and of the last, if one came
+abbrev pub speeds_part : Option Speed → Option Speed → List ℕ
+speeds_part None last = []
+speeds_part (Some first) None = []
+speeds_part (Some first) (Some last) = codes "; " ++ (channel_name (Message first) ++ (codes " to " ++ channel_name (Message last)))
+
+-- what the other station calls itself, if it does
+abbrev pub name_part : Option (List ℕ) → List ℕ
+name_part None = []
+name_part (Some name) = codes "; peer " ++ signs_text name
+
+-- what a call of so many seconds came to, as a line
+abbrev pub figures_words : ℕ → Figures → List ℕ
+figures_words seconds f = decimal seconds ++ (codes " s; blocks " ++ (decimal f.blocks ++ (codes ", PPRs " ++ (decimal f.requests
+    ++ (codes ", frames sent again " ++ (decimal f.resent ++ (codes ", failed checks " ++ (decimal f.failed_checks
+    ++ (codes ", retries " ++ (decimal f.retries ++ (speeds_part f.first_speed f.last_speed ++ (name_part f.name ++ 10 ∷ []))))))))))))
