@@ -1,6 +1,6 @@
 /* The functions of g3fax.h: each tests its addresses for NULL and the sizes of structs, and calls the proved function of the same name,
  * g3_core_.. A NULL handle is an empty one; if another address is NULL, the status is G3_NO_ADDRESS. Most have one shape: from_header.py
- * writes these, as wrappers.h. Here are those of another shape, packed pixels, names of numbers, and the version. */
+ * writes these, as wrappers.h. Here are those of another shape, packed pixels, the names of numbers and fields, and the version. */
 #include "g3fax.h"
 #include <string.h>
 
@@ -21,6 +21,10 @@ g3_status g3_core_signal_write(const void *, const uint8_t *, size_t, uint32_t, 
 g3_status g3_core_agree(const g3_dis *, const g3_wish *, uint32_t, uint32_t, void *, uint32_t *);
 g3_status g3_core_row_coder_new(const g3_code *, handle *);
 g3_status g3_core_row_reader_new(const g3_code *, handle *);
+/* the place of the first field that is wrong, from 1; or 0 */
+uint32_t g3_core_code_wrong(const g3_code *);
+uint32_t g3_core_caps_wrong(const g3_caps *);
+uint32_t g3_core_wish_wrong(const g3_wish *);
 
 #define HANDLE(it) do { if ((it) == NULL) return G3_EMPTY_HANDLE; } while (0)
 #define PLACE(it) do { if ((it) == NULL) return G3_NO_ADDRESS; } while (0)
@@ -248,25 +252,18 @@ uint32_t g3_version_number(void) { return G3_VERSION_NUMBER; }
 
 const char *g3_code_wrong(const g3_code *code)
 {
-    if (code == NULL) return NULL;
-    if (code->coding != G3_MH && code->coding != G3_MMR) return "coding";
-    if (code->order != G3_MSB_FIRST && code->order != G3_LSB_FIRST) return "order";
-    return NULL;
+    static const char *const names[] = {NULL, "coding", "order"};
+    return code == NULL ? NULL : names[g3_core_code_wrong(code)];
 }
-static int is_modems(uint32_t number) { return number >= G3_V27TER && number <= G3_V17; }
 const char *g3_caps_wrong(const g3_caps *caps)
 {
-    if (caps == NULL) return NULL;
-    if (!is_modems(caps->modems)) return "modems";
-    if (caps->widest != 1728 && caps->widest != 2048 && caps->widest != 2432) return "widest";
-    return caps->limit == 0 ? "limit" : NULL;
+    static const char *const names[] = {NULL, "modems", "widest", "limit"};
+    return caps == NULL ? NULL : names[g3_core_caps_wrong(caps)];
 }
 const char *g3_wish_wrong(const g3_wish *wish)
 {
-    if (wish == NULL) return NULL;
-    if (!is_modems(wish->modems)) return "modems";
-    if (wish->coding != G3_MH && wish->coding != G3_MMR) return "coding";
-    return wish->frame != 256 && wish->frame != 64 ? "frame" : NULL;
+    static const char *const names[] = {NULL, "modems", "coding", "frame"};
+    return wish == NULL ? NULL : names[g3_core_wish_wrong(wish)];
 }
 const char *g3_carrier_name(uint32_t carrier)
 {
@@ -281,19 +278,6 @@ const char *g3_carrier_name(uint32_t carrier)
     case G3_V17_12000: return "v17-12000";
     case G3_V17_14400: return "v17-14400";
     default: return "none";
-    }
-}
-uint32_t g3_carrier_rate(uint32_t carrier)
-{
-    switch (carrier) {
-    case G3_V21: return 300;
-    case G3_V27TER_2400: return 2400;
-    case G3_V27TER_4800: return 4800;
-    case G3_V29_7200: case G3_V17_7200: return 7200;
-    case G3_V29_9600: case G3_V17_9600: return 9600;
-    case G3_V17_12000: return 12000;
-    case G3_V17_14400: return 14400;
-    default: return 0;
     }
 }
 const char *g3_end_text(uint32_t end)

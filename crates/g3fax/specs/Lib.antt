@@ -30,3 +30,4 @@ pub mod Stations
 pub mod Statuses
 pub mod Taking
 pub mod Ticking
+pub mod Wrong

@@ -24,7 +24,7 @@ use Rattle.g3fax.specs.Codes.{coding_of, order_of}
 use Rattle.g3fax.specs.Identifying.{found_told, order_number, two_dim_told}
 use Rattle.g3fax.specs.Numbers.{carrier_number, check_number, end_number, listens_carrier, listens_number, millis_of, reason_number}
 use Rattle.g3fax.specs.Numbers.{wait_number, wait_of}
-use Rattle.g3fax.specs.SignalNumbers.{coding_number}
+use Rattle.g3fax.specs.SignalNumbers.{coding_number, rate_of}
 use Rattle.g3fax.specs.Statuses.{bad_choice, bad_length, empty_handle, frame_lost, full_handle, no_memory, no_room, not_callable}
 use Rattle.g3fax.specs.Statuses.{not_compatible, nothing_there, ok, other_handle}
 
@@ -57,6 +57,8 @@ pub record CarriersByOrder : Type 0 where
   pub v21 : carrier_number V21 ≡ 1
   pub rates : map bits_a_second speeds ≡ 2400 ∷ 4800 ∷ 7200 ∷ 9600 ∷ 7200 ∷ 9600 ∷ 12000 ∷ 14400 ∷ []
   pub pages : map (λ speed. carrier_number (Page speed)) speeds ≡ 2 ∷ 3 ∷ 4 ∷ 5 ∷ 6 ∷ 7 ∷ 8 ∷ 9 ∷ []
+  pub told : map rate_of (0 ∷ 1 ∷ 2 ∷ 3 ∷ 4 ∷ 5 ∷ 6 ∷ 7 ∷ 8 ∷ 9 ∷ 10 ∷ []) ≡
+      0 ∷ 300 ∷ 2400 ∷ 4800 ∷ 7200 ∷ 9600 ∷ 7200 ∷ 9600 ∷ 12000 ∷ 14400 ∷ 0 ∷ []
   pub checks : (speed : Speed) → carrier_number (Training speed) ≡ carrier_number (Page speed)
   pub is_check : (speed : Speed) → check_number (Training speed) ∷ check_number (Page speed) ∷ check_number V21 ∷ [] ≡ 1 ∷ 0 ∷ 0 ∷ []
   pub listens : (speed : Speed) →

@@ -4,6 +4,7 @@ use Rattle.std.specs.declared.option.Option.{Option}
 use Rattle.std.specs.declared.option.Option.TheVariants.{None, Some}
 use Rattle.raster.specs.declared.coding.Coding.{Coding}
 use Rattle.raster.specs.declared.coding.Coding.TheVariants.{OneDim, T6}
+use Rattle.signals.specs.Training.{bits_a_second}
 use Rattle.signals.specs.declared.params.Modems.{Modems}
 use Rattle.signals.specs.declared.params.Modems.TheVariants.{Fallback, V27, V29, V27V29, V17}
 use Rattle.signals.specs.declared.params.Speed.{Speed}
@@ -55,6 +56,15 @@ abbrev pub speed_of_number : ℕ → Option Speed
 speed_of_number n =
     at_number 2 n V27At2400 (at_number 3 n V27At4800 (at_number 4 n V29At7200 (at_number 5 n V29At9600 (at_number 6 n V17At7200
     (at_number 7 n V17At9600 (at_number 8 n V17At12000 (at_number 9 n V17At14400 None)))))))
+
+-- the bits a second of a speed; 0 for none
+abbrev pub rate_of_speed : Option Speed → ℕ
+rate_of_speed None = 0
+rate_of_speed (Some speed) = bits_a_second speed
+
+-- the bits a second of a carrier: of V.21, or of a speed
+abbrev pub rate_of : ℕ → ℕ
+rate_of carrier = cond (nat_eq carrier 1) 300 (rate_of_speed (speed_of_number carrier))
 
 -- the number of each end of a block: NULL, MPS, EOM, EOP
 abbrev pub page_end_number : PageEnd → ℕ

@@ -32,6 +32,7 @@ mod states;
 mod status;
 mod taking;
 mod ticking;
+mod wrong;
 
 pub use crate::answering::Answering;
 pub use crate::beginning::{G3Caps, G3Wish};

@@ -2,8 +2,11 @@
 
 ghost use Rattle.g3fax.specs.Numbers.{carrier_number, check_number, end_number, listens_carrier, listens_number, millis_of};
 ghost use Rattle.g3fax.specs.Numbers.{reason_number, speed_number, wait_number, wait_of};
+ghost use Rattle.g3fax.specs.SignalNumbers.{rate_of};
+ghost use Rattle.signals.specs.Training.{bits_a_second};
 ghost use Rattle.std.specs.Prelude.{◌≡◌};
 
+use crate::signal::speed_of_number;
 use signals::Speed;
 use stations::{CallEnd, Carrier, End, Listening, Wait};
 use terminals::wait_millis;
@@ -58,6 +61,34 @@ pub(crate) fn speed_number(speed: Speed) -> u32
         Speed::V17At9600 => 7,
         Speed::V17At12000 => 8,
         Speed::V17At14400 => 9,
+    }
+}
+
+/// Returns the bits a second of a message speed.
+fn bits_a_second(speed: Speed) -> u32
+    ensures { result ≡ bits_a_second speed }
+{
+    match speed {
+        Speed::V27At2400 => 2400,
+        Speed::V27At4800 => 4800,
+        Speed::V29At7200 | Speed::V17At7200 => 7200,
+        Speed::V29At9600 | Speed::V17At9600 => 9600,
+        Speed::V17At12000 => 12000,
+        Speed::V17At14400 => 14400,
+    }
+}
+
+/// Returns the bits a second of a carrier by its number: 300 of V.21; 0 for a number that is no carrier's.
+#[unsafe(no_mangle)]
+pub extern "C" fn g3_core_carrier_rate(carrier: u32) -> u32
+    ensures { result ≡ rate_of carrier }
+{
+    if carrier == 1 {
+        return 300;
+    }
+    match speed_of_number(carrier) {
+        Some(speed) => bits_a_second(speed),
+        None => 0,
     }
 }
 

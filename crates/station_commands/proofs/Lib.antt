@@ -1,4 +1,5 @@
 -- The lemmas of `dial` and `answer`.
+mod EndData
 mod FolderBooks
 mod FolderHeld
 mod FolderLemmas

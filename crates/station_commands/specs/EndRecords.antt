@@ -5,7 +5,7 @@ use Rattle.captures.specs.OtherWords.{other_name, signs_text}
 use Rattle.conversations.specs.Lines.{channel_name}
 use Rattle.conversations.specs.declared.carrier.Channel.TheVariants.{Message}
 use Rattle.faults.specs.RecordLines.{count, words}
-use Rattle.serde_json.specs.Data.{Data, Members, member, no_members, null, object}
+use Rattle.serde_json.specs.Data.{Data, Members, no_members, null, object, put}
 use Rattle.signals.specs.declared.params.Speed.{Speed}
 use Rattle.stations.specs.declared.stopping.CallEnd.{CallEnd}
 use Rattle.stations.specs.declared.stopping.CallEnd.TheVariants.{By, LineLost, Stopped}
@@ -50,28 +50,31 @@ abbrev pub name_record : Option (List ℕ) → Data
 name_record None = null
 name_record (Some name) = maybe_words (signs_text name)
 
--- the figures between the end and an answerer's pages
-abbrev pub with_checks : Figures → Members → Members
-with_checks f more = member (codes "failed_checks") (count f.failed_checks)
-    (member (codes "first_speed") (speed_record f.first_speed)
-    (member (codes "last_speed") (speed_record f.last_speed) more))
+-- the word for the pages of a station that calls (true), or answers
+abbrev pub pages_word : Bool → List ℕ
+pages_word true = codes "confirmed"
+pages_word false = codes "pages"
 
--- the figures after those, the call's time in whole seconds, and why it ended so
-abbrev pub with_requests : Figures → ℕ → List ℕ → Members
-with_requests f seconds why = member (codes "peer") (name_record f.name)
-    (member (codes "pprs") (count f.requests)
-    (member (codes "resent") (count f.resent)
-    (member (codes "retries") (count f.retries)
-    (member (codes "seconds") (count seconds)
-    (member (codes "why") (maybe_words why) no_members)))))
+-- members with what was counted of blocks and commands
+abbrev pub with_counts : Figures → Members → Members
+with_counts f members = put (codes "retries") (count f.retries) (put (codes "resent") (count f.resent)
+    (put (codes "pprs") (count f.requests) (put (codes "blocks") (count f.blocks) members)))
 
--- the record of how a call ended, with the pages that the caller (true) counts as confirmed or the answerer has stored, and what it came to
+-- members with the failed checks and the speeds
+abbrev pub with_speeds : Figures → Members → Members
+with_speeds f members = put (codes "last_speed") (speed_record f.last_speed)
+    (put (codes "first_speed") (speed_record f.first_speed) (put (codes "failed_checks") (count f.failed_checks) members))
+
+-- members with how a call ended, with the pages that the caller (true) counts as confirmed or the answerer has stored, with its time in
+-- whole seconds, and why it ended so
+abbrev pub with_end : Bool → List ℕ → ℕ → ℕ → List ℕ → Members → Members
+with_end calls end pages seconds why members = put (codes "why") (maybe_words why) (put (codes "seconds") (count seconds)
+    (put (pages_word calls) (count pages) (put (codes "end") (words end) members)))
+
+-- the record of how a call ended, and what it came to
 abbrev pub ended_record : Bool → List ℕ → ℕ → ℕ → Figures → List ℕ → Data
-ended_record true end pages seconds f why = object (member (codes "blocks") (count f.blocks)
-    (member (codes "confirmed") (count pages)
-    (member (codes "end") (words end) (with_checks f (with_requests f seconds why)))))
-ended_record false end pages seconds f why = object (member (codes "blocks") (count f.blocks)
-    (member (codes "end") (words end) (with_checks f (member (codes "pages") (count pages) (with_requests f seconds why)))))
+ended_record calls end pages seconds f why = object (with_end calls end pages seconds why
+    (put (codes "peer") (name_record f.name) (with_speeds f (with_counts f no_members))))
 
 -- ---- the line of words
 
@@ -86,8 +89,19 @@ abbrev pub name_part : Option (List ℕ) → List ℕ
 name_part None = []
 name_part (Some name) = codes "; peer " ++ signs_text name
 
+-- what was counted in a call of so many seconds
+abbrev pub counts_part : ℕ → Figures → List ℕ
+counts_part seconds f = decimal seconds ++ (codes " s; blocks " ++ (decimal f.blocks ++ (codes ", PPRs "
+    ++ (decimal f.requests ++ (codes ", frames sent again " ++ decimal f.resent)))))
+
+-- how many checks failed, and how many commands were said again
+abbrev pub failures_part : Figures → List ℕ
+failures_part f = codes ", failed checks " ++ (decimal f.failed_checks ++ (codes ", retries " ++ decimal f.retries))
+
+-- what follows the counts, and the end of the line
+abbrev pub rest_part : Figures → List ℕ
+rest_part f = speeds_part f.first_speed f.last_speed ++ (name_part f.name ++ 10 ∷ [])
+
 -- what a call of so many seconds came to, as a line
 abbrev pub figures_words : ℕ → Figures → List ℕ
-figures_words seconds f = decimal seconds ++ (codes " s; blocks " ++ (decimal f.blocks ++ (codes ", PPRs " ++ (decimal f.requests
-    ++ (codes ", frames sent again " ++ (decimal f.resent ++ (codes ", failed checks " ++ (decimal f.failed_checks
-    ++ (codes ", retries " ++ (decimal f.retries ++ (speeds_part f.first_speed f.last_speed ++ (name_part f.name ++ 10 ∷ []))))))))))))
+figures_words seconds f = counts_part seconds f ++ (failures_part f ++ rest_part f)

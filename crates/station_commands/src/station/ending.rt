@@ -7,7 +7,7 @@ ghost use Rattle.station_commands.specs.EndRecords.{left_out, left_out_words, na
 ghost use Rattle.station_commands.specs.Stations.{IsHalt, ended_of};
 ghost use Rattle.std.specs.Prelude.{◌≡◌, IfErr, IfSome, Some, option_map, string_bytes};
 
-use crate::station::end_records::{Ended, write_ended, write_figures};
+use crate::station::end_records::{Ended, pages_word, write_ended, write_figures};
 use crate::station::folder::StoppedBy;
 use crate::station::no_line::NoLine;
 use crate::station::records::{State, write_state};
@@ -241,7 +241,7 @@ fn show_end_words(streams: &Streams<'_>, ended: &Ended<'_>) {
     let mut line = ErrorLine::new(streams);
     let made = write_figures(ended.seconds, ended.figures, &mut line);
     line.end(made);
-    let counted = if ended.calls { "confirmed" } else { "pages" };
+    let counted = pages_word(ended.calls);
     let mut line = ErrorLine::new(streams);
     let made = writeln!(line, "end {} {counted} {}", ended.end, ended.pages);
     line.end(made);
