@@ -116,6 +116,14 @@ def broken(text, width):
     return "\n".join(lines)
 
 
+def unbroken(text, width):
+    """A text whose lines are to stay as they are, none of them longer than a width."""
+    for line in text.split("\n"):
+        if len(line) > width:
+            sys.exit(f"make_library.py: a line of more than {width} columns: {line}")
+    return text
+
+
 def narrow(text, width):
     """A declaration in lines of a width: the comment of a long line stands before it."""
     lines = []
@@ -201,7 +209,7 @@ def page(group, about, found, version, date):
             lines += [".RS", *[f".br\n\\fB{name}\\fP()" for name in names], ".RE"]
         for item in shown:
             lines += [".RS", ".nf", escaped(narrow(item.text, 65)), ".fi", ".RE"]
-    example = (TOP / f"docs/man/examples/{group}.c").read_text()
+    example = unbroken((TOP / f"docs/man/examples/{group}.c").read_text(), 73)
     types = elsewhere(group, chosen, found, example)
     if types:
         lines += [".SH TYPES", *[line for words in types for line in textwrap.wrap(words, 78, break_on_hyphens=False)]]
