@@ -148,21 +148,21 @@ CASES
 try_limits() {
     stopped="a further page is dropped, and the call stopped:"
     # of two pages, whose second one has no MCF, or the first one
-    one="10 s; blocks 1, ${nothing#*, }; $fast"
-    none="7 s; $nothing; $fast"
+    with_one="10 s; blocks 1, ${nothing#*, }; $fast"
+    without="7 s; $nothing; $fast"
     two=reference_room_for_one_page
     answers_so $two "$stopped --most-pages
-$one
+$with_one
 end stopped pages 1" --limit 1 --most-pages 1
     first=$(stat -c %s "$work/stored/page-1.pbm")
     [ "$(ls "$work/stored")" = page-1.pbm ] || fails "--most-pages 1 left other files"
     cp "$work/output" "$work/wanted"
     answers_so $two "$stopped --most-octets
-$one
+$with_one
 end stopped pages 1" --limit 1 --most-octets "$first"
     is_same "$work/output" "$work/wanted" "what is said at --most-octets"
     answers_so $two "$stopped --most-octets
-$none
+$without
 end stopped pages 0" --limit 1 --most-octets "$((first - 1))"
     [ -z "$(ls "$work/stored")" ] || fails "--most-octets left a file"
     kept=$top/.ci/conversations/$two
