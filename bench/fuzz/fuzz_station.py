@@ -395,7 +395,8 @@ def hold(rand, folder, program):
             compare(run(program, end, folder), end.result())
         if program and len(end.lines) % 8 == 0:
             compare_records(run(program, end, folder, "--json")[1], end)
-    told = ["fault 31" if end.result()[1].startswith("fault") else end.result()[1].rpartition(" ")[0].rstrip("\n") for end in ends]
+    lasts = [end.result()[1].splitlines()[-1] for end in ends]
+    told = ["fault 31" if last.startswith("fault") else last.rpartition(" ")[0] for last in lasts]
     return told, sum(len(end.pages) for end in ends), sum(len(end.lines) for end in ends)
 
 
