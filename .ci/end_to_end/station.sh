@@ -145,7 +145,7 @@ CASES
 }
 
 # The limits of a call: the page that would pass one isn't stored, and DCN is said in place of its confirmation, as to `stop`.
-try_limits() {
+try_call_limits() {
     stopped="a further page is dropped, and the call stopped:"
     # of two pages, whose second one has no MCF, or the first one
     with_one="10 s; blocks 1, ${nothing#*, }; $fast"
@@ -444,7 +444,8 @@ try_late() {
     late_by off
     is_same "$work/output" "$kept.expected" "the answers with --late off"
     late_by 500
-    { head -n 1 "$kept.error"; echo "the answer to the line at 14000 isn't sent: it comes too late"; tail -n 2 "$kept.error"; } > "$work/wanted"
+    late="the answer to the line at 14000 isn't sent: it comes too late"
+    sed "1a $late" "$kept.error" > "$work/wanted"
     is_same "$work/error" "$work/wanted" "what is said of an answer that comes too late"
     [ "$(grep -c '^tx ' "$work/output")" = "$(($(grep -c '^tx ' "$kept.expected") - 1))" ] || fails "an answer that comes too late is sent"
 }
@@ -601,7 +602,7 @@ CASES
     try_unwritten
     try_unwritable_folder
     try_modes
-    try_limits
+    try_call_limits
     try_whole
     try_no_lines
     try_no_line_words
