@@ -2,9 +2,9 @@
 
 Of those named worked_ the frames are worked by hand from T.30's tables, in bench/fuzz/reference_station.py; only flags, stuffed bits and
 check sequences are added here. Of those named reference_ the answers are the ones of that reading. A conversation is the words of its
-station, with IN and DIR; the lines in; the lines out; and the last lines on standard error. A caller has its document, an answerer the pages
-that it stores; of some the records of `--json` are worked too. The figures at the end are those of bench/fuzz/figures.py, with which those
-that are worked by hand are compared."""
+station, with IN and DIR; the lines in; the lines out; and the last lines on standard error. A caller has its document, an answerer the
+pages that it stores; of some the records of `--json` are worked too. The figures at the end are those of bench/fuzz/figures.py, with which
+those that are worked by hand are compared."""
 
 import json
 import os
@@ -22,12 +22,13 @@ from reference_station import CFR, CHECK, DCN, DCS, DIS, LAST, MCF, PAGE, RCP, R
 folder = Path(sys.argv[1])
 WHITE = (TOP / "docs" / "examples" / "row.pbm").read_bytes()
 TWO_WIDTHS = WHITE + b"P4\n2048 1\n" + bytes(256)
-# The figures of these, by hand from the tables below: a second DIS that nothing was heard before, with a name; a second DCS after T4, and two
-# RR that each answer a RNR; a check that fails; a PPR for all 256 frames of a block that has one; four of them and a slower speed.
+# The figures of these, by hand from the tables below: a second DIS that nothing was heard before, with a name; a second DCS after T4, and
+# two RR that each answer a RNR; a check that fails; a PPR for all 256 frames of a block that has one; four of them and a slower speed.
 BY_HAND = {
     "worked_answerer_of_a_caller_with_a_name": "16 s; blocks 1, PPRs 0, frames sent again 0, failed checks 0, retries 1"
     "; v17-14400 to v17-14400; peer +49 30 123",
-    "worked_caller_before_a_busy_answerer": "110 s; blocks 0, PPRs 0, frames sent again 0, failed checks 0, retries 1; v17-14400 to v17-14400",
+    "worked_caller_before_a_busy_answerer": "110 s; blocks 0, PPRs 0, frames sent again 0, failed checks 0, retries 1"
+    "; v17-14400 to v17-14400",
     "worked_answerer_says_what_it_hears": "16 s; blocks 1, PPRs 0, frames sent again 0, failed checks 1, retries 0; v17-14400 to v17-14400",
     "worked_frame_that_is_lost": "11 s; blocks 1, PPRs 1, frames sent again 1, failed checks 0, retries 0; v17-14400 to v17-14400",
     "worked_caller_that_says_ctc": "53 s; blocks 0, PPRs 4, frames sent again 4, failed checks 1, retries 0; v17-14400 to v17-12000",
@@ -253,8 +254,8 @@ AGAIN = [
 ]
 AGAIN_RECORD = STORED.replace("14000", "10000")
 worked_whole("frame_that_is_lost", "--answer --out DIR", AGAIN, pages=[WHITE], records=[AGAIN_RECORD, *NORMAL])
-# Frames are lost at each speed: a check of 1 bits fails, and after the fourth PPR the caller says CTC (X100 1000, with bits 1 to 16 of a DCS),
-# which the answerer leaves out, and nothing more.
+# A check of 1 bits fails, and at the slower speed each frame is lost: after the fourth PPR the caller says CTC (X100 1000, with bits 1 to 16
+# of a DCS), which the answerer leaves out, and nothing more.
 SLOWER, CTC, SLOW_PAGE = "FF1383002AF844", "FF1313002A", "v17-12000"
 ASKED = [
     pair

@@ -3,9 +3,9 @@
 
     try_words.py PROGRAM WORK
 
-The words of each frame are put together here, from the bit numbers of T.30, table 2, and the names of bench/fuzz/frame_names.py, and compared
-with what the program prints; and the same octets with their bits in the other order are listed alike by `--order msb`. Ends with status 1
-where something differs. It needs Python's standard library alone."""
+The words of each frame are put together here, from the bit numbers of T.30, table 2, and the names of bench/fuzz/frame_names.py, and
+compared with what the program prints; and the same octets with their bits in the other order are listed alike by `--order msb`. Ends with
+status 1 where something differs. It needs Python's standard library alone."""
 
 import json
 import random

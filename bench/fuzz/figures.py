@@ -1,7 +1,7 @@
 """What a call of `faxtool station` came to: a second reading of the figures that it tells at its end, apart from the program.
 
-They are counted from the lines in and out of one conversation alone, by docs/STATION.md and T.30. What was heard are the good frames of V.21
-of the lines in, by an answerer from its first DIS on; what was said are those of the lines out. `figures_of` counts, `words_of` and
+They are counted from the lines in and out of one conversation alone, by docs/STATION.md and T.30. What was heard are the good frames of
+V.21 of the lines in, by an answerer from its first DIS on; what was said are those of the lines out. `figures_of` counts, `words_of` and
 `record_of` are the line of words and the JSON object, and `told_of` adds the line to what else is told at the end."""
 
 import json

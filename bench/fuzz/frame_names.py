@@ -1,4 +1,4 @@
-"""The names of frames that are no signals of the stations, by their facsimile control fields, as T.30, 5.3.6.1 and annex A, writes these."""
+"""The names of frames that are no signals of the stations, by their facsimile control fields as T.30, 5.3.6.1 and A.4, has them."""
 
 # The first bit first; X is that of the station.
 NAMES = {

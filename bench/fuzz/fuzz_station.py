@@ -9,8 +9,8 @@ The program is crates/faxtool/out/faxtool, or the one that FAXTOOL names, as ben
 one of three: two stations over a line that loses, spoils, cuts and delays bursts; an answerer that hears a stranger of fuzz_stream.py;
 and a caller that hears random answers. Among them are a busy receiver, bursts that nobody asked for, stops, dropped lines and, seldom,
 lines of no allowed form. The stations of reference_station.py hold it first; then the program is given the same lines. Each line out,
-the lines on standard error, the status and the pages have to be the same; so have the figures of the call, which figures.py counts, in words
-and, of one call in eight, in the record of its end. Where neither late answers nor others' bursts are among the
+the lines on standard error, the status and the pages have to be the same; so have the figures of the call, which figures.py counts, in
+words and, of one call in eight, in the record of its end. Where neither late answers nor others' bursts are among the
 lines, the pages stored are also the first of the document. At the first that differs its files stay in the folder that is printed, and
 the status is 1."""
 
