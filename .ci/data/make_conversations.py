@@ -23,7 +23,8 @@ folder = Path(sys.argv[1])
 WHITE = (TOP / "docs" / "examples" / "row.pbm").read_bytes()
 TWO_WIDTHS = WHITE + b"P4\n2048 1\n" + bytes(256)
 # The figures of these, by hand from the tables below: a second DIS that nothing was heard before, with a name; a second DCS after T4, and
-# two RR that each answer a RNR; a check that fails; a PPR for all 256 frames of a block that has one; four of them and a slower speed.
+# two RR that each answer a RNR; a check that fails; a PPR for all 256 frames of a block that has one; four of them and a slower speed; and
+# what comes before the first DIS, which isn't heard.
 BY_HAND = {
     "worked_answerer_of_a_caller_with_a_name": "16 s; blocks 1, PPRs 0, frames sent again 0, failed checks 0, retries 1"
     "; v17-14400 to v17-14400; peer +49 30 123",
@@ -31,6 +32,7 @@ BY_HAND = {
     "; v17-14400 to v17-14400",
     "worked_answerer_says_what_it_hears": "16 s; blocks 1, PPRs 0, frames sent again 0, failed checks 1, retries 0; v17-14400 to v17-14400",
     "worked_frame_that_is_lost": "11 s; blocks 1, PPRs 1, frames sent again 1, failed checks 0, retries 0; v17-14400 to v17-14400",
+    "worked_name_before_the_first_dis": "3 s; blocks 0, PPRs 0, frames sent again 0, failed checks 0, retries 0",
     "worked_caller_that_says_ctc": "53 s; blocks 0, PPRs 4, frames sent again 4, failed checks 1, retries 0; v17-14400 to v17-12000",
 }
 
@@ -180,6 +182,16 @@ OTHERS = [
     '{"at":10200,"heard":{"control_field":"23","name":"NSS","signal":"other"},"words":"NSS"}',
 ]
 worked("answerer_of_a_caller_with_a_name", "--answer --out DIR", NAMED, pages=[WHITE], records=[*OTHERS, STORED, *NORMAL])
+# Before its first DIS an answerer hears nothing. That it is stopped is why its call ends, not the NSS before.
+EARLY = [
+    (("rx 900", "v21", [TSI, DCS]), ["wait"]),
+    ("quiet 1000", [("v21", [DIS]), "wait"]),
+    (("rx 2000", "v21", [NSS]), ["wait"]),
+    ("stop 3000", [("v21", ["FF13FA"]), "done"]),
+    "end stopped pages 0",
+]
+EARLY_RECORDS = [OTHERS[1].replace("10200", "2000"), '{"pages":0,"whole":false}']
+worked_whole("name_before_the_first_dis", "--answer --out DIR", EARLY, records=EARLY_RECORDS)
 # A DIS without bit 27: no error correction.
 LACKED = "not compatible: the answerer has no error correction\nend not-compatible confirmed 0"
 NO_CORRECTION = [(("rx 1000", "v21", ["FF1380006EFA40"]), [("v21", [DCN])]), LACKED]

@@ -272,6 +272,8 @@ def hear_stranger(rand, folder):
     answerer = Spoken(answerer_words(rand, os.path.join(folder, "pages")))
     talk = Talk(rand, [answerer])
     talk.mood = MOODS[0]
+    if rand.random() < 0.2:
+        talk.burst(answerer, burst_of(*hdlc("v21", [random_aside(rand, 1)])))
     for at in (900, 1000):
         talk.clock = max(talk.clock, at)
         talk.quiet(answerer)
