@@ -25,8 +25,8 @@ TOP = Path(__file__).resolve().parent.parent
 BLOCK = re.compile(r"^```console\n(.*?)^```$", re.M | re.S)
 CELL = re.compile(r"^\|.*?`(faxtool [^`]*)`", re.M)
 ENDS_EARLY = re.compile(r"faxtool [^|;\n]*\| *(head|grep -\w*q|sed [^|]*q)\b")
-# A station tells what happens, with the time, and how its call ended, which is no error.
-ENDED = re.compile(r"(\d+ (page|gap|heard) .*\n)*end normal (pages|confirmed) \d+\n")
+# A station tells what happens, with the time, and how its call ended, after its figures, which is no error.
+ENDED = re.compile(r"(\d+ (page|gap|heard) .*\n)*\d+ s; .*\nend normal (pages|confirmed) \d+\n")
 
 
 def sessions(text):

@@ -2,8 +2,9 @@
 
 Of those named worked_ the frames are worked by hand from T.30's tables, in bench/fuzz/reference_station.py; only flags, stuffed bits and
 check sequences are added here. Of those named reference_ the answers are the ones of that reading. A conversation is the words of its
-station, with IN and DIR; the lines in; the lines out; and the last line on standard error. A caller has its document, an answerer the pages
-that it stores; of some the records of `--json` are worked too."""
+station, with IN and DIR; the lines in; the lines out; and the last lines on standard error. A caller has its document, an answerer the
+pages that it stores; of some the records of `--json` are worked too. The figures at the end are those of bench/fuzz/figures.py, with which
+those that are worked by hand are compared."""
 
 import json
 import os
@@ -14,12 +15,26 @@ sys.dont_write_bytecode = True
 TOP = Path(__file__).resolve().parent.parent.parent
 sys.path.insert(0, str(TOP / "bench" / "fuzz"))
 import reference_station as reference  # noqa: E402
+from figures import figures_of, left_out_of, record_of, told_of, words_of  # noqa: E402
 from reference_station import ANSWERED, CALLED, SENT_WELL, UNANSWERED, written  # noqa: E402
-from reference_station import CFR, CHECK, DCN, DCS, DIS, LAST, MCF, PAGE, RNR, RR, WHITE_BURST  # noqa: E402
+from reference_station import CFR, CHECK, DCN, DCS, DIS, LAST, MCF, PAGE, RCP, RNR, RR, WHITE_BURST  # noqa: E402
 
 folder = Path(sys.argv[1])
 WHITE = (TOP / "docs" / "examples" / "row.pbm").read_bytes()
 TWO_WIDTHS = WHITE + b"P4\n2048 1\n" + bytes(256)
+# The figures of these, by hand from the tables below: a second DIS that nothing was heard before, with a name; a second DCS after T4, and
+# two RR that each answer a RNR; a check that fails; a PPR for all 256 frames of a block that has one; four of them and a slower speed; and
+# what comes before the first DIS, which isn't heard.
+BY_HAND = {
+    "worked_answerer_of_a_caller_with_a_name": "16 s; blocks 1, PPRs 0, frames sent again 0, failed checks 0, retries 1"
+    "; v17-14400 to v17-14400; peer +49 30 123",
+    "worked_caller_before_a_busy_answerer": "110 s; blocks 0, PPRs 0, frames sent again 0, failed checks 0, retries 1"
+    "; v17-14400 to v17-14400",
+    "worked_answerer_says_what_it_hears": "16 s; blocks 1, PPRs 0, frames sent again 0, failed checks 1, retries 0; v17-14400 to v17-14400",
+    "worked_frame_that_is_lost": "11 s; blocks 1, PPRs 1, frames sent again 1, failed checks 0, retries 0; v17-14400 to v17-14400",
+    "worked_name_before_the_first_dis": "3 s; blocks 0, PPRs 0, frames sent again 0, failed checks 0, retries 0",
+    "worked_caller_that_says_ctc": "53 s; blocks 0, PPRs 4, frames sent again 4, failed checks 1, retries 0; v17-14400 to v17-12000",
+}
 
 
 def happened(record):
@@ -35,8 +50,24 @@ def happened(record):
     return f"{told['at']} page {told['confirmed']} confirmed"
 
 
+def ended(name, words, lines, answers, told, records):
+    """What is told at the end, and the records, with the figures."""
+    calls = "--call" in words.split()
+    figures = figures_of(lines, answers, calls)
+    if BY_HAND.pop(name, words_of(figures)) != words_of(figures):
+        sys.exit(f"{name}: by hand the figures are others than {words_of(figures)}")
+    end = told[-1].split(" ")
+    if end[0] == "end" and records:
+        why = json.loads(records[-1]).get("why")
+        if left_out_of(figures, end[1]) not in (None, why):
+            sys.exit(f"{name}: it ends after a frame that isn't answered: {left_out_of(figures, end[1])}")
+        records = [*records, record_of(figures, end[1], calls, int(end[3]), why)]
+    return told_of(told, figures), records
+
+
 def write(name, words, lines, answers, errors, document=b"", pages=(), records=()):
-    errors = [*(happened(record) for record in records if '"at"' in record), *errors]
+    told, records = ended(name, words, lines, answers, "\n".join(errors).split("\n"), records)
+    errors = [*(happened(record) for record in records if '"at"' in record), *told]
     texts = {"words": words, "lines": "\n".join(lines), "expected": "\n".join(answers), "error": "\n".join(errors)}
     texts |= {"records": "\n".join(records)} if records else {}
     for kind, text in texts.items():
@@ -139,7 +170,7 @@ REFUSED_TWICE = [
 ]
 NOT_REFUSED = [*REFUSED_TWICE[:3], (REFUSED_TWICE[3][0], ["wait"]), ("stop 8000", [("v21", ["FF13FA"]), "done"]), "end stopped pages 0"]
 STORED = '{"at":14000,"code":"mmr","file":"page-1.pbm","height":1,"lines":"standard","page":1,"speed":"v17-14400","width":1728}'
-NORMAL = ['{"pages":1,"whole":true}', '{"end":"normal","pages":1}']
+NORMAL = ['{"pages":1,"whole":true}']
 UNKNOWN = [f'{{"at":{at},"heard":{{"control_field":"83","name":"DCS","signal":"other"}},"words":"DCS"}}' for at in (2000, 7000)]
 WHY = '{"pages":0,"whole":false,"why":"the caller sends without error correction"}'
 worked("answerer", "--answer --out DIR", ANSWERED, pages=[WHITE], records=[STORED, *NORMAL])
@@ -151,12 +182,22 @@ OTHERS = [
     '{"at":10200,"heard":{"control_field":"23","name":"NSS","signal":"other"},"words":"NSS"}',
 ]
 worked("answerer_of_a_caller_with_a_name", "--answer --out DIR", NAMED, pages=[WHITE], records=[*OTHERS, STORED, *NORMAL])
+# Before its first DIS an answerer hears nothing. That it is stopped is why its call ends, not the NSS before.
+EARLY = [
+    (("rx 900", "v21", [TSI, DCS]), ["wait"]),
+    ("quiet 1000", [("v21", [DIS]), "wait"]),
+    (("rx 2000", "v21", [NSS]), ["wait"]),
+    ("stop 3000", [("v21", ["FF13FA"]), "done"]),
+    "end stopped pages 0",
+]
+EARLY_RECORDS = [OTHERS[1].replace("10200", "2000"), '{"pages":0,"whole":false}']
+worked_whole("name_before_the_first_dis", "--answer --out DIR", EARLY, records=EARLY_RECORDS)
 # A DIS without bit 27: no error correction.
 LACKED = "not compatible: the answerer has no error correction\nend not-compatible confirmed 0"
 NO_CORRECTION = [(("rx 1000", "v21", ["FF1380006EFA40"]), [("v21", [DCN])]), LACKED]
-LACKS = ['{"confirmed":0,"whole":false,"why":"the answerer has no error correction"}', '{"confirmed":0,"end":"not-compatible"}']
+LACKS = ['{"confirmed":0,"whole":false,"why":"the answerer has no error correction"}']
 worked("caller_that_is_not_compatible", "--call IN", NO_CORRECTION, document=WHITE, records=LACKS)
-worked_whole("no_error_correction", "--answer --out DIR", REFUSED_TWICE, records=[*UNKNOWN, WHY, '{"end":"refused","pages":0}'])
+worked_whole("no_error_correction", "--answer --out DIR", REFUSED_TWICE, records=[*UNKNOWN, WHY])
 worked_whole("no_error_correction_waited_for", "--answer --no-refuse --out DIR", NOT_REFUSED)
 worked_whole("answerer_says_what_it_hears", "--answer --hear --out DIR", HEARING, pages=[WHITE])
 worked_whole("clock_that_jumps", "--answer --out DIR", JUMPING)
@@ -175,7 +216,7 @@ KEPT_RECORD = STORED.replace("14000", "9000")
 worked_whole("held_page", "--answer --hold --out DIR", [*KEPT, "end normal pages 1"], pages=[WHITE], records=[KEPT_RECORD, *NORMAL])
 LOST = [*HELD, ("lost 9000 page-1.pbm", [("v21", ["FF13FA"]), "done"])]
 IS_LOST = "the call is stopped: a page that was handed over is lost"
-NOTICE, LOST_END = f'{{"notice":"{IS_LOST}"}}', ['{"pages":0,"whole":false,"why":"' + IS_LOST + '"}', '{"end":"stopped","pages":0}']
+NOTICE, LOST_END = f'{{"notice":"{IS_LOST}"}}', ['{"pages":0,"whole":false,"why":"' + IS_LOST + '"}']
 worked_whole(
     "held_page_lost", "--answer --hold --out DIR", [*LOST, f"{IS_LOST}\nend stopped pages 0"], pages=[WHITE], records=[NOTICE, *LOST_END]
 )
@@ -193,7 +234,7 @@ JUMPED = [
     "end normal pages 2",
 ]
 STORED_TWO = [STORED.replace("14000", "7000"), STORED.replace("14000", "10000").replace('page-1', 'page-2').replace('"page":1', '"page":2')]
-GAP = ['{"at":10000,"gap":8}', '{"pages":2,"whole":false}', '{"end":"normal","pages":2}']
+GAP = ['{"at":10000,"gap":8}', '{"pages":2,"whole":false}']
 worked_whole("page_number_that_jumps", "--answer --out DIR", JUMPED, pages=[WHITE, WHITE], records=[STORED_TWO[0], GAP[0], STORED_TWO[1], *GAP[1:]])
 # A second page under the number of the first: its PPS can't be told from a repeated one, so DCN is answered in place of MCF. So it is where the
 # first page ends a group (X111 0001), and a DCS and a check come between.
@@ -208,10 +249,50 @@ USED_IN_A_GROUP = [
     (("rx 14000", "v21", [LAST]), [("v21", ["FF13FA"]), "done"]),
 ]
 IS_USED = "a page came under the number of the last one"
-USED_END = [f'{{"pages":1,"whole":false,"why":"{IS_USED}"}}', '{"end":"refused","pages":1}']
+USED_END = [f'{{"pages":1,"whole":false,"why":"{IS_USED}"}}']
 for name, table in (("page_under_a_used_number", USED), ("page_under_a_used_number_in_a_new_group", USED_IN_A_GROUP)):
     end = f"the call is refused: {IS_USED}\nend refused pages 1"
     worked_whole(name, "--answer --out DIR", [*table, end], pages=[WHITE], records=[STORED_TWO[0], *USED_END])
+# The frame of a block is lost: the PPR asks for all 256 frames, of which the block has the first alone.
+LOST_FRAME, ALL_FRAMES = [RCP, RCP, RCP], "FF13BC" + 32 * "FF"
+AGAIN = [
+    *HELD[:3],
+    (("rx 6000", PAGE, LOST_FRAME), ["wait"]),
+    (("rx 7000", "v21", [LAST]), [("v21", [ALL_FRAMES]), "wait"]),
+    (("rx 9000", PAGE, WHITE_BURST), ["wait"]),
+    (("rx 10000", "v21", [LAST]), [("v21", [MCF]), "wait"]),
+    (("rx 11000", "v21", [DCN]), ["done"]),
+    "end normal pages 1",
+]
+AGAIN_RECORD = STORED.replace("14000", "10000")
+worked_whole("frame_that_is_lost", "--answer --out DIR", AGAIN, pages=[WHITE], records=[AGAIN_RECORD, *NORMAL])
+# A check of 1 bits fails, and at the slower speed each frame is lost: after the fourth PPR the caller says CTC (X100 1000, with bits 1 to 16
+# of a DCS), which the answerer leaves out, and nothing more.
+SLOWER, CTC, SLOW_PAGE = "FF1383002AF844", "FF1313002A", "v17-12000"
+ASKED = [
+    pair
+    for at in (10000, 12000, 14000, 16000)
+    for pair in (
+        ((f"rx {at}", SLOW_PAGE, LOST_FRAME), ["wait"]),
+        ((f"rx {at + 1000}", "v21", [LAST]), [("v21", [ALL_FRAMES]), "wait"]),
+    )
+]
+GIVEN_UP = [
+    *HELD[:2],
+    (("rx 4000", PAGE, "1" * 21600), [("v21", [FTT]), "wait"]),
+    (("rx 6000", "v21", [SLOWER]), ["wait"]),
+    (("rx 8000", SLOW_PAGE, CHECK), [("v21", [CFR]), "wait"]),
+    *ASKED,
+    (("rx 18000", "v21", [CTC]), ["wait"]),
+    ("quiet 18100", ["wait"]),
+    ("quiet 53100", ["done"]),
+    "CTC, which isn't answered\nend no-answer pages 0",
+]
+GIVEN_UP_RECORDS = [
+    '{"at":18000,"heard":{"control_field":"13","name":"CTC","signal":"other"},"words":"CTC"}',
+    '{"pages":0,"whole":false,"why":"CTC, which isn\'t answered"}',
+]
+worked_whole("caller_that_says_ctc", "--answer --out DIR", GIVEN_UP, records=GIVEN_UP_RECORDS)
 # The same PPS once more, and once more with another end, brings no frame: it is confirmed again.
 REPEATED = [
     *JUMPED[:5],
@@ -220,12 +301,12 @@ REPEATED = [
     (("rx 14000", "v21", [DCN]), ["done"]),
     "end peer-left pages 1",
 ]
-REPEATED_END = ['{"pages":1,"whole":false}', '{"end":"peer-left","pages":1}']
+REPEATED_END = ['{"pages":1,"whole":false}']
 worked_whole("page_confirmed_again", "--answer --out DIR", REPEATED, pages=[WHITE], records=[STORED_TWO[0], *REPEATED_END])
 worked_whole("answerer_in_frames", "--answer --frames --out DIR", FRAMED, pages=[WHITE])
 worked_whole("content_of_two_octets", "--answer --frames --out DIR", TWO_OCTETS)
 worked("caller_before_a_busy_answerer", "--call IN", CALLED, document=WHITE)
-CONFIRMED = ['{"at":50000,"confirmed":1}', '{"confirmed":1,"whole":true}', '{"confirmed":1,"end":"normal"}']
+CONFIRMED = ['{"at":50000,"confirmed":1}', '{"confirmed":1,"whole":true}']
 worked("caller", "--call IN", SENT_WELL, document=WHITE, records=CONFIRMED)
 worked("caller_alone", "--call IN", UNANSWERED, document=WHITE)
 # MCF said twice after CFR, in one burst: they answer nothing, since the page wasn't sent yet.
@@ -282,4 +363,6 @@ referred("page_of_many_rows", "--answer --out DIR", BEGUN + [("rx 6000", PAGE, [
 answers = (folder / "reference_page_of_many_rows.expected").read_text().split("\n")[:-3]
 unwritten = [*answers, "tx " + written(("v21", ["FF13FA"])), "done", ""]
 (folder / "reference_page_of_many_rows.unwritten").write_text("\n".join(unwritten), encoding="ascii", newline="")
+if BY_HAND:
+    sys.exit(f"there are no conversations {', '.join(BY_HAND)}")
 print(f"{len(os.listdir(folder))} files")

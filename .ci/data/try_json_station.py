@@ -4,8 +4,8 @@
     try_json_station.py PROGRAM FOLDER
 
 Each conversation of .ci/conversations is made with and without `--json`. The trace's records, put back together, are the lines of the trace
-without it; the records of what happens and of how the call ended are their lines; and a fault's record has its number and its line. FOLDER
-is empty, for the pages.
+without it; the records of what happens and of how the call ended are their lines, with its figures; and a fault's record has its number and
+its line. FOLDER is empty, for the pages.
 Prints how many runs there were, and ends with status 1 where something differs. It needs Python's standard library alone."""
 
 import json
@@ -15,10 +15,13 @@ import sys
 from pathlib import Path
 
 sys.dont_write_bytecode = True
-import try_json_texts as texts
+TOP = Path(__file__).resolve().parent.parent.parent
+sys.path.insert(0, str(TOP / "bench" / "fuzz"))
+import try_json_texts as texts  # noqa: E402
+from figures import words_of  # noqa: E402
 
 program, folder = sys.argv[1:]
-KEPT = Path(__file__).resolve().parent.parent / "conversations"
+KEPT = TOP / ".ci" / "conversations"
 
 
 def made(words, lines, *more):
@@ -47,17 +50,21 @@ def happened_text(record):
     return f"{record['at']} heard {record.get('words') or texts.signal_text(record['heard'])}"
 
 
-def told_text(record, why):
-    """The lines of a record on standard error. `why` is that of the record of how the call stands."""
+def end_text(record):
+    """The lines of the record of the end: why, unless a notice has said it, the figures, and the end."""
+    name, why = record["end"], record["why"]
+    before = {"refused": "the call is refused: ", "not-compatible": "not compatible: "}.get(name, "")
+    counted = "confirmed" if "confirmed" in record else "pages"
+    lines = [words_of(record), f"end {name} {counted} {record[counted]}"]
+    return "\n".join([before + why, *lines] if why and name != "stopped" else lines)
+
+
+def told_text(record):
+    """The lines of a record on standard error."""
     if "at" in record:
         return happened_text(record)
-    if record.get("end") == "refused":
-        return f"the call is refused: {why}\nend refused pages {record['pages']}"
-    if record.get("end") == "not-compatible":
-        return f"not compatible: {why}\nend not-compatible confirmed {record['confirmed']}"
     if "end" in record:
-        counted = "confirmed" if "confirmed" in record else "pages"
-        return f"end {record['end']} {counted} {record[counted]}"
+        return end_text(record)
     if "fault" in record:
         return f"fault {record['fault']}" + (f" at line {record['line']}" if "line" in record else "")
     return record["notice"]
@@ -87,10 +94,11 @@ for words in sorted(KEPT.glob("*.words")):
     compare(name, "the answers", also, printed)
     compare(name, "the trace", [traced_text(record) for record in records(traced_records)], traced.decode().splitlines())
     found = records(told_records)
-    why = next((record.get("why") for record in found if "whole" in record), None)
-    lines = [told_text(record, why) for record in found if "whole" not in record]
+    lines = [told_text(record) for record in found if "whole" not in record]
     compare(name, "what is told", "\n".join(lines), told.decode().rstrip("\n"))
     compare(name, "how the call stands", [record["whole"] for record in found if "whole" in record], [not status])
+    why = [record.get("why") for record in found if "whole" in record]
+    compare(name, "why", [record["why"] for record in found if "end" in record] or why, why)
     compare(name, "the status", other, status)
     runs += 2
 if runs < 52:

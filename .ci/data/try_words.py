@@ -3,14 +3,19 @@
 
     try_words.py PROGRAM WORK
 
-The words of each frame are put together here, from the bit numbers of T.30, table 2, and compared with what the program prints; and the
-same octets with their bits in the other order are listed alike by `--order msb`. Ends with status 1 where something differs. It needs
-Python's standard library alone."""
+The words of each frame are put together here, from the bit numbers of T.30, table 2, and the names of bench/fuzz/frame_names.py, and
+compared with what the program prints; and the same octets with their bits in the other order are listed alike by `--order msb`. Ends with
+status 1 where something differs. It needs Python's standard library alone."""
 
 import json
 import random
 import subprocess
 import sys
+from pathlib import Path
+
+sys.dont_write_bytecode = True
+sys.path.insert(0, str(Path(__file__).resolve().parent.parent.parent / "bench" / "fuzz"))
+from frame_names import OTHERS  # noqa: E402
 
 MODEMS = {"0100": "V.27 ter", "1000": "V.29", "1100": "V.27 ter, V.29", "1101": "V.27 ter, V.29, V.17"}
 SPEEDS = {
@@ -22,30 +27,11 @@ ENDS = {
     0x8F: "the page ends, and another one follows after a new DIS", 0x2F: "the last page ends",
 }
 
-# Frames that are no signals of the stations, as T.30, 5.3.6.1, writes their control fields, the first bit first; X is that of the station.
-NAMES = {
-    "0000 0100": "NSF", "1000 0100": "NSC", "X100 0100": "NSS", "0000 0010": "CSI", "1000 0010": "CIG", "X100 0010": "TSI",
-    "1000 0001": "DTC", "1000 0101": "SEP", "X100 0101": "SID", "1000 0011": "PWD", "X100 0011": "SUB",
-    "1000 0110": "PSA", "1000 0111": "CIA", "1000 1000": "ISP", "X100 0110": "TSA", "X100 0111": "IRA", "X100 1000": "CTC",
-    "X100 0001": "DCS", "X010 0011": "CTR", "X010 0100": "CSA",
-    "X111 0001": "EOM", "X111 0010": "MPS", "X111 0100": "EOP", "X111 1001": "PRI-EOM", "X111 1010": "PRI-MPS", "X111 1100": "PRI-EOP",
-    "X111 0011": "EOR", "X111 1000": "EOS", "X111 1101": "PPS",
-    "X011 0011": "RTP", "X011 0010": "RTN", "X011 0101": "PIP", "X011 0100": "PIN", "X011 0110": "PID", "X011 1000": "ERR",
-    "X011 1111": "FDM",
-    "X101 1000": "CRP", "X101 0111": "TNR", "X101 0110": "TR", "X101 0011": "FNV",
-    "0000 0101": "DES", "1100 1001": "DEC", "1100 1010": "DER", "X101 1001": "DNK", "0101 0010": "RK", "1101 0010": "TK",
-}
 WITH_SIGNS = {"CSI", "CIG", "TSI", "SEP", "SID", "PWD", "SUB"}
 
 # the controls of the stations' signals
 OWN = {0x80, 0x82, 0x83, 0x84, 0x85, 0x44, 0x45, 0x06, 0x86, 0xBE, 0xBF, 0xBC, 0xBD, 0x8C, 0x8D, 0xEC, 0xED, 0x6E, 0x6F, 0xFA, 0xFB}
 
-
-def octet_of(bits, x):
-    return int(bits.replace(" ", "").replace("X", x)[::-1], 2)
-
-
-OTHERS = {octet_of(bits, x): name for bits, name in NAMES.items() for x in "01"}
 UNREAD = sorted(OTHERS.keys() - OWN)
 
 

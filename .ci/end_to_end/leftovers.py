@@ -15,6 +15,7 @@ import time
 from pathlib import Path
 
 MINUTE, DAY = 60, 86_400
+NOTHING = "0 s; blocks 0, PPRs 0, frames sent again 0, failed checks 0, retries 0"
 # each name, its age in seconds, whether a process has locked it, and whether it goes, with locks and without
 FILES = (
     ("faxtool-0123456789abcdef.part", 2 * MINUTE, False, True, False),
@@ -70,7 +71,7 @@ def wrong(program, has_locks, env):
         told = ran.stderr.decode().splitlines()
         if ran.returncode != 1:
             return f"a call whose line was lost ended with status {ran.returncode}"
-        if told != [f"part files of ended programs were removed: {count}", "end line-lost pages 0"]:
+        if told != [f"part files of ended programs were removed: {count}", NOTHING, "end line-lost pages 0"]:
             return f"{told} is said, and {count} files are left"
         there = {file.name for file in folder.iterdir()}
         if there != kept | {LINK, NOWHERE, FOLDER}:

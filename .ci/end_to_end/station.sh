@@ -1,5 +1,9 @@
 # The command station: conversations that are kept as files, files that can't be written, and random conversations.
 
+# The figures of a call that came to nothing, after its seconds; and the speeds of one that was at the highest one.
+nothing="blocks 0, PPRs 0, frames sent again 0, failed checks 0, retries 0"
+fast="v17-14400 to v17-14400"
+
 # converse NAME: the program answers the lines of a kept conversation as it is kept, and stores its pages. NAME.words has the words after
 # `station`, with IN for NAME.pbm and DIR for the folder of the pages.
 converse() {
@@ -9,8 +13,8 @@ converse() {
     words=$(sed "s,IN,$kept.pbm,; s,DIR,$work/stored," "$kept.words")
     timeout 60 "$program" station $words < "$kept.lines" > "$work/output" 2> "$work/error" || status=$?
     is_same "$work/output" "$kept.expected" "the answers of conversation $1"
-    # what happens has a line with its time, which is kept of those that have records
-    [ -f "$kept.records" ] || sed -i '/^[0-9][0-9]* /d; /^not compatible: /d' "$work/error"
+    # what happens has a line with its time, which is kept of those that have records; the line of the figures begins with a number too
+    [ -f "$kept.records" ] || sed -i '/^[0-9][0-9]* [^s]/d; /^not compatible: /d' "$work/error"
     is_same "$work/error" "$kept.error" "what is told of conversation $1"
     wanted=1
     ! grep -q '^end normal ' "$kept.error" && [ ! -f "$kept.done" ] || wanted=0
@@ -41,7 +45,7 @@ try_taken_numbers() {
     "$program" $words < "$kept.lines" > "$work/output" 2> "$work/error" || fails "a taken number: status $?"
     is_same "$work/output" "$kept.expected" "the answers where a number is taken"
     is_same "$work/stored/page-2.pbm" "$kept.pages" "the page of the next number"
-    printf '%s\n' "14000 page 1 in page-2.pbm: 1728 x 1, standard, mmr, v17-14400" "end normal pages 1" > "$work/wanted"
+    sed 's/page-1/page-2/' "$kept.error" > "$work/wanted"
     is_same "$work/error" "$work/wanted" "what is told of a taken number"
     [ "$(cat "$work/stored/page-1.pbm")" = mine ] || fails "a station wrote into a file that was there"
     count=$((count + 1))
@@ -141,18 +145,24 @@ CASES
 }
 
 # The limits of a call: the page that would pass one isn't stored, and DCN is said in place of its confirmation, as to `stop`.
-try_limits() {
+try_call_limits() {
     stopped="a further page is dropped, and the call stopped:"
+    # of two pages, whose second one has no MCF, or the first one
+    with_one="10 s; blocks 1, ${nothing#*, }; $fast"
+    without="7 s; $nothing; $fast"
     two=reference_room_for_one_page
     answers_so $two "$stopped --most-pages
+$with_one
 end stopped pages 1" --limit 1 --most-pages 1
     first=$(stat -c %s "$work/stored/page-1.pbm")
     [ "$(ls "$work/stored")" = page-1.pbm ] || fails "--most-pages 1 left other files"
     cp "$work/output" "$work/wanted"
     answers_so $two "$stopped --most-octets
+$with_one
 end stopped pages 1" --limit 1 --most-octets "$first"
     is_same "$work/output" "$work/wanted" "what is said at --most-octets"
     answers_so $two "$stopped --most-octets
+$without
 end stopped pages 0" --limit 1 --most-octets "$((first - 1))"
     [ -z "$(ls "$work/stored")" ] || fails "--most-octets left a file"
     kept=$top/.ci/conversations/$two
@@ -172,7 +182,7 @@ end stopped pages 0" --limit 1 --most-octets "$((first - 1))"
     [ "$(tail -n 1 "$work/error")" = "end line-lost pages 0" ] || fails "a good frame every 20 s doesn't hold the line"
     status=0
     "$program" station --answer --out "$work/stored" --most-seconds 60 < "$work/lines" > "$work/output" 2> "$work/error" || status=$?
-    printf '%s\n' "the call is stopped: --most-seconds" "end stopped pages 0" > "$work/wanted"
+    printf '%s\n' "the call is stopped: --most-seconds" "61 s; $nothing" "end stopped pages 0" > "$work/wanted"
     sed -i '/^[0-9]* heard other /d' "$work/error"
     is_same "$work/error" "$work/wanted" "what is told at --most-seconds"
     [ "$status $(tail -n 1 "$work/output")" = "1 done" ] && [ "$(wc -l < "$work/output")" -lt "$before" ] || fails "--most-seconds: status $status"
@@ -191,7 +201,9 @@ try_unwritable_folder() {
     rm -rf "$work/stored"
     mkdir "$work/stored"
     echo "end 1" | ends 1 station --answer --out "$work/stored"
-    [ "$(cat "$work/error")" = "end line-lost pages 0" ] && [ -z "$(ls "$work/stored")" ] || fails "a station left a file where it looked"
+    printf '%s\n' "0 s; $nothing" "end line-lost pages 0" > "$work/wanted"
+    is_same "$work/error" "$work/wanted" "what is told of a station that looked where it may store"
+    [ -z "$(ls "$work/stored")" ] || fails "a station left a file where it looked"
     count=$((count + 4))
 }
 
@@ -253,7 +265,7 @@ CASES
         ends 1 station --answer --out "$kept" < "$work/long"
         echo "$time $(cat "$work/output" "$work/error" | tr '\n' ' ')" >> "$work/told"
     done
-    printf '%s\n' "1 wait end line-lost pages 0 " "01 fault 31 at line 1 " > "$work/wanted"
+    printf '%s\n' "1 wait 0 s; $nothing end line-lost pages 0 " "01 fault 31 at line 1 " > "$work/wanted"
     is_same "$work/told" "$work/wanted" "lines of 400,000 octets and one more"
     count=$((count + 2))
 }
@@ -432,8 +444,8 @@ try_late() {
     late_by off
     is_same "$work/output" "$kept.expected" "the answers with --late off"
     late_by 500
-    printf '%s\n' "14000 page 1 in page-1.pbm: 1728 x 1, standard, mmr, v17-14400" \
-        "the answer to the line at 14000 isn't sent: it comes too late" "end normal pages 1" > "$work/wanted"
+    late="the answer to the line at 14000 isn't sent: it comes too late"
+    sed "1a $late" "$kept.error" > "$work/wanted"
     is_same "$work/error" "$work/wanted" "what is said of an answer that comes too late"
     [ "$(grep -c '^tx ' "$work/output")" = "$(($(grep -c '^tx ' "$kept.expected") - 1))" ] || fails "an answer that comes too late is sent"
 }
@@ -476,8 +488,9 @@ try_left() {
     sed '/^rx 15000 /d' "$kept.lines" > "$work/lines"
     status=0
     "$program" station --answer --out "$work/stored" < "$work/lines" > "$work/output" 2> "$work/error" || status=$?
+    # the second DIS was said though nothing was heard
     printf '%s\n' "14000 page 1 in page-1.pbm: 1728 x 1, standard, mmr, v17-14400" "the caller left before its last page was confirmed" \
-        "end peer-left pages 1" > "$work/wanted"
+        "16 s; ${nothing% 0} 1; $fast" "end peer-left pages 1" > "$work/wanted"
     [ "$status" = 1 ] || fails "a caller that leaves after RNR: status $status"
     is_same "$work/error" "$work/wanted" "what is said of a caller that leaves after RNR"
     rm "$work/stored"/*
@@ -589,7 +602,7 @@ CASES
     try_unwritten
     try_unwritable_folder
     try_modes
-    try_limits
+    try_call_limits
     try_whole
     try_no_lines
     try_no_line_words

@@ -9,13 +9,16 @@ The program is crates/faxtool/out/faxtool, or the one that FAXTOOL names, as ben
 one of three: two stations over a line that loses, spoils, cuts and delays bursts; an answerer that hears a stranger of fuzz_stream.py;
 and a caller that hears random answers. Among them are a busy receiver, bursts that nobody asked for, stops, dropped lines and, seldom,
 lines of no allowed form. The stations of reference_station.py hold it first; then the program is given the same lines. Each line out,
-the lines on standard error, the status and the pages have to be the same. Where neither late answers nor others' bursts are among the
+the lines on standard error, the status and the pages have to be the same; so have the figures of the call, which figures.py counts, in
+words and, of one call in eight, in the record of its end. Where neither late answers nor others' bursts are among the
 lines, the pages stored are also the first of the document. At the first that differs its files stay in the folder that is printed, and
 the status is 1."""
 
 import argparse
+import json
 import os
 import random
+import re
 import shutil
 import subprocess
 import sys
@@ -26,6 +29,7 @@ from pathlib import Path
 
 sys.dont_write_bytecode = True
 sys.path.insert(0, str(Path(__file__).resolve().parent))
+from figures import NAMING, SIGNS, figures_of, record_of, told_of  # noqa: E402
 from fuzz_calls import PROGRAM, Failed, need, random_image  # noqa: E402
 from fuzz_stream import Stranger, bits_of, changed, octets_of  # noqa: E402
 from reference_station import CARRIERS, RATES, arguments, end_of, frame, hdlc, serve  # noqa: E402
@@ -69,7 +73,11 @@ class Spoken:
     def result(self):
         """All that the program has to answer: its lines, those of standard error, the status and the pages."""
         errors, status = self.over or ([self.end.last_line()], 0 if self.end.is_done() else 1)
-        return "".join(line + "\n" for line in self.answers), "".join(line + "\n" for line in errors), status, self.pages
+        told = told_of("\n".join(errors).split("\n"), self.figures())
+        return "".join(line + "\n" for line in self.answers), "".join(line + "\n" for line in told), status, self.pages
+
+    def figures(self):
+        return figures_of(self.lines, self.answers, "--call" in self.words)
 
 
 def random_waits(rand):
@@ -115,6 +123,23 @@ def written_document(rand, folder):
     return name, images
 
 
+def random_name(rand):
+    """An information field of CSI or TSI: mostly 20 signs of a telephone, with spaces on either side but not alone; one may be no sign."""
+    signs = "".join(rand.choice(SIGNS) for _ in range(rand.choice([1, 5, 12, 20]))) + "0"
+    text = (" " * rand.choice([0, 2, 8]) + signs + " " * rand.choice([0, 3, 20]))[: rand.choice([20, 20, 20, 20, 19, 21])]
+    octets = bytearray(text.rjust(20).encode()[::-1])
+    if rand.random() < 0.3:
+        octets[rand.randrange(len(octets))] = rand.randrange(33, 256)
+    return bytes(octets)
+
+
+def random_aside(rand, side):
+    """A frame that the stations leave out: a name, or one of those that have none or say what isn't answered."""
+    if rand.random() < 0.5:
+        return frame(rand.choice(NAMING) & 0xFE, random_name(rand), is_last=rand.random() < 0.5, side=side)
+    return frame(rand.choice([0x12, 0x20, 0x22, 0x2E, 0x4C, 0xC4, 0xCE, 0x10]), rand.randbytes(rand.choice([0, 1, 2])), side=side)
+
+
 def random_burst(rand, station):
     """A burst that nobody asked for: any carrier, mostly the one that the last DCS named, with frames or any octets, or a length of 0."""
     carrier, kind = rand.choice(["v21", *CARRIERS.values()]), rand.choice(["hdlc", "hdlc", "raw"])
@@ -123,7 +148,9 @@ def random_burst(rand, station):
     bits = bits_of(rand.randbytes(rand.randint(0, 40)))[rand.randint(0, 7) :]
     if rand.random() < 0.5:
         names = [0x84, 0x44, 0x8C, 0xEC, 0x6E, 0xFA, 0x80, 0x82, 0xBE, 0xBC, 0x06]
-        bits = hdlc("v21", [frame(rand.choice(names), rand.randbytes(rand.choice([0, 0, 4, 32]))) for _ in range(rand.randint(1, 3))])[2]
+        frames = [frame(rand.choice(names), rand.randbytes(rand.choice([0, 0, 4, 32]))) for _ in range(rand.randint(1, 3))]
+        frames += [random_aside(rand, rand.randint(0, 1))] if rand.random() < 0.3 else []
+        bits = hdlc("v21", frames)[2]
     return burst_of(carrier, kind, bits)
 
 
@@ -245,10 +272,14 @@ def hear_stranger(rand, folder):
     answerer = Spoken(answerer_words(rand, os.path.join(folder, "pages")))
     talk = Talk(rand, [answerer])
     talk.mood = MOODS[0]
+    if rand.random() < 0.2:
+        talk.burst(answerer, burst_of(*hdlc("v21", [random_aside(rand, 1)])))
     for at in (900, 1000):
         talk.clock = max(talk.clock, at)
         talk.quiet(answerer)
     for kind, data in Stranger(rand).stream():
+        if rand.random() < 0.1:
+            talk.burst(answerer, burst_of(*hdlc("v21", [random_aside(rand, 1)])))
         params = answerer.end.station.params
         named = CARRIERS[params.speed] if params and rand.random() < 0.98 else rand.choice(list(RATES))
         talk.clock += rand.choice([0, 20, 500])
@@ -300,12 +331,14 @@ def hear_answers(rand, folder):
         if rand.random() < 0.5:
             wish = wanted[caller.end.station.state]
             frames.append(frame(wish, octets_of("00000000011101100101111100100010") if wish == 0x80 else b""))
+        if rand.random() < 0.15:
+            frames.insert(rand.randint(0, len(frames)), random_aside(rand, 0))
         talk.burst(caller, burst_of(*hdlc("v21", frames)))
     return [caller], None
 
 
-def run(program, spoken, folder):
-    """What the program answers to an end's lines."""
+def run(program, spoken, folder, *more):
+    """What the program answers to an end's lines, with more words."""
     pages = os.path.join(folder, "pages")
     shutil.rmtree(pages, ignore_errors=True)
     os.mkdir(pages)
@@ -313,13 +346,13 @@ def run(program, spoken, folder):
     Path(folder, "lines").write_text(lines, encoding="latin-1", newline="")
     Path(folder, "words").write_text(" ".join(spoken.words) + "\n", encoding="ascii")
     with open(os.path.join(folder, "lines"), "rb") as file:
-        ran = subprocess.run([program, "station", *spoken.words], stdin=file, capture_output=True, timeout=120)
+        ran = subprocess.run([program, "station", *spoken.words, *more], stdin=file, capture_output=True, timeout=120)
     names = sorted(os.listdir(pages), key=lambda name: (len(name), name))
     need(names == [f"page-{number + 1}.pbm" for number in range(len(names))], f"it left {names}")
     stored = [Path(pages, name).read_bytes() for name in names]
-    # what happens during the call has a line with its time, and so has what an answerer lacks; the reference says how it ends
+    # what happens during the call has a line with its time, and what an answerer lacks has one; the reference says how it ends
     lines = ran.stderr.decode("utf-8", "replace").splitlines(True)
-    told = "".join(line for line in lines if not line[:1].isdigit() and not line.startswith("not compatible: "))
+    told = "".join(line for line in lines if not re.match("[0-9]+ (?!s; )|not compatible: ", line))
     return ran.stdout.decode("ascii", "replace"), told, ran.returncode, stored
 
 
@@ -330,6 +363,20 @@ def compare(ran, wanted):
     need(ran[0] == wanted[0], f"it answered {ran[0].count(chr(10))} lines, the reference {wanted[0].count(chr(10))}")
     need(ran[1:3] == wanted[1:3], f"it ended with {ran[1:3]}, the reference with {wanted[1:3]}")
     need(ran[3] == wanted[3], "it stored other pages than the reference")
+
+
+def compare_records(told, spoken):
+    """Raises Failed where the last records of an end that isn't a fault have other figures, or another reason."""
+    *why, last = spoken.result()[1].splitlines()
+    if not last.startswith("end "):
+        return
+    _, name, counted, pages = last.split(" ")
+    state, ended = told.splitlines()[-2:]
+    found = json.loads(state).get("why")
+    # what an answerer lacks isn't known here
+    wanted = found if name == "not-compatible" else why[0].removeprefix("the call is refused: ") if len(why) > 1 else None
+    record = record_of(spoken.figures(), name, counted == "confirmed", int(pages), wanted)
+    need((found, ended) == (wanted, record), f"its last records are {state} and {ended}, and by the reference {record}")
 
 
 def check_pages(ends, images):
@@ -348,7 +395,10 @@ def hold(rand, folder, program):
     for end in ends:
         if program:
             compare(run(program, end, folder), end.result())
-    told = ["fault 31" if end.result()[1].startswith("fault") else end.result()[1].rpartition(" ")[0].rstrip("\n") for end in ends]
+        if program and len(end.lines) % 8 == 0:
+            compare_records(run(program, end, folder, "--json")[1], end)
+    lasts = [end.result()[1].splitlines()[-1] for end in ends]
+    told = ["fault 31" if last.startswith("fault") else last.rpartition(" ")[0] for last in lasts]
     return told, sum(len(end.pages) for end in ends), sum(len(end.lines) for end in ends)
 
 

@@ -361,10 +361,14 @@ class Ending:
     def hear(self, said):
         """Each good frame of a burst, in order. A station that has something to send hears DCN alone."""
         for content in self.ear.contents(said.octets):
+            self.see(content)
             self.heard_from = said.at
             signal = signal_of(content)
             if signal and (self.turn == SILENT or signal[0] == "DCN"):
                 self.heard(signal, said.at)
+
+    def see(self, content):
+        """What is noted of a good frame, by whatever carrier its bits came."""
 
     def heard(self, signal, _at):
         self.give(*signal)
@@ -402,8 +406,8 @@ class Calling(Ending):
 
 
 class Answering(Ending):
-    """`store(page)` writes a page's PBM, and errs with OSError where it can't. The call is stopped at the second DCS by V.21 that isn't
-    allowed, unless it `refuses` none."""
+    """`store(page)` writes a page's PBM, and errs with OSError where it can't. The call is stopped at the second DCS that isn't allowed,
+    unless it `refuses` none."""
 
     def __init__(self, caps, limit, waits, store, refuses=True):
         super().__init__(StationAnswerer(caps, limit), waits)
@@ -422,17 +426,21 @@ class Answering(Ending):
             self.stop()
             self.cut = "refused"
 
+    def see(self, content):
+        """The DCSs that aren't allowed, and gaps in the numbers of pages."""
+        why, signal = refusal_of(content, self.station.caps), read_signal(content)
+        self.reasons += [why] if why else []
+        if signal and signal[0] == "PPS":
+            page = signal[2][0]
+            self.has_gap |= page not in ((0,) if self.last_page is None else (self.last_page, (self.last_page + 1) % 256))
+            self.last_page = page
+
     def note(self, contents):
-        """The DCSs that aren't allowed, gaps in the numbers of pages, and the last PPS, but for one that repeats a confirmed block."""
+        """The last PPS by V.21, but for one that repeats a confirmed block."""
         for content in contents:
-            why, signal = refusal_of(content, self.station.caps), read_signal(content)
-            self.reasons += [why] if why else []
-            if signal and signal[0] == "PPS":
-                page = signal[2][0]
-                self.has_gap |= page not in ((0,) if self.last_page is None else (self.last_page, (self.last_page + 1) % 256))
-                self.last_page = page
-                if self.spoken != "MCF" or not self.last_pps or self.last_pps[1] != signal[2]:
-                    self.last_pps = signal[1:3]
+            signal = read_signal(content)
+            if signal and signal[0] == "PPS" and (self.spoken != "MCF" or not self.last_pps or self.last_pps[1] != signal[2]):
+                self.last_pps = signal[1:3]
 
     def is_whole(self):
         """Whether the last block ended with EOP and was answered by MCF, and no page number was passed over."""
