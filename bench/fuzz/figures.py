@@ -18,6 +18,8 @@ from reference_station import CARRIERS, FIRST_DIS, Ear  # noqa: E402
 COMMANDS = ("DIS", "DCS", "PPS", "RR")
 # CSI, and TSI with either first bit, by which a station names itself with so many signs of a telephone (T.30, 5.3.6.2).
 NAMING, MOST_SIGNS, SIGNS = (0x40, 0x42, 0x43), 20, "0123456789+*# "
+# What goes beside a DIS or a DCS and asks for no answer: what a station is, who it is, and where it wants a page to go.
+BESIDE = ("NSF", "NSC", "CSI", "CIG", "SEP", "PWD", "PSA", "CIA", "ISP", "CSA", "NSS", "TSI", "SID", "SUB", "TSA", "IRA")
 # The ends of which more is known, or that the station's own side brought.
 KNOWN = ("normal", "not-compatible", "stopped", "refused")
 
@@ -59,7 +61,7 @@ class Count:
         if signal == ("OTHER",):
             self.left_out = OTHERS.get(content[2])
             if content[2] in NAMING and len(fields) == MOST_SIGNS:
-                self.peer = name_of(fields) or None
+                self.peer = name_of(fields) or self.peer
         self.count(signal, content)
 
     def said(self, content):
@@ -141,7 +143,7 @@ def record_of(figures, end, calls, pages, why):
 
 def left_out_of(figures, end):
     """Why a call ended so after a frame that isn't answered, if nothing else is known of why; else None."""
-    name = None if end in KNOWN else figures["left_out"]
+    name = None if end in KNOWN or figures["left_out"] in BESIDE else figures["left_out"]
     return f"{name}, which isn't answered" if name else None
 
 

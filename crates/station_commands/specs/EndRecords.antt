@@ -1,5 +1,5 @@
 -- What is told of a station's call at its end.
-use Rattle.std.specs.Prelude.{◌++◌, ℕ, Bool, true, false, List, [], ◌∷◌, Option, Some, None, codes, option_map}
+use Rattle.std.specs.Prelude.{◌++◌, ◌||◌, ℕ, Bool, true, false, List, [], ◌∷◌, Option, Some, None, codes, cond, nat_eq, option_map}
 use Rattle.std.specs.Fmt.{decimal}
 use Rattle.captures.specs.OtherWords.{other_name, signs_text}
 use Rattle.conversations.specs.Lines.{channel_name}
@@ -19,15 +19,30 @@ abbrev pub named : List ℕ → Option (List ℕ)
 named [] = None
 named name = Some name
 
--- the name of the last frame that was heard, if that is no signal of ours and a call ended so after it
+-- frames that go beside a DIS, and tell what a station is or wants: NSF, NSC, CSI, CIG, SEP, PWD, PSA, CIA, ISP and CSA
+abbrev pub is_beside_dis : ℕ → Bool
+is_beside_dis octet = nat_eq octet 32 || (nat_eq octet 33 || (nat_eq octet 64 || (nat_eq octet 65 || (nat_eq octet 161
+    || (nat_eq octet 193 || (nat_eq octet 97 || (nat_eq octet 225 || (nat_eq octet 17 || (nat_eq octet 36 || nat_eq octet 37)))))))))
+
+-- frames that go beside a DCS: NSS, TSI, SID, SUB, TSA and IRA
+abbrev pub is_beside_dcs : ℕ → Bool
+is_beside_dcs octet = nat_eq octet 34 || (nat_eq octet 35 || (nat_eq octet 66 || (nat_eq octet 67 || (nat_eq octet 162
+    || (nat_eq octet 163 || (nat_eq octet 194 || (nat_eq octet 195 || (nat_eq octet 98 || (nat_eq octet 99
+    || (nat_eq octet 226 || nat_eq octet 227))))))))))
+
+-- the name of a frame that asks for an answer, if it has a name: one that goes beside another frame asks for none
+abbrev pub asking_name : ℕ → Option (List ℕ)
+asking_name octet = cond (is_beside_dis octet || is_beside_dcs octet) None (named (other_name octet))
+
+-- the name of the last frame that was heard, if that asks for an answer that we don't give, and a call ended so after it
 abbrev pub left_out : Option CallEnd → Option ℕ → Option (List ℕ)
 left_out None unread = None
 left_out (Some end) None = None
 left_out (Some Stopped) (Some octet) = None
 left_out (Some (By Normal)) (Some octet) = None
 left_out (Some (By NotCompatible)) (Some octet) = None
-left_out (Some (By end)) (Some octet) = named (other_name octet)
-left_out (Some LineLost) (Some octet) = named (other_name octet)
+left_out (Some (By end)) (Some octet) = asking_name octet
+left_out (Some LineLost) (Some octet) = asking_name octet
 
 -- the same in words
 abbrev pub left_out_words : Option CallEnd → Option ℕ → Option (List ℕ)

@@ -1,5 +1,5 @@
 -- What a station's call came to, counted from the contents of V.21 that it heard and said.
-use Rattle.std.specs.Prelude.{◌&&◌, ◌||◌, ◌+◌, ◌-◌, ◌^◌, ℕ, zero, suc, Bool, true, false, List, Option, Some, None, Result, Ok, Err}
+use Rattle.std.specs.Prelude.{◌&&◌, ◌||◌, ◌+◌, ◌-◌, ◌^◌, ◌∷◌, [], ℕ, zero, suc, Bool, true, false, List, Option, Some, None, Result, Ok, Err}
 use Rattle.std.specs.Prelude.{cond, drop, length, min, nat_eq, not, unwrap_or}
 use Rattle.captures.specs.SignalWords.{is_in_map}
 use Rattle.signals.specs.Marks.{same_mark}
@@ -51,10 +51,16 @@ abbrev pub unread_of : PlainSignal → Option ℕ
 unread_of (other octet) = Some octet
 unread_of signal = None
 
+-- all octets are spaces
+abbrev pub is_blank : List ℕ → Bool
+is_blank [] = true
+is_blank (octet ∷ octets) = nat_eq octet 32 && is_blank octets
+
 -- what the other station calls itself once a content with this control field, if it is no signal of ours, and this information field was heard
 abbrev pub name_after : Option (List ℕ) → Option ℕ → List ℕ → Option (List ℕ)
 name_after before None fields = before
-name_after before (Some octet) fields = cond (is_name octet && nat_eq (length fields) 20) (Some fields) before
+name_after before (Some octet) fields =
+    cond ((is_name octet && nat_eq (length fields) 20) && not (is_blank fields)) (Some fields) before
 
 -- a PPS with this mark begins another block than the last PPS
 abbrev pub begins_block : Option Pps → Mark → Bool

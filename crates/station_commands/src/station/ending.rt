@@ -3,7 +3,7 @@
 ghost use Rattle.faults.specs.Faults.{IsOutside};
 ghost use Rattle.captures.specs.OtherWords.{other_name};
 ghost use Rattle.station_commands.specs.CallNotes.{end_why, has_left, left_why, missing_why, reason_words, refusal_words, stopped_why, why_words};
-ghost use Rattle.station_commands.specs.EndRecords.{left_out, left_out_words, named};
+ghost use Rattle.station_commands.specs.EndRecords.{asking_name, is_beside_dcs, is_beside_dis, left_out, left_out_words, named};
 ghost use Rattle.station_commands.specs.Stations.{IsHalt, ended_of};
 ghost use Rattle.std.specs.Prelude.{◌≡◌, IfErr, IfSome, Some, option_map, string_bytes};
 
@@ -147,13 +147,45 @@ fn named(octet: u8) -> Option<&'static str>
     if name.is_empty() { None } else { Some(name) }
 }
 
-/// Returns the name of the last frame that was heard, by its control field, if that is no signal of ours and a call ended so after it.
+/// Returns whether a frame goes beside a DIS, and tells what a station is or wants.
+fn is_beside_dis(octet: u8) -> bool
+    ensures { result ≡ is_beside_dis octet }
+{
+    match octet {
+        0x20 | 0x21 | 0x40 | 0x41 | 0xA1 | 0xC1 | 0x61 | 0xE1 | 0x11 | 0x24 | 0x25 => true,
+        _ => false,
+    }
+}
+
+/// Returns whether a frame goes beside a DCS.
+fn is_beside_dcs(octet: u8) -> bool
+    ensures { result ≡ is_beside_dcs octet }
+{
+    match octet {
+        0x22 | 0x23 | 0x42 | 0x43 | 0xA2 | 0xA3 => true,
+        0xC2 | 0xC3 | 0x62 | 0x63 | 0xE2 | 0xE3 => true,
+        _ => false,
+    }
+}
+
+/// Returns the name of a frame that asks for an answer, by its control field, if it has a name.
+fn asking_name(octet: u8) -> Option<&'static str>
+    ensures { option_map (λ name. name.now) result ≡ asking_name octet }
+{
+    if is_beside_dis(octet) || is_beside_dcs(octet) {
+        return None;
+    }
+    named(octet)
+}
+
+/// Returns the name of the last frame that was heard, by its control field, if that asks for an answer that we don't give, and a call ended
+/// so after it.
 fn left_out(end: Option<CallEnd>, unread: Option<u8>) -> Option<&'static str>
     ensures { option_map (λ name. name.now) result ≡ left_out end unread }
 {
     match (end, unread) {
         (Some(CallEnd::By(End::Normal | End::NotCompatible) | CallEnd::Stopped), _) => None,
-        (Some(CallEnd::By(_) | CallEnd::LineLost), Some(octet)) => named(octet),
+        (Some(CallEnd::By(_) | CallEnd::LineLost), Some(octet)) => asking_name(octet),
         (None, _) | (_, None) => None,
     }
 }

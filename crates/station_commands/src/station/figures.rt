@@ -3,7 +3,7 @@
 ghost use Rattle.captures.specs.SignalWords.{is_in_map};
 ghost use Rattle.signals.specs.Reading.{read_content};
 ghost use Rattle.signals.specs.Signals.{plain};
-ghost use Rattle.station_commands.specs.Figures.{asked_below, asked_of, begins_block, commanding, counted, figures_heard, figures_said, is_command, is_name, more};
+ghost use Rattle.station_commands.specs.Figures.{asked_below, asked_of, begins_block, commanding, counted, figures_heard, figures_said, is_blank, is_command, is_name, more};
 ghost use Rattle.station_commands.specs.Figures.{name_after, no_figures, unread_of, with_confirmed, with_pps, with_request, with_speed};
 ghost use Rattle.std.specs.Prelude.{◌≡◌, ◌≤◌, drop};
 
@@ -105,12 +105,25 @@ fn unread_of(signal: Signal<'_>) -> Option<u8>
     }
 }
 
-/// Returns what the other station calls itself once a content with this information field was heard. A name has 20 signs.
+/// Returns whether all octets are spaces.
+fn is_blank(octets: &[u8]) -> bool
+    ensures { result ≡ is_blank octets.now }
+{
+    for octet in octets {
+        if *octet != b' ' {
+            return false;
+        }
+    }
+    true
+}
+
+/// Returns what the other station calls itself once a content with this information field was heard. A name has 20 signs, and not only
+/// spaces.
 fn name_after(before: Option<[u8; 20]>, octet: Option<u8>, fields: &[u8]) -> Option<[u8; 20]>
     ensures { result ≡ name_after before octet fields.now }
 {
     match octet {
-        Some(octet) if is_name(octet) && fields.len() == 20 => {
+        Some(octet) if is_name(octet) && fields.len() == 20 && !is_blank(fields) => {
             let mut name = [0; 20];
             name.copy_from_slice(fields);
             Some(name)
