@@ -26,6 +26,7 @@ returns-clause-carriers c = record {
   v21 = refl;
   rates = refl;
   pages = refl;
+  told = refl;
   checks = λ speed. refl;
   is_check = λ speed. refl;
   listens = λ speed. refl;
