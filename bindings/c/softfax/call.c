@@ -76,7 +76,7 @@ int call_begin(call *it, uint32_t modems, const modem_kind *kind, modem *modem)
     it->terminal = terminal_new(&it->station, given->calls ? NULL : &pages, kind, modem);
     if (it->terminal == NULL) return fails(g3_status_text(G3_NO_MEMORY));
     it->folder = (pages_folder){.name = given->folder, .is_of_calls = given->most_calls != 0, .most_pages = given->most_pages,
-        .most_octets = given->most_octets, .json = given->json, .square = given->square, .peer = terminal_peer_name(it->terminal)};
+        .most_octets = given->most_octets, .json = given->json, .square = given->square, .peer = terminal_figures(it->terminal)->peer};
     stop_call_begins();
     if (!given->refuses_ctc) terminal_answer_ctc(it->terminal);
     if (given->identity != NULL) terminal_identify(it->terminal, given->identity);
@@ -92,7 +92,7 @@ static void note_confirmed(call *it)
     for (; it->confirmed < state.pages && it->confirmed < (uint64_t)it->count; it->confirmed++) {
         const pages_sent *sent = &it->sent[it->confirmed];
         record_page record = {"confirmed", it->confirmed + 1, sent->file, sent->image, sent->size.width, sent->size.rows,
-            sent->size.fine, 0, terminal_peer_name(it->terminal)};
+            sent->size.fine, 0, terminal_figures(it->terminal)->peer};
         record_page_json(&record);
     }
 }
@@ -141,14 +141,15 @@ int call_end(call *it)
     static const char *const ENDS[] = {
         "no-end", "normal", "no-answer", "not-compatible", "training", "no-reply", "unreadable", "still-busy", "peer-left", "bad-page",
         "page-too-long", "stopped", "line-lost"};
+    static const figures NONE;
     const options *given = it->given;
     g3_state state = G3_INIT(g3_state);
-    record_end record = {"no-call", given->calls ? "confirmed" : "pages", it->folder.kept, "", NULL,
+    record_end record = {"no-call", given->calls ? "confirmed" : "pages", it->folder.kept, &NONE, NULL,
         {it->number, it->caller_number, it->caller_name}, it->folder.own, (uint64_t)it->millis / 1000};
     if (it->terminal != NULL && g3_terminal_state(&it->station, &state) == G3_OK && state.end < sizeof ENDS / sizeof ENDS[0]) {
         record.end = ENDS[state.end];
         if (given->calls) record.pages = state.pages;
-        record.peer = terminal_peer_name(it->terminal);
+        record.figures = terminal_figures(it->terminal);
         if (terminal_why(it->terminal) != NULL) record.end = "refused";
     }
     record.why = why(it, state.end);

@@ -11,17 +11,17 @@
 #include <stdio.h>
 #include <string.h>
 
-enum { ROWS = 48 };
+enum { ROWS = 48, CUTS_DCS = 1, CUTS_PPS = 4 };
 
 static const line_kind LINES[] = {
     {.name = "clean"},
-    {.name = "DCS is cut", .cut = 1, .lasts = 4000},
+    {.name = "DCS is cut", .cut = CUTS_DCS, .lasts = 4000},
     {.name = "the training of the check is cut", .cut = 2, .lasts = 600},
     {.name = "all of the check is cut", .cut = 2, .lasts = 9000},
     {.name = "the check is cut", .cut = 2, .from = 1500, .lasts = 300},
     {.name = "the training of the page is cut", .cut = 3, .lasts = 150},
     {.name = "the page is cut", .cut = 3, .from = 400, .lasts = 100},
-    {.name = "PPS is cut", .cut = 4, .lasts = 4000},
+    {.name = "PPS is cut", .cut = CUTS_PPS, .lasts = 4000},
 };
 enum { LINES_COUNT = sizeof LINES / sizeof LINES[0] };
 
@@ -31,7 +31,18 @@ enum { WAYS_COUNT = sizeof WAYS / sizeof WAYS[0] };
 static const char *folder;
 static int calls, complete; /* on all lines */
 
-/* Runs a call; returns whether nothing is broken, both ends hang up, and they end as is said. NULL: in any way. */
+/* Whether both ends of a whole call have counted the same, on a line that carries all that the answerer says, and a block a page; and the
+ * caller has said DCS or PPS once more where it was cut, and no other command again. */
+static int have_counted(const trial *kind, const figures *caller, const figures *answerer)
+{
+    int is_same = caller->pprs == answerer->pprs && caller->resent == answerer->resent && caller->failed_checks == answerer->failed_checks
+        && caller->first_speed == answerer->first_speed && caller->last_speed == answerer->last_speed;
+    return is_same && caller->blocks == kind->pages && answerer->blocks == kind->pages && strcmp(caller->peer, answerer->peer) == 0
+        && caller->retries == (kind->line.cut == CUTS_DCS || kind->line.cut == CUTS_PPS);
+}
+
+/* Runs a call; returns whether nothing is broken, both ends hang up, they end as is said, and a normal call has its figures. NULL: in any
+ * way. */
 static int try_call(
     const trial *kind, const behind_way *caller_way, const behind_way *answerer_way, const char *caller_why, const char *answerer_why)
 {
@@ -46,7 +57,9 @@ static int try_call(
     int is_right = !trial_is_broken(&came) && strcmp(came.caller, "no end") != 0 && strcmp(came.answerer, "no end") != 0;
     if (caller_why != NULL) is_right = is_right && strcmp(came.caller, caller_why) == 0;
     if (answerer_why != NULL) is_right = is_right && strcmp(came.answerer, answerer_why) == 0;
-    if (caller_why != NULL && strcmp(caller_why, "normal") == 0) is_right = is_right && trial_went_well(kind, &came);
+    if (caller_why != NULL && strcmp(caller_why, "normal") == 0) {
+        is_right = is_right && trial_went_well(kind, &came) && have_counted(kind, &came.counted[1], &came.counted[0]);
+    }
     is_right = is_right && (came.stops > 0) == caller_way->ways.xoff;
     if (!is_right || kind->tells != NULL) {
         fprintf(stderr, "%s: modems %u coding %u pages %u seed %u: caller %s, answerer %s, confirmed %u, equal %u, wrong %u, %u s, "

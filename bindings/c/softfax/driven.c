@@ -14,12 +14,6 @@
 
 enum { ROWS = 200, MOST_OCTETS = 1 << 18, MOST_LINE = 1 << 20, LONGEST = 120000, BEFORE_CALL = 1000 };
 
-static const char *const NAMES[] = {
-    [G3_V21] = "v21", [G3_V27TER_2400] = "v27ter-2400", [G3_V27TER_4800] = "v27ter-4800", [G3_V29_7200] = "v29-7200",
-    [G3_V29_9600] = "v29-9600", [G3_V17_7200] = "v17-7200", [G3_V17_9600] = "v17-9600", [G3_V17_12000] = "v17-12000",
-    [G3_V17_14400] = "v17-14400"};
-enum { NAMES_COUNT = sizeof NAMES / sizeof NAMES[0] };
-
 typedef struct driven {
     int driver;                  /* the socket */
     char line[MOST_LINE];        /* what came from it */
@@ -35,8 +29,8 @@ typedef struct driven {
 
 static uint32_t carrier_of(const char *name)
 {
-    for (uint32_t i = 1; i < NAMES_COUNT; i++) {
-        if (NAMES[i] != NULL && strcmp(NAMES[i], name) == 0) return i;
+    for (uint32_t i = G3_V21; i <= G3_V17_14400; i++) {
+        if (carrier_name(i) != NULL && strcmp(carrier_name(i), name) == 0) return i;
     }
     return 0;
 }
@@ -105,7 +99,7 @@ static void tell_signal(driven *it)
 {
     static char text[2 * MOST_OCTETS + 100];
     int by = it->is_trained ? BY_PAGE : BY_V21;
-    int length = snprintf(text, sizeof text, "rx %s %s %zu ", NAMES[it->is_trained ? it->hears : G3_V21],
+    int length = snprintf(text, sizeof text, "rx %s %s %zu ", carrier_name(it->is_trained ? it->hears : G3_V21),
         it->is_trained ? it->kind : "hdlc", 8 * it->count[by]);
     for (size_t i = 0; i < it->count[by]; i++) length += sprintf(text + length, "%02X", it->heard[by][i]);
     strcpy(text + length, "\n");

@@ -104,7 +104,7 @@ void line_carry(line *it, const int16_t *caller, const int16_t *answerer, int16_
 {
     count_signals(&it->answerer, answerer);
     int begins = count_signals(&it->caller, caller);
-    it->commands += begins && it->answerer.signals >= SIGNALS_OF_ANSWERER;
+    it->commands += begins && it->answerer.signals >= SIGNALS_OF_ANSWERER && it->answerer.silent > 0; /* CNG amid DIS is none */
     int cut = is_cut(it), hit = is_hit(it, &it->caller);
     keep(&it->caller, caller);
     keep(&it->answerer, answerer);

@@ -117,9 +117,9 @@ def rings(told):
     return b"\r\nNO CARRIER\r\n" if told == b"ATA" else OK
 
 
-def says_ctc():
-    """A caller that says CTC once, and then nothing: what a fax says after the fourth PPR."""
-    frames = [b"\r\nCONNECT\r\n\xff\x13\x12\x40\x00\x10\x03" + OK]
+def says_once(content):
+    """A caller that says a frame of this content once, and then nothing."""
+    frames = [b"\r\nCONNECT\r\n" + content + b"\0\0\x10\x03" + OK]
 
     def reply(told):
         if told == b"AT+FRM=?":
@@ -144,6 +144,8 @@ def damages(told):
 
 ANSWER = ["--answer", sys.argv[3]]
 CALL = ["--call", "5551234", sys.argv[2]]
+NO_CALL = ('{"end":"no-call","confirmed":0,"blocks":0,"failed_checks":0,"first_speed":null,"last_speed":null,"peer":null,"pprs":0,'
+           '"resent":0,"retries":0,"seconds":0,"why":"a signal has stopped it"}')
 BUSY = replies(D=b"\r\nBUSY\r\n")
 CALLS = [
     Call("a modem that is silent", "it doesn't answer to ATZ", lambda told: b""),
@@ -164,10 +166,14 @@ CALLS = [
     Call("a modem that falls silent amid a call", "the modem has fallen silent", until(b"ATD", OK, FRAME), within=90),
     Call("a modem that falls silent while nobody calls", "the modem has fallen silent", until(b"=?", OK, OK), words=ANSWER, within=120),
     Call("SIGTERM while it dials", "end no-call confirmed 0", dials, kills_at=b"ATD", must_say=b"ATH0\r"),
+    Call("the record of no call", NO_CALL, dials, words=[*CALL, "--json"], kills_at=b"ATD"),
     Call("SIGTERM while it waits for a ring", "end no-call pages 0", lambda told: OK, words=ANSWER, kills_at=b"=?", must_say=b"ATH0\r"),
     Call("Caller-ID", '{"call":1,"number":"5551234","name":"A \\u0022NAME\\u0022"}', rings,
          words=[*ANSWER, "--calls", "1", "--rings", "2", "--json"], must_say=b"ATA\r", status=0),
-    Call("a frame that isn't answered", "CTC, which isn't answered", says_ctc(), words=[*ANSWER, "--no-ctc"], within=150),
+    Call("CTC, which a fax says after the fourth PPR", "CTC, which isn't answered", says_once(b"\xff\x13\x12\x40\x00"),
+         words=[*ANSWER, "--no-ctc"], within=150),
+    Call("EOR", ',"why":"EOR, which isn\'t answered"}', says_once(b"\xff\x13\xcf\x2f"), words=[*ANSWER, "--json"], within=150),
+    Call("a frame without a name", ',"why":null}', says_once(b"\xff\x13\x77"), words=[*ANSWER, "--json"], within=150),
     Call("SIGUSR1 while it waits for a ring", "", lambda told: OK, words=[*ANSWER, "--calls", "forever"], kills_at=b"=?",
          kills_by=signal.SIGUSR1, must_say=b"ATH0\r", status=0),
     Call("a modem that fails while many calls are awaited", "the modem has fallen silent", until(b"=?", OK, OK),

@@ -141,6 +141,7 @@ static void on_pty_leave(void *user, outcome *out)
     if (it->tty != NULL) tty_end(it->tty);
     out->stops += it->pty.stops;
     if (it->given.calls && it->call.terminal != NULL && g3_terminal_state(&it->call.station, &state) == G3_OK) out->confirmed = state.pages;
+    if (it->call.terminal != NULL) out->counted[it->given.calls] = *terminal_figures(it->call.terminal);
     if (!it->given.calls) judge_files(it, out);
     for (int i = 0; i < it->given.count; i++) unlink(it->pages[i]);
     call_free(&it->call);

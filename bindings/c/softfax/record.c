@@ -1,4 +1,5 @@
 #include "record.h"
+#include "carriers.h"
 #include "told.h"
 #include <stddef.h>
 
@@ -12,6 +13,12 @@ static void put_text(const char *name, const char *text)
         else told_add("%c", is);
     }
     told_add("\"");
+}
+
+static void put_text_or_null(const char *name, const char *text)
+{
+    if (text != NULL) put_text(name, text);
+    else told_add(",\"%s\":null", name);
 }
 
 /* The members that say which call it is. */
@@ -44,7 +51,7 @@ void record_page_json(const record_page *it)
     told_add("{\"%s\":%llu", it->what, (unsigned long long)it->number);
     put_text("file", it->file);
     if (it->image > 0) told_add(",\"image\":%u", it->image);
-    told_add(",\"width\":%u,\"rows\":%u,\"fine\":%s", it->width, it->rows, it->fine ? "true" : "false");
+    told_add(",\"width\":%u,\"height\":%u,\"lines\":\"%s\"", it->width, it->height, it->fine ? "fine" : "standard");
     if (it->square) told_add(",\"square\":true");
     if (it->peer[0] != 0) put_text("peer", it->peer);
     told_add("}");
@@ -53,20 +60,35 @@ void record_page_json(const record_page *it)
 
 void record_end_json(const record_end *it)
 {
+    const figures *are = it->figures;
     told_add("{\"end\":\"%s\",\"%s\":%llu", it->end, it->what, (unsigned long long)it->pages);
-    if (it->peer[0] != 0) put_text("peer", it->peer);
-    if (it->why != NULL) put_text("why", it->why);
+    told_add(",\"blocks\":%u,\"failed_checks\":%u", are->blocks, are->failed_checks);
+    put_text_or_null("first_speed", carrier_name(are->first_speed));
+    put_text_or_null("last_speed", carrier_name(are->last_speed));
+    put_text_or_null("peer", are->peer[0] != 0 ? are->peer : NULL);
+    told_add(",\"pprs\":%u,\"resent\":%u,\"retries\":%u", are->pprs, are->resent, are->retries);
+    told_add(",\"seconds\":%llu", (unsigned long long)it->seconds);
+    put_text_or_null("why", it->why);
     put_call(&it->of, ',');
     if (it->folder[0] != 0) put_text("folder", it->folder);
-    if (it->seconds > 0) told_add(",\"seconds\":%llu", (unsigned long long)it->seconds);
     told_add("}");
     told_end();
+}
+
+static void put_figures(const figures *are)
+{
+    told_add("blocks %u, PPRs %u, frames sent again %u, failed checks %u, retries %u", are->blocks, are->pprs, are->resent,
+        are->failed_checks, are->retries);
+    if (are->first_speed != 0) told_add("; %s to %s", carrier_name(are->first_speed), carrier_name(are->last_speed));
+    if (are->peer[0] != 0) told_add("; peer %s", are->peer);
 }
 
 void record_end_words(const record_end *it)
 {
     if (it->why != NULL) told_add("softfax: %s\n", it->why);
-    told_add("end %s %s %llu", it->end, it->what, (unsigned long long)it->pages);
+    told_add("%llu s; ", (unsigned long long)it->seconds);
+    put_figures(it->figures);
+    told_add("\nend %s %s %llu", it->end, it->what, (unsigned long long)it->pages);
     if (it->folder[0] != 0) told_add(" in %s", it->folder);
     told_end();
 }

@@ -1,7 +1,7 @@
-/* What came of a call, on standard error: as lines of JSON, an object for each page and one for the end, or a line of words for the end. */
+/* What came of a call, on standard error: as lines of JSON, an object for each page and one for the end, or lines of words for the end. */
 #ifndef RECORD_H
 #define RECORD_H
-#include <stdint.h>
+#include "figures.h"
 
 /* A call that begins. */
 typedef struct record_call {
@@ -14,11 +14,11 @@ void record_call_words(const record_call *it);
 
 /* A page that an answerer has stored, or that a caller has had confirmed. */
 typedef struct record_page {
-    const char *what;   /* "stored" or "confirmed" */
+    const char *what;   /* "page": it is stored; or "confirmed" */
     uint64_t number;    /* from 1 */
     const char *file;
     unsigned image;     /* of the file, from 1; 0: its only one */
-    uint32_t width, rows, fine;
+    uint32_t width, height, fine;
     int square;         /* the file has each row twice */
     const char *peer;   /* how the other station has named itself; "": not */
 } record_page;
@@ -28,7 +28,8 @@ typedef struct record_end {
     const char *end;    /* "normal", or why not, in a word: those of STATION.md, "refused" by the terminal itself, "no-call" */
     const char *what;   /* "confirmed" or "pages" */
     uint64_t pages;
-    const char *peer, *why; /* why: in words; NULL: nothing more is known */
+    const figures *figures;
+    const char *why;    /* in words; NULL: nothing more is known */
     record_call of;
     const char *folder; /* of its pages; "": it has none of its own */
     uint64_t seconds;

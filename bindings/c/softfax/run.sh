@@ -58,7 +58,8 @@ if make -s -C "$here" LIB="$LIB" OUT="$OUT" softfax-checked > "$work/said" 2>&1;
     export ASAN_OPTIONS=exitcode=99 UBSAN_OPTIONS=exitcode=99:print_stacktrace=1
 fi
 if [ "$1" != --audio ]; then
-    make -s -C "$here" LIB="$LIB" OUT="$OUT" bits-test class1-test memory-test
+    make -s -C "$here" LIB="$LIB" OUT="$OUT" figures-test bits-test class1-test memory-test
+    "$OUT/figures-test"
     "$OUT/bits-test"
     mkdir "$work/papers"
     "$OUT/class1-test" "$work/papers"
@@ -88,8 +89,9 @@ fi
 for page in 1 2; do { printf 'P4\n1728 200\n'; seq "$page"0000 99999 | head -c 43200; } > "$work/$page.pbm"; done
 joins 0 0 "$softfax" -- "$work/1.pbm" "$work/2.pbm" --wav "$work/call.wav" --id "+49 30 1234"
 for page in 1 2; do cmp "$work/$page.pbm" "$work/got/page-$page.pbm" || fails "page $page is another"; done
-ends=$(cat "$work/caller" "$work/answerer" | tr '\n' ' ')
-[ "$ends" = "end normal confirmed 2 end normal pages 2 " ] || fails "the ends are $ends"
+ends=$(cat "$work/caller" "$work/answerer" | sed 's/^[1-9][0-9]* s; //' | tr '\n' ' ')
+figures="blocks 2, PPRs 0, frames sent again 0, failed checks 0, retries 0; v17-14400 to v17-14400" # a page has 142 frames, and a block 256
+[ "$ends" = "$figures end normal confirmed 2 $figures; peer +49 30 1234 end normal pages 2 " ] || fails "the ends are $ends"
 [ "$(head -c 4 "$work/call.wav")" = RIFF ] || fails "call.wav"
 
 # a page that can't be written: files may have 512 octets here, which is as if the disk were full
@@ -107,10 +109,12 @@ chmod +x "$work/records"
 echo taken > "$work/got/page-3.pbm"
 joins 0 0 "$work/records" -- "$work/1.pbm" --json --id "+49 30 1234"
 has() { grep -qF "$2" "$work/$1" || fails "the $1 recorded: $(cat "$work/$1")"; }
-has answerer '{"stored":1,"file":"'"$work"'/got/page-4.pbm","width":1728,"rows":200,"fine":false,"square":true,"peer":"+49 30 1234"}'
-has answerer '{"end":"normal","pages":1,"peer":"+49 30 1234","seconds":'
-has caller '{"confirmed":1,"file":"'"$work"'/1.pbm","width":1728,"rows":200,"fine":false,"peer":"0 1"}'
-has caller '{"end":"normal","confirmed":1,"peer":"0 1","seconds":'
+has answerer '{"page":1,"file":"'"$work"'/got/page-4.pbm","width":1728,"height":200,"lines":"standard","square":true,"peer":"+49 30 1234"}'
+figures='"blocks":1,"failed_checks":0,"first_speed":"v17-14400","last_speed":"v17-14400"' none='"pprs":0,"resent":0,"retries":0'
+has answerer '{"end":"normal","pages":1,'"$figures"',"peer":"+49 30 1234",'"$none"',"seconds":'
+has answerer ',"why":null}'
+has caller '{"confirmed":1,"file":"'"$work"'/1.pbm","width":1728,"height":200,"lines":"standard","peer":"0 1"}'
+has caller '{"end":"normal","confirmed":1,'"$figures"',"peer":"0 1",'"$none"',"seconds":'
 [ "$(cat "$work/got/page-3.pbm")" = taken ] || fails "page-3.pbm was overwritten"
 [ "$(head -n 2 "$work/got/page-4.pbm" | tail -n 1)" = "1728 400" ] || fails "page-4.pbm isn't square"
 
@@ -126,7 +130,8 @@ chmod +x "$work/limits"
 joins 1 1 "$work/limits" -- "$work/both.pbm" "$work/1.pbm" --json
 for page in 1 2; do cmp "$work/$page.pbm" "$work/got/page-$((4 + page)).pbm" || fails "page $page of two images is another"; done
 has caller '{"confirmed":2,"file":"'"$work"'/both.pbm","image":2,"width":1728'
-has answerer '{"end":"stopped","pages":2,"why":"'"$work"'/got: a page past --most-pages","seconds":'
+has answerer '{"end":"stopped","pages":2,"blocks":2,"failed_checks":0,"first_speed":"v17-14400"'
+has answerer ',"why":"'"$work"'/got: a page past --most-pages"}'
 rm "$work/got/page-5.pbm" "$work/got/page-6.pbm"
 
 # a caller without error correction
@@ -136,7 +141,8 @@ answerer=$! status=0
 timeout 60 "$OUT/softfax-test" "$work" --refused "$work/down" "$work/up" || fails "a caller without error correction ended with status $?"
 wait "$answerer" || status=$?
 [ "$status" = 1 ] || fails "the answerer of a caller without error correction ended with status $status"
-has answerer '{"end":"refused","pages":0,"why":"the caller sends without error correction","seconds":'
+has answerer '{"end":"refused","pages":0,"blocks":0,"failed_checks":0,"first_speed":null,"last_speed":null,"peer":null,'"$none"',"seconds":'
+has answerer ',"why":"the caller sends without error correction"}'
 
 # a build without libspandsp's header has modems alone
 mkdir "$work/deaf"
@@ -286,7 +292,7 @@ status=0
 wait "$answerer" || status=$?
 [ "$status" = 0 ] || { cat "$work/answerer" "$work/answerer.at" >&2; fails "the answerer of two calls ended with status $status"; }
 grep -q "end stopped confirmed 0" "$work/caller" || fails "after two signals the caller said: $(cat "$work/caller")"
-said=$(tr '\n' ' ' < "$work/answerer")
+said=$(grep -v ' s; blocks ' "$work/answerer" | tr '\n' ' ')
 case $said in
 "softfax: call 1 end normal pages 1 in $work/calls/"*"-1 softfax: call 2 end peer-left pages 0 ") ;;
 *) fails "the answerer of two calls said: $said" ;;

@@ -1,7 +1,9 @@
 /* service-test FOLDER [CALLS]: softfax answers so many calls in one process, 100 if it isn't said, on a tty whose modem says CONNECT twice
- * before a frame. Each tenth caller is killed amid its page. The modem dies twice, amid a call and while it waits, and comes back as another
- * tty under the same name. All goes by a clock of the test's own. Status 1: a call that nothing was done to has failed, one has no record
- * or no folder of its own, a page is stored that isn't the document's, or a confirmed one is missing. FOLDER is empty at first. */
+ * before a frame. The line is clean, or cuts a carrier of the caller. Each tenth caller is killed amid its page. The modem dies twice, amid
+ * a call and while it waits, and comes back as another tty under the same name. All goes by a clock of the test's own. Status 1: a call
+ * that nothing was done to has failed, or its record has other figures than its line makes, one has no record or no folder of its own, a
+ * page is stored that isn't the document's, or a confirmed one is missing. FOLDER is empty at first. */
+#include "carriers.h"
 #include "files.h"
 #include "on_pty.h"
 #include "pty.h"
@@ -15,6 +17,20 @@
 #include <unistd.h>
 
 enum { ROWS = 48, FIRST_RING = 200, RINGS = 6000, LONGEST_CALL = 400000, AWAY = 3000, EACH_KILLED = 10, MOST_NAME = 300 };
+
+enum { CUTS_PAGE = 3, LATER = 800 /* milliseconds: V.17 alone trains in the short way */ };
+
+/* The lines of calls, in turn, and what the answerer of a page of six frames counts, as worked out by hand. Where DCS is lost, T2 ends, and
+ * DIS is said again. What is cut of the page is in its first frame, which lasts 145 ms at least, after the training and 200 ms of flags. A
+ * PPS that is lost the caller alone says again. */
+static const struct { line_kind line; int failed_checks, pprs, resent, retries; } LINES[] = {
+    {.line = {.name = "clean"}},
+    {.line = {.name = "DCS is cut", .cut = 1, .lasts = 4000}, .retries = 1},
+    {.line = {.name = "the check is cut", .cut = 2, .from = 1500, .lasts = 300}, .failed_checks = 1},
+    {.line = {.name = "the page is cut", .cut = CUTS_PAGE, .from = 400, .lasts = 100}, .pprs = 1, .resent = 1},
+    {.line = {.name = "PPS is cut", .cut = 4, .lasts = 4000}},
+};
+enum { LINES_COUNT = sizeof LINES / sizeof LINES[0] };
 
 typedef struct machine {
     int64_t now, back;          /* back: when a modem that has died is there again; 0: it is there */
@@ -108,6 +124,23 @@ typedef struct harm {
     int kills_caller, kills_modem, after; /* after: the modem dies when the call is over */
 } harm;
 
+static harm harm_of(int number, int calls)
+{
+    return (harm){number % EACH_KILLED == 0, number == calls / 3, number == calls * 2 / 3};
+}
+
+static uint32_t modems_of(int number)
+{
+    return 1 + (uint32_t)number % 3;
+}
+
+static line_kind line_of(int number)
+{
+    line_kind it = LINES[number % LINES_COUNT].line;
+    if (it.cut == CUTS_PAGE && modems_of(number) != G3_V17) it.from += LATER;
+    return it;
+}
+
 /* Runs a call; returns whether it went as it should: with no harm done, all of it. */
 static int run_call(machine *it, const trial *kind, const char *folder, harm harm)
 {
@@ -139,7 +172,7 @@ static int run_call(machine *it, const trial *kind, const char *folder, harm har
 }
 
 /* What the records say of all calls. */
-typedef struct told_of { int normal, ends, stored, wrong, folders; } told_of;
+typedef struct told_of { int normal, ends, stored, wrong, folders, figured; } told_of;
 
 /* Whether a file has the paper. */
 static int is_paper(const char *name, const paper *paper)
@@ -154,13 +187,31 @@ static int is_paper(const char *name, const paper *paper)
     return is;
 }
 
+/* Whether the record of a normal end has the figures of its call: after a check that fails the next slower speed is taken. */
+static int has_figures(const char *line, int number)
+{
+    static const uint32_t FIRST[] = {[G3_V27TER] = G3_V27TER_4800, [G3_V29] = G3_V29_9600, [G3_V17] = G3_V17_14400};
+    static const uint32_t SLOWER[] = {[G3_V27TER] = G3_V27TER_2400, [G3_V29] = G3_V29_7200, [G3_V17] = G3_V17_12000};
+    int of = number % LINES_COUNT, modems = (int)modems_of(number);
+    uint32_t last = LINES[of].failed_checks > 0 ? SLOWER[modems] : FIRST[modems];
+    char wanted[400];
+    snprintf(wanted, sizeof wanted, "{\"end\":\"normal\",\"pages\":1,\"blocks\":1,\"failed_checks\":%d,\"first_speed\":\"%s\","
+        "\"last_speed\":\"%s\",\"peer\":\"+49 30 1234\",\"pprs\":%d,\"resent\":%d,\"retries\":%d,\"seconds\":", LINES[of].failed_checks,
+        carrier_name(FIRST[modems]), carrier_name(last), LINES[of].pprs, LINES[of].resent, LINES[of].retries);
+    if (strstr(line, wanted) == line) return 1;
+    printf("call %d, %s: %s\n", number, LINES[of].line.name, line);
+    return 0;
+}
+
 /* Takes a record into account. */
 static void read_record(told_of *to, const char *line, const paper *paper, char *last)
 {
+    const char *call = strstr(line, "\"call\":");
     char name[MOST_NAME], *end;
     const char *file = strstr(line, "\"file\":\"");
     to->ends += strstr(line, "{\"end\":") == line;
     to->normal += strstr(line, "{\"end\":\"normal\"") == line;
+    to->figured += strstr(line, "{\"end\":\"normal\"") == line && call != NULL && has_figures(line, atoi(call + 7));
     if (file == NULL) return;
     snprintf(name, sizeof name, "%s", file + 8);
     if ((end = strchr(name, '"')) != NULL) *end = 0;
@@ -192,8 +243,8 @@ static int run_all(machine *it, int calls, const paper *papers, const char *fold
 {
     int well = 0;
     for (int i = 1; i <= calls && it->goes_on; i++) {
-        harm harm = {i % EACH_KILLED == 0, i == calls / 3, i == calls * 2 / 3};
-        trial kind = {.line = {.name = "clean"}, .modems = 1 + (uint32_t)i % 3, .coding = G3_MMR, .pages = 1, .limit = 2,
+        harm harm = harm_of(i, calls);
+        trial kind = {.line = line_of(i), .modems = modems_of(i), .coding = G3_MMR, .pages = 1, .limit = 2,
             .seed = (uint64_t)i, .papers = papers, .identity = "+49 30 1234"};
         *harmed += harm.kills_caller || harm.kills_modem;
         well += run_call(it, &kind, folder, harm);
@@ -236,10 +287,10 @@ int main(int argc, char **argv)
     call_free(&it.call);
     die(&it);
     told_of all = read_records(records, papers);
-    printf("softfax: one process answers %d calls, of which %d are killed or lose their modem: %d end normally, %d pages are stored, in %d "
-        "folders\n", all.ends, harmed, all.normal, all.stored, all.folders);
-    is_well = is_well && all.ends == calls && all.normal == calls - harmed && all.wrong == 0 && all.stored >= all.normal
-        && all.folders == all.stored && !it.service.has_failed;
+    printf("softfax: one process answers %d calls, of which %d are killed or lose their modem: %d end normally, %d with the figures that "
+        "their line makes, %d pages are stored, in %d folders\n", all.ends, harmed, all.normal, all.figured, all.stored, all.folders);
+    is_well = is_well && all.ends == calls && all.normal == calls - harmed && all.figured == all.normal && all.wrong == 0
+        && all.stored >= all.normal && all.folders == all.stored && !it.service.has_failed;
     paper_free(&papers[0]);
     return !is_well;
 }

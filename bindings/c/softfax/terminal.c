@@ -1,6 +1,6 @@
 #include "terminal.h"
 #include "carriers.h"
-#include "identity.h"
+#include "figures.h"
 #include "names.h"
 #include <stdio.h>
 #include <stdlib.h>
@@ -39,7 +39,7 @@ struct terminal {
     int64_t heard;                  /* when the last good frame or training check came */
     int64_t listened;               /* since when a training check is awaited */
     int64_t not_before;             /* nothing is said before this, as a check may be on the line that isn't listened for */
-    uint32_t said;                  /* the kind of the last signal that was said */
+    uint32_t said;                  /* the kind of the last signal of the last carrier, if that was V.21; 0: it had none */
     int64_t asked;                  /* the last time at which T5 didn't run */
     int64_t began;                  /* when the last signal began */
     int rings;                      /* CNG goes out while nothing is heard */
@@ -57,7 +57,7 @@ struct terminal {
     int without_correction;         /* how many DCS have come from a caller that has no error correction */
     const char *why;                /* why the terminal has ended the call; NULL: it hasn't */
     const char *identity;           /* how this station is named in what it sends; NULL: it isn't */
-    char peer[IDENTITY_MOST + 1];   /* how the other one has named itself */
+    figures figures;
     int hurries;                    /* the call is to end soon, whatever is on the line */
     int trains_anew;                /* the next page carrier comes with the long training, as CTC has it */
 };
@@ -141,9 +141,9 @@ void terminal_identify(terminal *it, const char *text)
     it->identity = text;
 }
 
-const char *terminal_peer_name(const terminal *it)
+const figures *terminal_figures(const terminal *it)
 {
-    return it->peer;
+    return &it->figures;
 }
 
 const char *terminal_left_out(const terminal *it)
@@ -228,11 +228,11 @@ static void note_used_number(terminal *it)
     tell(it, it->why, NULL, 0);
 }
 
-/* The name of a frame that wants an answer, and that neither the stations know nor this terminal answers; NULL: it is none. */
+/* The name of a frame that wants an answer, and that neither the stations know nor this terminal answers; NULL: it is none, or has none. */
 static const char *left_out(const terminal *it, const uint8_t *content, uint64_t length)
 {
     static const char *const WANT_NONE[] = {"CSI", "TSI", "NSF", "NSS", "CIG", "NSC", "PWD", "SEP", "SUB", "SID", "PSA", "CIA", "ISP", "CSA",
-        "TSA", "IRA"};
+        "TSA", "IRA", "frame"};
     g3_signal signal = G3_INIT(g3_signal);
     const char *name = frame_name(content[2]);
     if (it->ctr || (g3_signal_read(content, length, &signal) == G3_OK && signal.kind != G3_OTHER)) return NULL;
@@ -250,10 +250,13 @@ static void hear_content(terminal *it, int receiver, const uint8_t *content, uin
     else tell(it, "hears what is no frame of a fax, octets", NULL, length);
     it->heard = it->now;
     it->reads = 1;
+    if (receiver == BY_V21) {
+        figures_hear(&it->figures, content, length);
+        it->left_out = NULL;
+    }
     if (is_ours && receiver == BY_V21) {
         if (it->answers_ctc) note_ctc(it, content, length);
         it->left_out = left_out(it, content, length);
-        identity_read(content, length, it->peer);
         note_correction(it, content, length);
     }
     is_done(it, g3_terminal_hear_frame(it->station, content, length)); /* as a line of its own: two receivers never mix */
@@ -407,23 +410,29 @@ static int hand_over(terminal *it)
     return status == G3_NOTHING || is_done(it, status);
 }
 
-/* Tells of each frame of the burst; returns the kind of its last signal by V.21, 0 if it has none. */
-static uint32_t look_at_burst(const terminal *it, int tells)
+/* Gives each content of the burst to `take`. */
+static void read_burst(terminal *it, void (*take)(terminal *it, const uint8_t *content, uint64_t length))
 {
     g3_deframer frames = G3_EMPTY;
     uint8_t content[MOST_CONTENT];
-    uint64_t count = 0;
-    uint32_t last = 0;
-    g3_signal signal = G3_INIT(g3_signal);
-    if (it->burst.check || (it->burst.carrier != G3_V21 && !(tells && it->name != NULL))) return 0;
+    uint64_t length = 0;
     if (g3_deframer_new(&frames) == G3_OK && g3_deframer_feed(&frames, it->octets, (it->burst.bits + 7) / 8) == G3_OK) {
-        while (g3_deframer_next(&frames, content, sizeof content, &count) == G3_OK) {
-            if (tells) tell(it, "says", frame_name(content[2]), 0);
-            if (it->burst.carrier == G3_V21 && g3_signal_read(content, count, &signal) == G3_OK) last = signal.kind;
-        }
+        while (g3_deframer_next(&frames, content, sizeof content, &length) == G3_OK) take(it, content, length);
     }
     g3_deframer_free(&frames);
-    return last;
+}
+
+static void note_said(terminal *it, const uint8_t *content, uint64_t length)
+{
+    g3_signal signal = G3_INIT(g3_signal);
+    if (g3_signal_read(content, length, &signal) == G3_OK) it->said = signal.kind;
+    figures_say(&it->figures, content, length);
+}
+
+static void tell_said(terminal *it, const uint8_t *content, uint64_t length)
+{
+    (void)length;
+    tell(it, "says", frame_name(content[2]), 0);
 }
 
 /* Puts CSI before a DIS, or TSI before a DCS. If memory is refused the burst goes out without. */
@@ -443,11 +452,12 @@ static void put_identity(terminal *it)
 /* Begins the carrier of the burst. */
 static void say_burst(terminal *it)
 {
-    it->said = look_at_burst(it, 0);
+    it->said = 0;
+    if (it->burst.carrier == G3_V21) read_burst(it, note_said);
     put_identity(it);
     it->kind->begin_carrier(it->modem, it->burst.carrier, it->burst.carrier != G3_V21 && !it->burst.check, it->octets, it->burst.bits);
     if (it->burst.check) tell(it, "says a training check", NULL, 0);
-    else if (it->name != NULL) look_at_burst(it, 1);
+    else if (it->name != NULL) read_burst(it, tell_said);
     it->phase = IN_CARRIER;
 }
 

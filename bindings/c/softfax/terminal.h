@@ -2,6 +2,7 @@
  * when, by a clock of samples, is decided here. It knows no signal processing. */
 #ifndef TERMINAL_H
 #define TERMINAL_H
+#include "figures.h"
 #include "g3fax.h"
 #include "modem.h"
 
@@ -29,11 +30,11 @@ void terminal_lose(terminal *it);
 void terminal_answer_ctc(terminal *it);
 /* Names this station in what it sends, as `text` says, which is kept by address and fits identity_is. */
 void terminal_identify(terminal *it, const char *text);
-/* The name that the other station has given itself in this call; "" if it has given none. */
-const char *terminal_peer_name(const terminal *it);
+/* The figures of the call so far. */
+const figures *terminal_figures(const terminal *it);
 /* Why the terminal itself has ended the call; NULL if it hasn't. */
 const char *terminal_why(const terminal *it);
-/* The name of the frame that was heard last, if it wants an answer that this station doesn't give; NULL: it isn't one. */
+/* The name of the frame that was heard last, if it wants an answer that this station doesn't give; NULL: it isn't one, or has no name. */
 const char *terminal_left_out(const terminal *it);
 /* Tells what happens to `line`, each with the time in milliseconds and this name. */
 void terminal_tell(terminal *it, const char *name, void (*line)(const char *text));

@@ -106,6 +106,7 @@ static void ours_leave(void *user, outcome *out)
     if (it->calls && g3_terminal_state(&it->station, &state) == G3_OK) out->confirmed = state.pages;
     out->equal += it->counted.equal;
     out->wrong += it->counted.wrong;
+    out->counted[it->calls] = *terminal_figures(it->terminal);
     terminal_free(it->terminal);
     modem_of_sound.free(it->modem);
     g3_terminal_free(&it->station);
