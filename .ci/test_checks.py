@@ -368,6 +368,10 @@ def words():
     for path, old, new in ((told.NAMES, '(18, codes "CTC")', '(18, codes "CTR")'), (told.C_NAMES, '{0xce, "EOR"}', '{0xcf, "EOR"}'),
                            (told.NAMES, ' ∷ (75, codes "TK")', "")):
         yield refuses(f"a frame that {path} names otherwise", told.name_faults, texts, changed_in(path, old=old, new=new), told.C_NAMES)
+    assert not list(told.end_faults(texts))
+    for path, old, new in ((told.END_SPECS, 'put (codes "resent")', 'put (codes "sent_again")'), (told.END_C, 'retries\\\":', 'repeats\\\":'),
+                           (told.END_C, "frames sent again", "frames again"), (told.ASKING_C, '"NSC", ', "")):
+        yield refuses(f"what {path} alone tells of a call's end", told.end_faults, texts, changed_in(path, old=old, new=new), told.END_SPECS)
     for name, path, old, new, said in TOUCHED:
         yield refuses(name, touched, texts, changed_in(path, old=old, new=new), said)
 

@@ -7,7 +7,8 @@ The words of a fault: the texts of the code and of the definitions are the same;
 of `#[error(..)]` and of g3_status_text are; the help says what the first sentence of docs/FAULTS.md says, and what g3_status_text says; and
 each fault line with words that a case of .ci/end_to_end or a document quotes has words that the program has. What differs today is listed
 below.
-The names of frames by their control fields: softfax has those of the program, and names none of these otherwise.
+The names of frames by their control fields: softfax has those of the program, and names none of these otherwise. The fields of the record
+of a call's end, the words of its figures, and the frames that ask for no answer: softfax has those of the program.
 The table "What to touch" of CONTRIBUTING.md: the files that it names are there, and each signal, fault, code, command and option stands in
 each of those that its row names for it.
 Prints what differs and ends with status 1, or prints one line of counts. .ci/test_checks.py sees each check fail. It needs Python's standard
@@ -26,6 +27,9 @@ EXPLAIN, EXPLAIN_SPECS = "crates/faults/src/explain.rt", "crates/faults/specs/Ex
 HELP, PAGE, TABLE = "crates/faxtool/src/args/fault_table.rt", "docs/man/faxtool.1", "docs/FAULTS.md"
 C_TEXTS, C_HEADER = "bindings/g3fax.c", "bindings/g3fax.h"
 NAMES, C_NAMES = "crates/captures/specs/OtherWords.antt", "bindings/c/softfax/names.h"
+END_SPECS, END_C, ASKING_C = "crates/station_commands/specs/EndRecords.antt", "bindings/c/softfax/record.c", "bindings/c/softfax/terminal.c"
+# What softfax alone has: the folder of a call's pages.
+C_FIELDS = {"folder"}
 LITERAL = re.compile(r'"((?:\\.|[^"\\])*)"')
 LEAST_WORDS = 4
 # The faults of which the help says something else than docs/FAULTS.md, those of which the library for C does than the crates, and than the
@@ -189,6 +193,40 @@ def name_faults(texts):
     yield from (f"{C_NAMES} names {name}, and {NAMES} doesn't" for name in sorted({*here.values()} - {*names.values()} - own))
 
 
+def end_fields(texts):
+    """The fields of the record of a call's end, as the program has them and as softfax has."""
+    there = set(re.findall(r'put \(codes "(\w+)"\)', texts[END_SPECS]))
+    body = texts[END_C].partition("void record_end_json")[2].partition("\n}\n")[0]
+    here = set(re.findall(r'\\"(\w+)\\":', body)) | set(re.findall(r'put_text(?:_or_null)?\("(\w+)"', body))
+    return there, here - C_FIELDS
+
+
+def figure_words(texts):
+    """The words between the figures of a call, as the program has them and as softfax has."""
+    there = re.findall(r'codes "([^"]*)"', "".join(re.findall(r"^(?:counts|failures)_part .*?\n\n", texts[END_SPECS], re.M | re.S)))
+    body = texts[END_C].partition("void record_end_words")[2] + texts[END_C].partition("void put_figures")[2].partition(";\n")[0]
+    return "".join(there), re.sub(r"%\w+", "", "".join(re.findall(r'told_add\("([^";%]*%\w+[^"%]*;? |blocks [^"]*)"', body)))
+
+
+def asking_faults(texts):
+    """The frames that ask for no answer, by names of the definitions' comments, that softfax hasn't, and its others."""
+    there = {name for words in re.findall(r"^-- frames that go beside [^:]*: (.*)$", texts[END_SPECS], re.M) for name in re.findall(r"\b[A-Z]{3}\b", words)}
+    here = set(literals(texts[ASKING_C].partition("WANT_NONE[] =")[2].partition("};")[0])) - {"frame"}
+    yield from (f"{ASKING_C} or {END_SPECS} alone says that {name} asks for no answer" for name in sorted(there ^ here))
+
+
+def end_faults(texts):
+    """What softfax tells otherwise of a call's end than the program does."""
+    there, here = end_fields(texts)
+    if len(there) < 10:
+        yield f"{END_SPECS} has {len(there)} fields"
+    yield from (f"{END_C} or {END_SPECS} alone has the field {name}" for name in sorted(there ^ here))
+    words, own = figure_words(texts)
+    if words != own:
+        yield f"{END_C} tells the figures as '{own}', and {END_SPECS} as '{words}'"
+    yield from asking_faults(texts)
+
+
 def quote_faults(texts):
     """The quoted fault lines whose words aren't those of the program."""
     kinds, forms = kind_words(texts), program_texts(texts)
@@ -338,7 +376,7 @@ def read():
 
 def main():
     texts, here = read()
-    faults = [*wording_faults(texts), *name_faults(texts), *quote_faults(texts), *touch_faults(texts, here)]
+    faults = [*wording_faults(texts), *name_faults(texts), *end_faults(texts), *quote_faults(texts), *touch_faults(texts, here)]
     for fault in faults:
         print(f"told: {fault}")
     if not faults:
