@@ -14,7 +14,8 @@ use signals::PageWidth;
 #[unsafe(no_mangle)]
 pub extern "C" fn g3_core_code_wrong(code: &G3Code) -> u32
     ensures first { result ≡ code_wrong code.now }
-    ensures none { (result ≡ 0) ↔ (IsSome (coding_of code.now.coding) × IsSome (order_of code.now.order)) }
+    ensures none { (result ≡ 0)
+        ↔ (IsSome (coding_of code.now.coding) × IsSome (order_of code.now.order)) }
 {
     if coding_of(code.coding).is_none() {
         return 1;

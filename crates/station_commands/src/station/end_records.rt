@@ -129,8 +129,8 @@ fn put_end(alloc: Global, e: &Ended<'_>, members: &mut Map<String, Value>) -> Re
 
 /// Returns how a call ended and what it came to as JSON. Errors: `NoMemory` (9), `Io` (8).
 fn ended_record(alloc: Global, e: &Ended<'_>) -> Result<Value, ToolFault>
-    ensures record { IfOk result (λ value. view value
-        ≡ ended_record e.now.calls e.now.end.now e.now.pages e.now.seconds e.now.figures e.now.why.now) }
+    ensures record { IfOk result (λ value. view value ≡ ended_record e.now.calls e.now.end.now
+        e.now.pages e.now.seconds e.now.figures e.now.why.now) }
     ensures fault { IfErr result IsOutside }
 {
     let peer = name_record(alloc, e.figures.name)?;
