@@ -7,6 +7,8 @@
 set -e
 top=$(cd "$(dirname "$0")/.." && pwd)
 cd "$top"
+# what `make` hands on for `make install` is for that alone
+unset PREFIX DESTDIR LIBDIR MAKEFLAGS MAKEOVERRIDES MAKELEVEL
 KIT=${KIT:-/opt/rattle}
 PYTHONDONTWRITEBYTECODE=1 FAXTOOL=build/faxtool G3FAX=build
 export KIT PYTHONDONTWRITEBYTECODE FAXTOOL G3FAX
