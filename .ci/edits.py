@@ -26,7 +26,7 @@ import plants
 
 TOP = Path(__file__).resolve().parent.parent
 PARTS = ["src", "specs", "proofs"]
-RATTLE = shutil.which("rattle", path=os.environ.get("PATH", "") + ":/opt/rattle/bin")
+RATTLE = shutil.which("rattle", path=f"{os.environ.get('PATH', '')}:{os.environ.get('KIT', '/opt/rattle')}/bin")
 
 
 def pairs_of(edit):

@@ -10,7 +10,7 @@
 # Python 3 writes the large pages and frames.
 set -e
 top=$(cd "$(dirname "$0")/.." && pwd)
-PATH="$PATH:/opt/rattle/bin"
+PATH="$PATH:${KIT:-/opt/rattle}/bin"
 data=$top/.ci/data
 work=$(mktemp -d)
 trap 'rm -rf "$work"' EXIT

@@ -7,6 +7,8 @@
 set -e
 top=$(cd "$(dirname "$0")/.." && pwd)
 cd "$top"
+# what `make` hands on for `make install` is for that alone
+unset PREFIX DESTDIR LIBDIR MAKEFLAGS MAKEOVERRIDES MAKELEVEL
 KIT=${KIT:-/opt/rattle}
 PYTHONDONTWRITEBYTECODE=1 FAXTOOL=build/faxtool G3FAX=build
 export KIT PYTHONDONTWRITEBYTECODE FAXTOOL G3FAX
@@ -20,6 +22,4 @@ for crate in crates/*_tests; do
     (cd "$crate" && "$KIT/bin/rt" try --test --seconds 3600 > "$work/said" 2>&1) || { cat "$work/said" >&2; echo "test: FAILED: $crate" >&2; exit 1; }
     echo "test: $crate"
 done
-mkdir "$work/library"
-cp build/*g3fax* "$work/library/"
-.ci/beside.py ".ci/end_to_end.sh build/faxtool" ".ci/readme_programs.sh build" .ci/growths.py ".ci/softfax.sh $work/library" .ci/packages.sh
+.ci/beside.py ".ci/end_to_end.sh build/faxtool" .ci/bindings.sh .ci/growths.py .ci/packages.sh

@@ -9,6 +9,7 @@
 set -e
 kit=${KIT:-/opt/rattle}
 [ $# = 1 ] || [ "$# $2" = "2 --unproved" ] || { echo "usage: build.sh FOLDER [--unproved]" >&2; exit 2; }
+[ -x "$kit/bin/rt" ] || { echo "build.sh: there is no Rattle kit in $kit: unpack it there, or say by KIT where it is" >&2; exit 1; }
 top=$(cd "$(dirname "$0")/.." && pwd)
 mkdir -p "$1"
 to=$(cd "$1" && pwd)

@@ -37,9 +37,10 @@ commit() {
     fi
 }
 
-# is_proved PROGRAM LIBRARY: neither the program nor the library in this folder says that it was built without proof.
+# is_proved PROGRAM LIBRARY: neither the program nor the library in this folder says that it was built without proof. A program that says
+# nothing isn't taken for a proved one; of one that isn't there install.sh tells.
 is_proved() {
-    ! "$1" version | grep -q "built without proof" && ! grep -q "built without proof" "$2/g3fax.pc"
+    { [ ! -f "$1" ] || "$1" version | grep -v "built without proof" | grep -q .; } && ! grep -qs "built without proof" "$2/g3fax.pc"
 }
 
 # marks FILE PROGRAM LIBRARY: docs/PROOF.md as it is installed says in its second paragraph if what is installed was built without proof.

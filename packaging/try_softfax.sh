@@ -2,17 +2,24 @@
 # Tries an installed softfax: a modem on a pty that is busy, by the name of a chip of its inits.txt; and, if it has sound, a call of two of
 # them over two pipes:
 #
-#     packaging/try_softfax.sh PROGRAM
+#     packaging/try_softfax.sh PROGRAM [BENCH]
 #
-# Ends with status 1 if anything is another way.
+# BENCH is a program bench of bindings/c/softfax, which has modems on two ptys: then one process answers two calls on a pty, as the unit has
+# it. Ends with status 1 if anything is another way.
 set -e
 top=$(cd "$(dirname "$0")/.." && pwd)
 . "$top/packaging/common.sh"
-[ $# = 1 ] || { echo "usage: try_softfax.sh PROGRAM" >&2; exit 2; }
+[ $# = 1 ] || [ $# = 2 ] || { echo "usage: try_softfax.sh PROGRAM [BENCH]" >&2; exit 2; }
 needs python3 mkfifo
-program=$1
+program=$1 bench=$2
 work=$(mktemp -d)
-trap 'rm -rf "$work"' EXIT
+exchange=
+# shellcheck disable=SC2317
+leaves() {
+    [ -z "$exchange" ] || kill "$exchange" 2> /dev/null || true
+    rm -rf "$work"
+}
+trap leaves EXIT
 { printf 'P4\n1728 40\n'; seq 10000 99999 | head -c 8640; } > "$work/page.pbm"
 python3 - "$program" "$work/page.pbm" << 'MODEM' || ends "the modem that is busy"
 import os
@@ -42,4 +49,24 @@ if ldd "$program" | grep -q libspandsp; then
     timeout 120 "$program" --call "$work/page.pbm" --rx "$work/from" --tx "$work/to" || ends "a call over sound"
     wait $! || { cat "$work/said" >&2; ends "the answerer of a call over sound"; }
     cmp "$work/page.pbm" "$work/got/page-1.pbm" || ends "the page of a call over sound"
+fi
+# what the unit runs, over modems of libspandsp: each call has a folder with its page, and SIGUSR1 ends the wait for another one
+if [ -n "$bench" ]; then
+    # a tty is locked by its name, so that no other run of this has the same one
+    caller=$work/caller$$ called=$work/called$$
+    mkdir "$work/calls"
+    "$bench" --ptys "$caller" "$called" &
+    exchange=$!
+    "$program" --tty "$called" --wait-tty --answer "$work/calls" --calls forever --json 2> "$work/said" &
+    answerer=$!
+    for call in 1 2; do
+        timeout 300 "$program" --tty "$caller" --wait-tty --call 5551234 "$work/page.pbm" 2> "$work/error" \
+            || { cat "$work/error" "$work/said" >&2; kill "$answerer"; ends "call $call on two ptys"; }
+    done
+    kill -USR1 "$answerer"
+    wait "$answerer" || { cat "$work/said" >&2; ends "the answerer of two calls"; }
+    pages=$(find "$work/calls" -name page-1.pbm)
+    [ "$(echo "$pages" | wc -l)" = 2 ] || ends "two calls have stored $pages"
+    for page in $pages; do cmp "$work/page.pbm" "$page" || ends "the page of a call on two ptys"; done
+    grep -q '^{"end":"normal","pages":1,.*"call":2,' "$work/said" || { cat "$work/said" >&2; ends "the records of two calls"; }
 fi

@@ -370,7 +370,7 @@ class Pages(unittest.TestCase):
 
     def test_version(self):
         version = (HERE.parent.parent / "VERSION").read_text().strip()
-        self.assertEqual((g3fax.version(), g3fax.__version__), (version, version))
+        self.assertEqual((g3fax.version().replace(", built without proof", ""), g3fax.__version__), (version, version))
 
     def test_import(self):
         program, folder = "try: import g3fax\nexcept ImportError as error: print(error)", tempfile.TemporaryDirectory()
