@@ -11,5 +11,6 @@ trap 'rm -rf "$installed"' EXIT
 cp build/libg3fax.* build/g3fax.* "$installed"
 .ci/installed.sh "$installed"
 .ci/wheel.sh "$installed"
+FAXTOOL=build/faxtool G3FAX=build .ci/packages.sh
 .ci/growths.py
 .ci/end_to_end.sh build/faxtool
