@@ -1,5 +1,5 @@
 -- What is told of a station's call at its end.
-use Rattle.std.specs.Prelude.{◌++◌, ◌||◌, ℕ, Bool, true, false, List, [], ◌∷◌, Option, Some, None, codes, cond, nat_eq, option_map}
+use Rattle.std.specs.Prelude.{◌++◌, ◌||◌, ℕ, Bool, true, false, List, [], ◌∷◌, Option, Some, None, codes, cond, length, nat_eq, option_map}
 use Rattle.std.specs.Fmt.{decimal}
 use Rattle.captures.specs.OtherWords.{other_name, signs_text}
 use Rattle.conversations.specs.Lines.{channel_name}
@@ -16,8 +16,7 @@ use Rattle.station_commands.specs.declared.station.figures.Figures.{Figures}
 
 -- a name, if there is one
 abbrev pub named : List ℕ → Option (List ℕ)
-named [] = None
-named name = Some name
+named name = cond (nat_eq (length name) 0) None (Some name)
 
 -- frames that go beside a DIS, and tell what a station is or wants: NSF, NSC, CSI, CIG, SEP, PWD, PSA, CIA, ISP and CSA
 abbrev pub is_beside_dis : ℕ → Bool
@@ -44,9 +43,13 @@ left_out (Some (By NotCompatible)) (Some octet) = None
 left_out (Some (By end)) (Some octet) = asking_name octet
 left_out (Some LineLost) (Some octet) = asking_name octet
 
--- the same in words
+-- that a frame of this name isn't answered
+abbrev pub unanswered_words : List ℕ → List ℕ
+unanswered_words name = name ++ codes ", which isn't answered"
+
+-- that the frame which is left out isn't answered, if there is one
 abbrev pub left_out_words : Option CallEnd → Option ℕ → Option (List ℕ)
-left_out_words end unread = option_map (λ name. name ++ codes ", which isn't answered") (left_out end unread)
+left_out_words end unread = option_map unanswered_words (left_out end unread)
 
 -- ---- the record
 

@@ -3,7 +3,7 @@
 ghost use Rattle.faults.specs.Faults.{IsOutside};
 ghost use Rattle.captures.specs.OtherWords.{other_name};
 ghost use Rattle.station_commands.specs.CallNotes.{end_why, has_left, left_why, missing_why, reason_words, refusal_words, stopped_why, why_words};
-ghost use Rattle.station_commands.specs.EndRecords.{asking_name, is_beside_dcs, is_beside_dis, left_out, left_out_words, named};
+ghost use Rattle.station_commands.specs.EndRecords.{asking_name, is_beside_dcs, is_beside_dis, left_out, left_out_words, named, unanswered_words};
 ghost use Rattle.station_commands.specs.Stations.{IsHalt, ended_of};
 ghost use Rattle.std.specs.Prelude.{◌≡◌, IfErr, IfSome, Some, option_map, string_bytes};
 
@@ -190,13 +190,25 @@ fn left_out(end: Option<CallEnd>, unread: Option<u8>) -> Option<&'static str>
     }
 }
 
+/// Says that a frame of this name isn't answered. It says nothing without memory.
+fn unanswered(alloc: Global, name: &str) -> Option<String>
+    ensures { IfSome result (λ words. string_bytes words ≡ unanswered_words name.now) }
+{
+    let Ok(words) = format!(in alloc; "{name}, which isn't answered") else {
+        return None;
+    };
+    Some(words)
+}
+
 /// Says that a call ended so after a frame which isn't answered. It says nothing without memory.
 fn left_out_words(alloc: Global, talked: &Talked) -> Option<String>
     ensures { IfSome result (λ words. left_out_words talked.now.end talked.now.figures.unread
         ≡ Some (string_bytes words)) }
 {
-    let name = left_out(talked.end, talked.figures.unread)?;
-    format!(in alloc; "{name}, which isn't answered").ok()
+    let Some(name) = left_out(talked.end, talked.figures.unread) else {
+        return None;
+    };
+    unanswered(alloc, name)
 }
 
 /// Records how a call stands at its end, if records are asked for.

@@ -1,10 +1,10 @@
 //! What is noted of a station's call while it runs, beside its trace, and what the other station says that is no signal of ours.
 
-ghost use Rattle.station_commands.specs.CallNotes.{IsMissing, ends_all, ends_document, is_confirmation, is_of_mark, is_whole, noted_after};
+ghost use Rattle.station_commands.specs.CallNotes.{IsLack, IsMissing, ends_all, ends_document, is_confirmation, is_of_mark, is_whole, noted_after};
 ghost use Rattle.station_commands.specs.CallNotes.{known_heard, no_notes, noted_heard, noted_said, said_after, with_pps};
 ghost use Rattle.signals.specs.Reading.{read_content};
 ghost use Rattle.faults.specs.Faults.{IsOutside};
-ghost use Rattle.std.specs.Prelude.{◌≡◌, ◌+◌, ◌-◌, ◌^◌, [], IfErr, min, not};
+ghost use Rattle.std.specs.Prelude.{◌≡◌, ◌+◌, ◌-◌, ◌^◌, [], IfErr, None, Some, min, not};
 
 use crate::station::figures::Figures;
 use crate::station::lateness::Lateness;
@@ -129,10 +129,17 @@ impl Noted {
         ensures { IsMissing self.caps wish fine result }
     {
         let caps = self.caps?;
-        match why_not(&caps, &wish, PageWidth::W1728, fine) {
-            Some(reason) => Some(reason),
-            None => Some(Reason::TooWide),
-        }
+        Some(lack_of(caps, wish, fine))
+    }
+}
+
+/// Returns what an answerer that offers this lacks, of stations that aren't compatible.
+fn lack_of(caps: Caps, wish: Wish, fine: bool) -> Reason
+    ensures { IsLack caps wish fine result }
+{
+    match why_not(&caps, &wish, PageWidth::W1728, fine) {
+        Some(reason) => reason,
+        None => Reason::TooWide,
     }
 }
 
