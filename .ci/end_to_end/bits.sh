@@ -46,8 +46,7 @@ try_bits_memory() {
         { printf 'polite 11\n#'; head -c "$size" /dev/zero | tr '\0' x; echo; } > "$work/long.script"
         rm -f "$work/sent"/*
         for most in $(seq "$least" 60 12000); do
-            status=0
-            (ulimit -v "$most"; exec "$program" call --script "$work/long.script" --bits "$work/sent" "$input") > "$work/output" 2> "$work/error" || status=$?
+            within "$most" call --script "$work/long.script" --bits "$work/sent" "$input"
             [ "$status" != 0 ] || break
             is_status 1 "call --bits with $most KB of memory"
             [ -z "$(ls "$work/sent")" ] || fails "call --bits with $most KB of memory left $(ls "$work/sent")"

@@ -45,6 +45,19 @@ finds_least() {
     least=$((least + 40))
 }
 
+# within KB WORDS: the program in so much memory; $status is its status. The system gives a stack some 130 KB at a place that differs from run
+# to run, and ends a program by SIGSEGV, status 139, whose stack passes that by a page where no memory is left: so it is run up to five times
+# until it ends otherwise. A crash of its own comes each time.
+within() {
+    most=$1
+    shift
+    for _ in 1 2 3 4 5; do
+        status=0
+        { (ulimit -v "$most"; exec "$program" "$@") || status=$?; } > "$work/output" 2> "$work/error"
+        [ "$status" = 139 ] || break
+    done
+}
+
 # is_same FILE WANTED WORDS: the file has the octets of the other one.
 is_same() {
     difference=$(cmp "$1" "$2" 2>&1) || fails "$3: other octets: $difference"

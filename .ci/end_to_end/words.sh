@@ -391,9 +391,7 @@ try_memory() {
     named=0
     finds_least
     for most in $(seq "$least" 20 12000); do
-        status=0
-        (ulimit -v "$most"; exec "$program" decode --explain --code mh --width 2432 "$work/large.mh" "$work/made") \
-            > "$work/output" 2> "$work/error" || status=$?
+        within "$most" decode --explain --code mh --width 2432 "$work/large.mh" "$work/made"
         [ "$status" != 0 ] || break
         is_status 1 "decode with $most KB of memory"
         [ "$(head -1 "$work/error")" = "fault 9" ] || fails "decode with $most KB of memory says something else"
@@ -405,8 +403,7 @@ try_memory() {
     [ "$status" = 0 ] || fails "decode was refused memory each time"
     [ "$named" -gt 0 ] || fails "decode was never refused memory for its file"
     yes "busy 1" | head -c 3000000 > "$work/long.script"
-    status=0
-    (ulimit -v "$most"; exec "$program" call --explain --script "$work/long.script" "$data/page.pbm") > "$work/output" 2> "$work/error" || status=$?
+    within "$most" call --explain --script "$work/long.script" "$data/page.pbm"
     [ "$status $(head -1 "$work/error")" = "1 fault 9" ] || fails "call with a long script and little memory ended with status $status"
     grep -q "^$work/long.script: memory was refused" "$work/error" || fails "call doesn't name its script where memory is refused"
     count=$((count + 3))
