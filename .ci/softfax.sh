@@ -66,6 +66,8 @@ shared=$objects
 builds figures-test
 timeout $longest "$work/figures-test" > "$work/output" || fails figures-test
 cat "$work/output"
+"$here/figures.py" "$work/figures-test" > "$work/output" 2>&1 || fails figures.py
+cat "$work/output"
 
 objects=$shared
 compiles behind t31 class1 class1_setup class1_frame class1_words stopped trial line paper terminal bits

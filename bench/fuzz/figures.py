@@ -107,20 +107,25 @@ def turns(lines, answers):
             return
 
 
-def figures_of(lines, answers, calls):
-    """The figures of a conversation; `left_out` is the name of the last frame heard, if it is no signal of the stations."""
-    count, ear, mouth, at, hears = Count(), Ear(), Ear(), 0, calls
+def contents_of(lines, answers, calls):
+    """The contents by V.21 of a conversation in order, each with whether it was said."""
+    ear, mouth, hears = Ear(), Ear(), calls
     for line, said in turns(lines, answers):
         word, time, *rest = line.split(" ", 2)
-        at = int(time)
         if word == "rx" and hears:
-            for content in ear.contents(v21_octets(rest[0])):
-                count.heard(content)
-        hears |= word == "quiet" and at >= FIRST_DIS
+            yield from ((False, content) for content in ear.contents(v21_octets(rest[0])))
+        hears |= word == "quiet" and int(time) >= FIRST_DIS
         for burst in said:
             if burst.startswith("tx "):
-                for content in mouth.contents(v21_octets(burst[3:])):
-                    count.said(content)
+                yield from ((True, content) for content in mouth.contents(v21_octets(burst[3:])))
+
+
+def figures_of(lines, answers, calls):
+    """The figures of a conversation; `left_out` is the name of the last frame heard, if it is no signal of the stations."""
+    count = Count()
+    for is_said, content in contents_of(lines, answers, calls):
+        (count.said if is_said else count.heard)(content)
+    at = max([int(line.split(" ")[1]) for line, _ in turns(lines, answers)], default=0)
     figures = {name: getattr(count, name) for name in "blocks failed_checks left_out peer pprs resent retries".split()}
     first, last = (count.speeds[0], count.speeds[-1]) if count.speeds else (None, None)
     return figures | {"first_speed": first, "last_speed": last, "seconds": at // 1000}

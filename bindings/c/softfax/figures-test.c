@@ -1,4 +1,6 @@
-/* figures-test: the figures of lists of frames, as they are worked out by hand. Status 1: one is another. */
+/* figures-test: the figures of lists of frames, as they are worked out by hand. Status 1: one is another.
+ *
+ *     figures-test -      reads lines `said HEX` and `heard HEX`, and at an empty line prints the figures of the frames before it */
 #include "figures.h"
 #include <stdio.h>
 #include <string.h>
@@ -67,6 +69,12 @@ static int is_same(const figures *a, const figures *b)
         && a->retries == b->retries && a->first_speed == b->first_speed && a->last_speed == b->last_speed && strcmp(a->peer, b->peer) == 0;
 }
 
+static void print(const figures *it)
+{
+    printf("blocks %u, PPRs %u, frames sent again %u, failed checks %u, retries %u, carriers %u and %u, peer '%s'\n", it->blocks, it->pprs,
+        it->resent, it->failed_checks, it->retries, it->first_speed, it->last_speed, it->peer);
+}
+
 /* Returns whether a list has its figures. */
 static int try_list(const list *of)
 {
@@ -77,13 +85,41 @@ static int try_list(const list *of)
         else figures_hear(&are, content, of->frames[i].length);
     }
     if (is_same(&are, &of->wanted)) return 1;
-    printf("%s: blocks %u, PPRs %u, frames sent again %u, failed checks %u, retries %u, carriers %u and %u, peer '%s'\n", of->name,
-        are.blocks, are.pprs, are.resent, are.failed_checks, are.retries, are.first_speed, are.last_speed, are.peer);
+    printf("%s: ", of->name);
+    print(&are);
     return 0;
 }
 
-int main(void)
+/* Counts the frame of a line. */
+static void count_line(figures *it, const char *line)
 {
+    uint8_t content[300];
+    uint64_t length = 0;
+    unsigned octet;
+    int is_said = strncmp(line, "said ", 5) == 0;
+    for (line += is_said ? 5 : 6; length < sizeof content && sscanf(line, "%2x", &octet) == 1; line += 2) content[length++] = (uint8_t)octet;
+    if (is_said) figures_say(it, content, length);
+    else figures_hear(it, content, length);
+}
+
+static int read_lines(void)
+{
+    char line[1024];
+    figures are = {0};
+    while (fgets(line, sizeof line, stdin) != NULL) {
+        if (line[0] != '\n') {
+            count_line(&are, line);
+            continue;
+        }
+        print(&are);
+        are = (figures){0};
+    }
+    return 0;
+}
+
+int main(int count_of_words, char **words)
+{
+    if (count_of_words == 2 && strcmp(words[1], "-") == 0) return read_lines();
     int right = 0, count = sizeof LISTS / sizeof LISTS[0];
     for (int i = 0; i < count; i++) right += try_list(&LISTS[i]);
     printf("softfax: %d of %d lists of frames have the figures that they should\n", right, count);
