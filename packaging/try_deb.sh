@@ -10,6 +10,8 @@
 # archive, and the module for Python. It needs dpkg, pkg-config, cc, python3, and fakeroot where it isn't run as root. Ends with status 1
 # at the first difference.
 set -e
+# dpkg wants ldconfig and start-stop-daemon on the path, also of one who has no sbin on it
+PATH="$PATH:/usr/local/sbin:/usr/sbin:/sbin"
 top=$(cd "$(dirname "$0")/.." && pwd)
 . "$top/packaging/common.sh"
 [ $# = 1 ] || { echo "usage: try_deb.sh FOLDER" >&2; exit 2; }
