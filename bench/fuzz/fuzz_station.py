@@ -124,13 +124,13 @@ def written_document(rand, folder):
 
 
 def random_name(rand):
-    """An information field of CSI or TSI: mostly 20 signs of a telephone, with spaces beside; one may be no sign, or all are spaces."""
+    """An information field of CSI or TSI: mostly 20 signs of a telephone, with spaces on either side but not alone; one may be no sign."""
     signs = "".join(rand.choice(SIGNS) for _ in range(rand.choice([1, 5, 12, 20]))) + "0"
     text = (" " * rand.choice([0, 2, 8]) + signs + " " * rand.choice([0, 3, 20]))[: rand.choice([20, 20, 20, 20, 19, 21])]
     octets = bytearray(text.rjust(20).encode()[::-1])
     if rand.random() < 0.3:
-        octets[rand.randrange(len(octets))] = rand.randrange(256)
-    return bytes(octets) if rand.random() < 0.9 else b" " * 20
+        octets[rand.randrange(len(octets))] = rand.randrange(33, 256)
+    return bytes(octets)
 
 
 def random_aside(rand, side):
