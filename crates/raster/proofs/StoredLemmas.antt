@@ -7,7 +7,7 @@ use Rattle.std.specs.Option.{option_map}
 use Rattle.std.proofs.Math.Seq.{drop-append_seam, take-append-add}
 use Rattle.std.proofs.lemmas.Bool.{cases_lt}
 use Rattle.std.proofs.lemmas.List.{append-nil, length-map, length-replicate, length-take-le, map-append, take-append-le, take_all, drop-append-le, length-drop, take-take, take_at, get_or-append_right, length-set, set-append_right}
-use Rattle.std.proofs.lemmas.List.Elements.{All-cons, All-nil, All-head, All-push, All-tail, All-weaker}
+use Rattle.std.proofs.lemmas.List.Elements.{All-cons, All-nil, All-get_or, All-head, All-push, All-tail, All-weaker}
 use Rattle.std.proofs.lemmas.Option.{slice_get-get_or, slice_get-map}
 use Rattle.raster.specs.declared.packed.Order.TheVariants.{MsbFirst}
 use Rattle.raster.specs.declared.page.RowAt.{RowAt}
@@ -15,7 +15,7 @@ use Rattle.raster.specs.declared.row.Color.{Color}
 use Rattle.raster.specs.Appending.{AppendsKept, AppendsRow, CutsLast}
 use Rattle.raster.specs.Packed.{AreAlike, AreKept, IsPacked, bits_in, kept_bits, place_in}
 use Rattle.raster.specs.Pixels.{colors}
-use Rattle.raster.specs.Stored.{AreStored, IsStored, Pushed, row_octets, stored_row, stored_rows}
+use Rattle.raster.specs.Stored.{AreStored, IsStored, Pushed, PushedAgain, row_octets, stored_row, stored_rows}
 use Rattle.raster.proofs.AlikeLemmas.{length-kept_bits}
 use Rattle.raster.proofs.PackedLemmas.{bit_in-past, bit_in-take, bits_in-same, kept_cut, length-bits_in, packed_cut, packed_whole}
 use Rattle.raster.proofs.RowLemmas.{length-colors}
@@ -151,6 +151,26 @@ push_stored width row octets new places alike long stored room appends =
           ap (λ (r : List Color). stored_rows width octets places ++ r ∷ [])
           (stored_row-is width (octets ++ more) more at row last are));
     })
+
+-- ---- a row that stands twice
+
+pub push_same : (width : ℕ) (octets : List ℕ) (places : List RowAt) (k : ℕ) (at : RowAt) → AreStored width octets places
+    → length places < 20000 → k < length places → at ≡ get_or places k at
+    → PushedAgain width k octets octets places (places ++ at ∷ [])
+push_same width octets places k at stored room within is = (
+  stored_row width octets at,
+  slice_get-stored_rows-at width octets places k at within ∙ ap (λ (a : RowAt). Some (stored_row width octets a)) (sym is),
+  record {
+    stored = record {
+      wide = stored.wide;
+      few = omega (arith, length-append places (at ∷ []), room);
+      short = omega (arith, length-append places (at ∷ []), stored.short);
+      each = All-push (IsStored width octets) places at stored.each
+          (subst (IsStored width octets) (sym is) (All-get_or (IsStored width octets) places k at within stored.each));
+    };
+    rows = stored_rows-push width octets places at;
+  },
+)
 
 -- ---- the octets of bits
 

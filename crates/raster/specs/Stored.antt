@@ -1,5 +1,5 @@
 -- How a page keeps its rows: the octets of all in one list.
-use Rattle.std.specs.Prelude.{ℕ, ◌≡◌, ◌≤◌, ◌-◌, ◌*◌, ◌++◌, ◌∷◌, [], All, List, length, take, drop, map}
+use Rattle.std.specs.Prelude.{ℕ, ◌≡◌, ◌≤◌, ◌-◌, ◌*◌, ◌++◌, ◌∷◌, [], All, List, length, take, drop, map, Some, slice_get}
 use Rattle.raster.specs.declared.packed.Order.TheVariants.{MsbFirst}
 use Rattle.raster.specs.declared.page.RowAt.{RowAt}
 use Rattle.raster.specs.declared.row.Color.{Color}
@@ -42,3 +42,8 @@ pub record AreLent (width : ℕ) (octets : List ℕ) (places : List RowAt) : Typ
 pub record Pushed (width : ℕ) (row : List Color) (octets new : List ℕ) (places next : List RowAt) : Type 0 where
   pub stored : AreStored width new next
   pub rows : stored_rows width new next ≡ stored_rows width octets places ++ row ∷ []
+
+-- what appending the place of the row at a place once more leaves
+abbrev pub PushedAgain : ℕ → ℕ → List ℕ → List ℕ → List RowAt → List RowAt → Type 0
+PushedAgain width at octets new places next = (row : List Color) × (slice_get (stored_rows width octets places) at ≡ Some row)
+    × Pushed width row octets new places next

@@ -11,7 +11,7 @@ ghost use Rattle.run_tables.specs.Reading.{rest_of};
 ghost use Rattle.run_tables.specs.Texts.{begins, is_cut, pick};
 ghost use Rattle.std.specs.Bool.{OnFalse, OnTrue};
 ghost use Rattle.std.specs.Prelude.{None, Ok, OnSome, Some, IfNone, IfSome, if◌then◌else◌, is_some, length, slice_get};
-ghost use Rattle.std.specs.Prelude.{◌*◌, ◌+◌, ◌^◌, ◌/◌, ◌<◌, ◌≡◌, ◌≤◌};
+ghost use Rattle.std.specs.Prelude.{◌*◌, ◌+◌, ◌^◌, ◌/◌, ◌<◌, ◌≡◌, ◌≤◌, true};
 
 use crate::fault::{CodeFault, CodeFaultKind};
 use crate::read_table::{TableEntry, entry};
@@ -299,12 +299,47 @@ impl<'a> BitReader<'a> {
         ensures { result ≡ record { place = self.now.place; kind = kind_among color among (rest_of self.now) } }
     {
         // by the valid codes alone, whatever the width: the width is checked once a whole code is there
-        let kind = if self.is_cut_code(color, among.count()) {
+        let kind = if self.is_cut_among(color, among) {
             CodeFaultKind::Truncated
         } else {
             CodeFaultKind::BadCode
         };
         CodeFault::new(self.place(), kind)
+    }
+
+    /// Whether the bits that are left are the beginning of one of the valid codes.
+    fn is_cut_among(&self, color: Color, among: Among) -> bool
+        ensures { result ≡ is_cut (code_word color) (runs_among among) (rest_of self.now) }
+    {
+        // all codes are shorter, and most beginnings of a code are found in the table with 0 bits after them
+        let long = self.has(14);
+        if long {
+            return false;
+        }
+        if self.begins_entry(color, among) {
+            return true;
+        }
+        self.is_cut_code(color, among.count())
+    }
+
+    /// Whether the bits that are left, which are fewer than a valid code that the table has for them with 0 bits after them, begin that
+    /// code.
+    fn begins_entry(&self, color: Color, among: Among) -> bool
+        ensures { OnTrue result
+            (is_cut (code_word color) (runs_among among) (rest_of self.now) ≡ true) }
+    {
+        let Some(code) = entry(color, self.next_13()) else {
+            return false;
+        };
+        let run = code.run();
+        let whole = self.has(code.bits());
+        if whole {
+            return false;
+        }
+        match among {
+            Among::AllCodes => true,
+            Among::TerminatingCodes => run < 64,
+        }
     }
 
     /// Reads the next code among the valid ones (ITU-T T.4, 4.1.1) and returns its run in pixels. Errs if no

@@ -4,7 +4,6 @@ use Rattle.std.proofs.Common.{Some, None, inl, inr, refl, ap, sym, ◌∙◌, su
 use Rattle.std.specs.Prelude.{Option, ◌⊎◌}
 use Rattle.std.specs.Option.{option_map}
 use Rattle.std.proofs.lemmas.List.{drop_at, drop-drop, length-replicate}
-use Rattle.raster.proofs.RowLemmas.{length-colored}
 use Rattle.page_code.specs.OneDimension.Pages.{eol_word}
 use Rattle.page_code.specs.OneDimension.Fronts.{zeros_before, CodeBegins}
 use Rattle.page_code.specs.OneDimension.Reading.{SeesEol}
@@ -22,9 +21,6 @@ use Rattle.page_code.specs.OneDimension.Repairs.{EndsAfterWhite, EndsInBlack, En
 use Rattle.page_code.specs.OneDimension.Repairs.{IsSkipped}
 use Rattle.page_code.specs.OneDimension.Repairing.{FindsEnd, FindsRowEnd}
 use Rattle.page_code.proofs.OneDimension.ZerosBefore.{zeros_eol, zeros_split, none_zeros, zeros_none, length-eol}
-
--- lengths of rows by their runs
-pub ruleset lengths = (length-colored)
 
 pub none_some : (o : Option ℕ) (n : ℕ) → o ≡ None → o ≡ Some n → ⊥
 none_some o n none some = let both : ◌≡◌ {A = Option ℕ} None (Some n) = sym none ∙ some in cc

@@ -1,12 +1,12 @@
 -- The lines of a page, and what is given for them.
 use Rattle.std.proofs.Common.{ℕ, suc, ◌≡◌, ◌+◌, ◌-◌, ◌<◌, ◌≤◌, Bool, List, [], ◌∷◌, ◌++◌, length, drop, inl, inr, refl, ap, sym, ◌∙◌}
 use Rattle.std.proofs.Common.{subst, arith, append_assoc, false, None, Some}
-use Rattle.std.specs.Prelude.{slice_get, slice_index_or, ◌↔◌, ◌≢◌, IsTrue, IfOk, Result, Ok, Err}
+use Rattle.std.specs.Prelude.{slice_get, slice_index_or, ◌↔◌, ◌≢◌, IsTrue}
 use Rattle.std.proofs.lemmas.Option.{get_or_from_slice_get, slice_get_within}
 use Rattle.std.proofs.lemmas.Bool.{false≢true}
 use Rattle.std.proofs.lemmas.List.{append-nil, drop-drop, length_push}
 use Rattle.raster.specs.declared.row.Color.{Color}
-use Rattle.raster.specs.Pages.{IsPage, PagePixels}
+use Rattle.raster.specs.Pages.{IsPage, PagePixels, PushesAgain}
 use Rattle.run_tables.specs.declared.fault.CodeFault.{CodeFault}
 use Rattle.run_tables.specs.declared.fault.CodeFaultKind.{CodeFaultKind}
 use Rattle.run_tables.specs.declared.fault.CodeFaultKind.TheVariants.{NoMemory, TooManyCodedRows}
@@ -22,7 +22,7 @@ use Rattle.page_code.specs.OneDimension.Repairs.{AreGivenTo, EndsPage, EndsRow, 
 use Rattle.page_code.specs.OneDimension.Repairs.{IsReadFor, IsRepair, IsSkipped, Line}
 use Rattle.page_code.specs.OneDimension.Repairs.{given, last_of, last_row, listed, repaired_in, rows_given, white_row}
 use Rattle.page_code.specs.OneDimension.Repairs.Line.{spelled, broken}
-use Rattle.page_code.specs.OneDimension.Repairing.{FindsLine, FindsRowEnd, GivesLine}
+use Rattle.page_code.specs.OneDimension.Repairing.{FindsLine, FindsRowEnd, GivesLast, GivesLine}
 
 -- One line more
 
@@ -143,11 +143,6 @@ module _ (bits : List Bool) (place width : ℕ) (old : Reading) (is : old ≡ re
 pub not_memory : (result : Bool) (kind : CodeFaultKind) → IsTrue result ↔ (kind ≡ NoMemory) → result ≡ false → kind ≢ NoMemory
 not_memory result kind tells is e = false≢true (sym is ∙ tells.1 e)
 
--- what holds of an answer, where what is known of it says so
-pub on_ok : {A E : Type 0} (result : Result A E) (P Q : A → Type 0) → ((a : A) → P a → Q a) → IfOk result P → IfOk result Q
-on_ok (Ok a) P Q leads holds = leads a holds
-on_ok (Err e) P Q leads holds = holds
-
 -- the last row of a page, which has one
 pub last_got : (page : PagePixels) (row : List Color) → IsPage page → slice_get page.rows (length page.rows - 1) ≡ Some row
     → (row ≡ last_row page.width page.rows) × (length row ≡ page.width)
@@ -177,24 +172,33 @@ gives_read width bits old new found row next wide finds is page same place =
       repaired_is = same ∙ sym (append-nil old.repaired.items);
     }
 
-pub gives_broken : (width : ℕ) (bits : List Bool) (old new : Lines) (found : Found) (bit : ℕ) (row : List Color) (number : ℕ)
+pub gives_broken : (width : ℕ) (bits : List Bool) (old new : Lines) (found : Found) (bit number : ℕ)
     → width ≡ old.page.width → FindsLine width bits old.place found → found ≡ Broken bit → ¬ EndsPage (drop old.place bits)
-    → row ≡ last_row old.page.width old.page.rows → new.page ≡ record old.page { rows = old.page.rows ++ row ∷ [] }
-    → number ≡ length new.page.rows → new.repaired.items ≡ old.repaired.items ++ record { row = number; bit = bit } ∷ []
+    → GivesLast old.page new.page → number ≡ length new.page.rows
+    → new.repaired.items ≡ old.repaired.items ++ record { row = number; bit = bit } ∷ []
     → (more : ℕ) × IsSkipped (drop old.place bits) more × (new.place ≡ old.place + more) → new.place ≤ length bits
     → GivesLine bits old new
-gives_broken width bits old new found bit row number wide finds is begins last page count repaired skipped within =
+gives_broken width bits old new found bit number wide finds is begins page count repaired skipped within =
     let here : FindsLine old.page.width bits old.place (Broken bit) = subst (λ (w : ℕ). FindsLine w bits old.place (Broken bit)) wide
     (subst (λ (f : Found). FindsLine width bits old.place f) is finds) in
-    let rows : length new.page.rows ≡ length (old.page.rows ++ row ∷ []) = ap (λ (p : PagePixels). length p.rows) page in
-    let same : number ≡ length old.page.rows + 1 = omega (arith, count, rows, length_push old.page.rows row) in
+    let last : List Color = last_row old.page.width old.page.rows in
+    let rows : length new.page.rows ≡ length (old.page.rows ++ last ∷ []) = ap (λ (p : PagePixels). length p.rows) page in
+    let same : number ≡ length old.page.rows + 1 = omega (arith, count, rows, length_push old.page.rows last) in
     record {
       line = broken bit;
       there = (here.0, skipped.0, begins, here.1, skipped.1, here.2, skipped.2);
       within = within;
-      page_is = page ∙ ap (λ (r : List Color). record old.page { rows = old.page.rows ++ r ∷ [] }) last;
+      page_is = page;
       repaired_is = repaired ∙ ap (λ (n : ℕ). old.repaired.items ++ record { row = n; bit = bit } ∷ []) same;
     }
+
+-- the last row stands once more
+pub gives_again : (old new : PagePixels) (count : ℕ) → count ≡ length old.rows → IsPage old → PushesAgain old (count - 1) new
+    → GivesLast old new
+gives_again old new count is page again =
+    let got : slice_get old.rows (length old.rows - 1) ≡ Some again.0 =
+    subst (λ (n : ℕ). slice_get old.rows (n - 1) ≡ Some again.0) is again.1 in
+    again.2 ∙ ap (λ (r : List Color). record old { rows = old.rows ++ r ∷ [] }) (last_got old again.0 page got).0
 
 -- a page with a line more
 pub lines_on : (width : ℕ) (fine : Bool) (bits : List Bool) (old new : Lines) → old.page.width ≡ width → old.page.fine ≡ fine

@@ -1,6 +1,7 @@
 -- The results of the parts of a page's repair.
 use Rattle.std.specs.Prelude.{ℕ, ◌≡◌, ◌+◌, ◌≤◌, ◌⊎◌, Bool, List, [], ◌∷◌, ◌++◌, length, drop, Option, None, Some, Result, Ok, Err}
 use Rattle.raster.specs.declared.row.Color.{Color}
+use Rattle.raster.specs.Pages.{PagePixels}
 use Rattle.run_tables.specs.declared.fault.CodeFault.{CodeFault}
 use Rattle.run_tables.specs.declared.fault.CodeFaultKind.TheVariants.{NoMemory}
 use Rattle.page_code.specs.declared.one_dim.repair.Found.{Found}
@@ -26,6 +27,10 @@ FindsRowEnd row bits place None = (used : ℕ) → ¬ EndsRow row (drop place bi
 abbrev pub FindsLine : ℕ → List Bool → ℕ → Found → Type 0
 FindsLine width bits place (Read row next) = IsLine width bits place (spelled row) next × (next ≤ length bits)
 FindsLine width bits place (Broken bit) = (count : ℕ) × IsReadFor width (drop place bits) count × (bit ≡ place + count)
+
+-- the last row of a page, or a white one before the first, was given once more
+abbrev pub GivesLast : PagePixels → PagePixels → Type 0
+GivesLast old new = new ≡ record old { rows = old.rows ++ last_row old.width old.rows ∷ [] }
 
 -- a row was given for one line more
 pub record GivesLine (bits : List Bool) (old new : Lines) : Type 0 where

@@ -1,7 +1,7 @@
 //! Pages with rows that can't be read: each is given as the row before it (ITU-T T.4, 4.1).
 
-ghost use Rattle.page_code.specs.OneDimension.Repairs.{EndsInBlack, EndsPage, IsFirstLine, IsSkipped, last_row};
-ghost use Rattle.page_code.specs.OneDimension.Repairing.{FindsEnd, FindsLine, FindsRowEnd, GivesLine, RepairsLines};
+ghost use Rattle.page_code.specs.OneDimension.Repairs.{EndsInBlack, EndsPage, IsFirstLine, IsSkipped};
+ghost use Rattle.page_code.specs.OneDimension.Repairing.{FindsEnd, FindsLine, FindsRowEnd, GivesLast, GivesLine, RepairsLines};
 ghost use Rattle.raster.specs.Packed.{bits_of};
 ghost use Rattle.raster.specs.Pages.{max_rows};
 ghost use Rattle.raster.specs.Pixels.{IsWidth};
@@ -13,9 +13,9 @@ ghost use Rattle.std.specs.Prelude.{IfErr, IfOk, IsFalse, IsTrue, MatchResult, O
 use crate::coding::PageCode;
 use crate::one_dim::OneDim;
 use crate::one_dim::eol::{Eol, eol_at, zeros_from};
-use crate::page::push_row;
+use crate::page::{push_row, push_white};
 use raster::packed::Order;
-use raster::{Color, MAX_ROWS, Page, Row, RowRef};
+use raster::{Color, MAX_ROWS, Page, Row};
 use run_tables::{BitReader, CodeFault, CodeFaultKind};
 use std::alloc::{AllocError, Global};
 
@@ -177,28 +177,16 @@ fn find_line(
     }
 }
 
-/// A copy of a row. Errs only if memory is refused.
-#[tactic(auto, using(crate::proofs::OneDimension::LineEnds::lengths))]
-fn copied(alloc: Global, row: &RowRef<'_>) -> Result<Row, AllocError>
-    ensures { IfOk result (λ copy. copy ≡ row.now) }
+/// Gives the last row once more, or a white one before the first, where there is room for one. Errs only if memory is refused.
+fn give_last(page: &mut Page) -> Result<(), AllocError>
+    requires { length page.old.rows < max_rows }
+    ensures { OnOk result (GivesLast page.old page.new) }
 {
-    let _width = row.width(); // shows the proof that it is a page's width
-    let mut runs = Vec::new(alloc);
-    if row.runs(alloc, &mut runs).is_err() {
-        return Err(AllocError);
+    let count = page.rows().len();
+    if count == 0 {
+        return push_white(page);
     }
-    Row::from_valid_runs(alloc, &runs)
-}
-
-/// The row before the next one: the last row, or a white one before the first.
-fn row_before(alloc: Global, page: &Page) -> Result<Row, AllocError>
-    ensures { IfOk result (λ row. (row ≡ last_row page.now.width page.now.rows) × (length row ≡ page.now.width)) }
-{
-    let rows = page.rows();
-    if rows.is_empty() {
-        return Row::from_valid_runs(alloc, &[page.width()]);
-    }
-    copied(alloc, &rows.row(rows.len() - 1))
+    page.push_again(count - 1)
 }
 
 /// Gives a row for the line after the rows so far. Errs only if memory is refused.
@@ -215,8 +203,7 @@ fn give_line(alloc: Global, octets: &[u8], order: Order, to: &mut Lines) -> Resu
             to.place = next;
         }
         Found::Broken(bit) => {
-            let row = row_before(alloc, &to.page)?;
-            push_row(&mut to.page, row)?;
+            give_last(&mut to.page)?;
             let number = to.page.rows().len();
             to.repaired.push(RepairedRow { row: number, bit })?;
             to.place = after_eol(octets, order, to.place);

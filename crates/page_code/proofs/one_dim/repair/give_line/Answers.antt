@@ -17,10 +17,9 @@ returns-in_ok-push_row-in-Read c =
 pub returns-in_ok-push-in-Broken : goal.returns-in_ok-push-in-Broken
 returns-in_ok-push-in-Broken c =
     gives_broken c.width.result (bits_of c.args.order c.args.octets.now) c.args.to.now (record {
-      page = c.push_row-in-Broken.new.page;
+      page = c.give_last.new.page;
       repaired = c.push.new.self;
       place = c.after_eol-to.result;
-    }) c.in_ok-row.field-0 c.in-Broken.bit c.in_ok-row-in-Broken.row c.len-number.result c.width.ensures c.in_ok-row.ensures
-    c.in-Broken.is c.requires.line c.in_ok-row-in-Broken.ensures.0 c.in_ok-push_row-in-Broken.ensures (c.len-number.ensures.length ∙
-    ap length c.rows.ensures.rows) c.in_ok-push-in-Broken.ensures.items c.after_eol-to.ensures.skipped (within_bits c.args.order
-    c.args.octets.now c.after_eol-to.result c.after_eol-to.ensures.within)
+    }) c.in_ok-row.field-0 c.in-Broken.bit c.len-number.result c.width.ensures c.in_ok-row.ensures c.in-Broken.is c.requires.line
+    c.in_ok-give_last-in-Broken.ensures (c.len-number.ensures.length ∙ ap length c.rows.ensures.rows) c.in_ok-push-in-Broken.ensures.items
+    c.after_eol-to.ensures.skipped (within_bits c.args.order c.args.octets.now c.after_eol-to.result c.after_eol-to.ensures.within)
