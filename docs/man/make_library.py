@@ -232,10 +232,10 @@ def grouped(chosen):
 
 
 def faults():
-    """What the header's readers would miss: a status in its page, or what the record of a version has."""
+    """What the header's readers would miss: a status in its page, room in a struct, or what the record of a version has."""
     tests = [*sorted((TOP / "bindings/tests").glob("*.c")), TOP / "bindings/c/misuse.c"]
     header = (TOP / "bindings/g3fax.h").read_text()
-    return [*untold(items(header), "\n".join(file.read_text() for file in tests)),
+    return [*untold(items(header), "\n".join(file.read_text() for file in tests)), *from_header.shape_faults(header),
             *from_header.record_faults(from_header.records(), header, (TOP / "CHANGELOG.md").read_text())]
 
 
