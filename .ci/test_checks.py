@@ -302,6 +302,10 @@ def of_header():
     found = make_library.items(header)
     for status, name in ("G3_NO_IMAGE", "g3_row_coder_take"), ("G3_FRAME_LOST", "g3_page_size"), ("G3_EMPTY_HANDLE", "g3_agree"):
         yield refuses(status, lambda tests: make_library.untold(found, tests), "", f"    IS({status}, {name}(&it));", f"list {status}")
+    for what, comment, said in (("a function without a comment", "/* How many pages it has. */\n", "g3_document_pages has the comment of"),
+                                ("a struct without a comment", "/* how a burst is sent */\n", "g3_burst has no comment")):
+        assert comment in header
+        yield refuses(what, lambda text: make_library.bare(make_library.items(text)), header, header.replace(comment, ""), said)
     sizes = "    SIZES(it, g3_row_coder_take(&it, &o));"
     yield refuses("a struct of another size", lambda tests: make_library.untold(found, tests), "", sizes, "list G3_BAD_SIZE")
     made = make_library.from_header
