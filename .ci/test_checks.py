@@ -262,13 +262,50 @@ def of_house():
     assert not house.grown({"long-files": ["a", "b", "c"]}, {"long-files": 2}, ["long-files"])
 
 
+#: what a version that is out holds: a change of a struct or of a function's types, and what is said of it
+RECORDED = [
+    ("two members that changed places", "uint32_t width; /* pixels */\n    uint32_t rows;", "uint32_t rows;\n    uint32_t width;",
+     "width of g3_size"),
+    ("a member of another type", "uint64_t bits;\n", "uint32_t bits, more;\n", "bits of g3_burst"),
+    ("a member that went", "uint32_t wait;    /*", "uint32_t waits;   /*", "wait of g3_state"),
+    ("a member in the middle", "uint32_t order;  /* G3_MSB_FIRST or G3_LSB_FIRST; of", "uint32_t why, order;  /* of", "order of g3_found"),
+    ("a longer struct without a size", "uint32_t spare[4];\n} g3_code", "uint32_t spare[5];\n} g3_code", "the size of g3_code"),
+    ("a shorter struct", "uint32_t spare[5];\n} g3_wish", "uint32_t spare[3];\n} g3_wish", "the size of g3_wish"),
+    ("a longer struct in another", "uint32_t spare[4];\n} g3_block", "uint32_t spare[6];\n} g3_block", "octets of g3_signal"),
+    ("a shorter array", "octets[296];", "octets[288];", "octets of g3_signal"),
+    ("a struct that went", "g3_params", "g3_agreed", "the size of g3_params"),
+    ("a parameter of another type", "g3_wait_millis(uint32_t wait)", "g3_wait_millis(uint64_t wait)", "g3_wait_millis has other types"),
+    ("two parameters that changed places", "uint32_t side, uint32_t last, uint8_t *buffer", "uint32_t side, uint8_t *buffer, uint32_t last",
+     "g3_signal_write has other types"),
+    ("a status of another type", "typedef uint32_t g3_status;", "typedef int32_t g3_status;", "g3_status has other types"),
+    ("a handle that is changed", "g3_page_size(const g3_page *page", "g3_page_size(g3_page *page", "g3_page_size has other types"),
+]
+#: what may change: a spare word gets a name, and a struct that begins with its size grows
+GROWN = [
+    ("uint32_t spare[3];\n} g3_raster", "uint32_t later;\n    uint32_t spare[2];\n} g3_raster"),
+    ("    uint32_t spare;\n} g3_state", "    uint32_t later;\n    uint64_t more;\n} g3_state"),
+    ("g3_wait_millis(uint32_t wait)", "g3_wait_millis(uint32_t which)"),
+]
+#: a struct that can't grow, and what is said of it
+SHAPES = [
+    ("octets of padding at the end", "    uint32_t spare;\n} g3_state", "} g3_state", "g3_state has octets of padding"),
+    ("octets of padding in the middle", "uint64_t bits;\n    uint32_t carrier;", "uint32_t carrier;\n    uint64_t bits;",
+     "g3_burst has octets of padding"),
+    ("a struct without size and spare words", "    uint32_t spare[5];\n} g3_wish", "} g3_wish", "g3_wish can't grow"),
+]
+
+
 def of_header():
-    """A status that a page doesn't list, by a test; and of a version that is out a number that changed, a function that went, one that came
-    after it, and no record."""
+    """A status that a page doesn't list, by a test; and of a version that is out a number, a struct or a function that changed, a function
+    that came after it, and no record."""
     header = (make_library.TOP / "bindings/g3fax.h").read_text()
     found = make_library.items(header)
     for status, name in ("G3_NO_IMAGE", "g3_row_coder_take"), ("G3_FRAME_LOST", "g3_page_size"), ("G3_EMPTY_HANDLE", "g3_agree"):
         yield refuses(status, lambda tests: make_library.untold(found, tests), "", f"    IS({status}, {name}(&it));", f"list {status}")
+    for what, comment, said in (("a function without a comment", "/* How many pages it has. */\n", "g3_document_pages has the comment of"),
+                                ("a struct without a comment", "/* how a burst is sent */\n", "g3_burst has no comment")):
+        assert comment in header
+        yield refuses(what, lambda text: make_library.bare(make_library.items(text)), header, header.replace(comment, ""), said)
     sizes = "    SIZES(it, g3_row_coder_take(&it, &o));"
     yield refuses("a struct of another size", lambda tests: make_library.untold(found, tests), "", sizes, "list G3_BAD_SIZE")
     made = make_library.from_header
@@ -281,7 +318,15 @@ def of_header():
     assert not [*made.record_faults([], header, "## 0.1.0, unreleased\n"), *recorded(([old], header)), *recorded(([old], later))]
     swapped = header.replace("G3_END_TRAINING = 4", "G3_END_TRAINING = 5").replace("G3_END_NO_REPLY = 5", "G3_END_NO_REPLY = 4")
     yield refuses("a number that changed", recorded, ([old], header), ([old], swapped), "G3_END_TRAINING was 4")
-    yield refuses("a function that went", recorded, ([old], header), ([old], header.replace("g3_agree(", "g3_agrees(")), "g3_agree is another")
+    yield refuses("a function that went", recorded, ([old], header), ([old], header.replace("g3_agree(", "g3_agrees(")), "g3_agree has other types")
+    for what, before, after, said in RECORDED:
+        assert before in header
+        yield refuses(what, recorded, ([old], header), ([old], header.replace(before, after)), said)
+    for before, after in GROWN:
+        assert before in header and not [*recorded(([old], header.replace(before, after)))], after
+    for what, before, after, said in SHAPES:
+        assert before in header
+        yield refuses(what, made.shape_faults, header, header.replace(before, after), said)
     last = "uint64_t *count);\n"
     more = later.replace(last, f"{last}void g3_later(g3_page *page);\n", 1)
     yield refuses("a function of a version that is out", recorded, ([old], more), ([old], more.replace("NUMBER 101", "NUMBER 100")),

@@ -210,7 +210,8 @@ def figure_words(texts):
 
 def asking_faults(texts):
     """The frames that ask for no answer, by names of the definitions' comments, that softfax hasn't, and its others."""
-    there = {name for words in re.findall(r"^-- frames that go beside [^:]*: (.*)$", texts[END_SPECS], re.M) for name in re.findall(r"\b[A-Z]{3}\b", words)}
+    lines = re.findall(r"^-- frames that go beside [^:]*: (.*)$", texts[END_SPECS], re.M)
+    there = {name for words in lines for name in re.findall(r"\b[A-Z]{3}\b", words)}
     here = set(literals(texts[ASKING_C].partition("WANT_NONE[] =")[2].partition("};")[0])) - {"frame"}
     yield from (f"{ASKING_C} or {END_SPECS} alone says that {name} asks for no answer" for name in sorted(there ^ here))
 

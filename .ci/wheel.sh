@@ -3,9 +3,10 @@
 #
 #     .ci/wheel.sh FOLDER
 #
-# The wheel is made twice, with the same octets, and by pip from bindings/python; it is installed by pip without an index into a new
-# environment, where the first program of bindings/README.md runs with nothing else. Where mypy is, the module and a program that uses the
-# installed package are checked by `mypy --strict`. What isn't there of pip and mypy is named. Ends with status 1 at the first difference.
+# The wheel is made twice, with the same octets, and by pip from bindings/python. The first program of bindings/README.md runs with it and
+# nothing else: installed by pip without an index into a new environment, in the system's Python, and, if this is run as root, in a root that
+# has this Python, the C library and the package alone. Where mypy is, the module and a program that uses the installed package are checked
+# by `mypy --strict`. What isn't there of pip and mypy is named. Ends with status 1 at the first difference.
 set -e
 top=$(cd "$(dirname "$0")/.." && pwd)
 work=$(cd "$1" && pwd)
@@ -65,6 +66,24 @@ runs PYTHONPATH="$to/unpacked" "$(python3 -c 'import sys; print(sys.executable)'
 # in the system's Python, which may be another one
 [ ! -x /usr/bin/python3 ] || runs PYTHONPATH="$to/unpacked" /usr/bin/python3
 
+# and in a root that has that Python, the C library and the package alone
+root=$to/root where="as it is"
+python=$(readlink -f /usr/bin/python3 || true)
+stdlib=/usr/lib/$(basename "$python")
+if [ "$(id -u)" = 0 ] && chroot=$(command -v chroot) && [ -d "$stdlib/lib-dynload" ]; then
+    mkdir -p "$root/usr/bin" "$root/usr/lib" "$root/lib64"
+    cp "$python" "$root/usr/bin/python3"
+    cp -r "$stdlib" "$root/usr/lib/"
+    cp /lib64/ld-linux-x86-64.so.2 "$root/lib64/"
+    ldd "$python" "$stdlib"/lib-dynload/*.so 2> /dev/null | sed -n 's/.* => \(\/[^ ]*\) .*/\1/p' | sort -u | while read -r file; do
+        cp -L --parents "$file" "$root"
+    done
+    cp -r "$to/unpacked" "$root/package"
+    cp "$to/program.py" "$root/"
+    runs PYTHONPATH=/package "$chroot" "$root" /usr/bin/python3
+    where="also in a root without the kit"
+fi
+
 how="unpacked, since there is no pip"
 if python3 -m pip --version > /dev/null 2>&1 && python3 -m venv "$to/env" > "$to/said" 2>&1; then
     "$to/env/bin/python" -m pip install -q "$to/first/$wheel" > "$to/said" 2>&1 || fails "pip install"
@@ -90,4 +109,4 @@ else
     how="$how; its types weren't checked: there is no mypy"
 fi
 rm -rf "$to"
-echo "wheel: $wheel, twice the same, $how"
+echo "wheel: $wheel, twice the same, $where, $how"

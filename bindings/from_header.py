@@ -21,6 +21,8 @@ sys.path.insert(0, str(HERE / "python" / "g3fax"))
 from _header import Header, plain  # noqa: E402
 
 RECORDS = HERE / "tests" / "older"
+#: the octets of each type of C that a struct of the header has
+OCTETS = {"uint8_t": 1, "char": 1, "uint32_t": 4, "uint64_t": 8}
 
 
 def numbers(text):
@@ -59,18 +61,66 @@ def exports(texts):
     return "\n".join(lines) + "\n"
 
 
+def room(structs, kind, member, count):
+    """How many octets a member of a struct has, and to how many it is aligned."""
+    length, aligned = (8, 8) if member[0] == "*" else laid(structs, kind)[""] if kind in structs else (OCTETS[kind], OCTETS[kind])
+    return length * int(count or 1), aligned
+
+
+def laid(structs, name):
+    """Where each member of a struct lies, but for its spare words: its first octet, its type and how many there are; and, without a name, the
+    octets of the struct, and to how many they are aligned."""
+    found, at, most = {}, 0, 1
+    for kind, member, count in structs[name]:
+        length, aligned = room(structs, kind, member, count)
+        at += -at % aligned
+        if member != "spare":
+            found[member] = at, kind, count
+        at, most = at + length, max(most, aligned)
+    return {**found, "": (at + -at % most, most)}
+
+
+def struct_faults(old, new):
+    """What differs of the structs of a version that is out: a member that went or lies otherwise, or another size. One that begins with its size
+    may be longer; else new members take the place of spare words."""
+    for name in old.structs:
+        was, now = laid(old.structs, name), laid(new.structs, name) if name in new.structs else {"": (0, 0)}
+        yield from (f"{member} of {name}" for member in was if member and was[member] != now.get(member))
+        if now[""] != was[""] and not (name in old.sized and now[""][0] > was[""][0] and now[""][1] == was[""][1]):
+            yield f"the size of {name}"
+
+
+def shape_faults(text):
+    """The structs of a header that can't grow: they have neither a size of their own nor spare words at their end; or octets of padding, in
+    which a new member would change no size."""
+    header = Header(text)
+    for name in [name for name in header.structs if name not in header.handles]:
+        if sum(room(header.structs, *member)[0] for member in header.structs[name]) != laid(header.structs, name)[""][0]:
+            yield f"{name} has octets of padding"
+        if name not in header.sized and header.structs[name][-1][1] != "spare":
+            yield f"{name} can't grow: it has no size and no spare words"
+
+
+def types_of(text):
+    """Each function of a header with the types of what it returns and takes; and each type that is a number, with that of C."""
+    functions = {(name, kind, *(written.strip() for written, _ in parameters)) for kind, name, parameters in Header(text).functions}
+    return functions | {(name, kind) for kind, name in re.findall(r"^typedef (\w+) (\w+);", text, re.M)}
+
+
 def record_faults(olds, new, changes):
     """What differs of today's header from those of versions that are out, and from what the change log says is out: a number that changed or
-    went; a function that came after a version, and has its node; and a version that is out and has no record, or one that isn't and has."""
+    went; a function or a struct that changed or went; a function that came after a version, and has its node; and a version that is out and
+    has no record, or one that isn't and has."""
+    today = Header(new)
     for old in olds:
         version = ".".join(map(str, version_of(old)))
         for name, number in numbers(old).items():
             if numbers(new).get(name) != number:
                 yield f"{name} was {number} in version {version}"
-        gone = {(name, kind) for kind, name, _ in Header(old).functions} - {(name, kind) for kind, name, _ in Header(new).functions}
-        yield from (f"{name} is another function than in version {version}, or none" for name, _ in sorted(gone))
+        yield from (f"{name} has other types than in version {version}, or went" for name, *_ in sorted(types_of(old) - types_of(new)))
+        yield from (f"{what} isn't as in version {version}" for what in struct_faults(Header(old), today))
     if olds and version_of(olds[-1]) >= version_of(new):
-        late = {name for _, name, _ in Header(new).functions} - {name for old in olds for _, name, _ in Header(old).functions}
+        late = {name for _, name, _ in today.functions} - {name for old in olds for _, name, _ in Header(old).functions}
         yield from (f"{name} came after {'.'.join(map(str, version_of(olds[-1])))}, which is out: a later VERSION gives it a node"
                     for name in sorted(late))
     told = {tuple(map(int, version.split("."))) for version in re.findall(r"^## (\d+\.\d+\.\d+), \d", changes, re.M)}

@@ -84,6 +84,7 @@ enum g3_status_number {
 enum g3_coding { G3_MH = 1, G3_MMR = 2 };              /* T.4 in one dimension, T.6 */
 enum g3_order { G3_MSB_FIRST = 0, G3_LSB_FIRST = 1 }; /* which bit of an octet is first */
 
+/* how large a page is */
 typedef struct g3_size {
     uint64_t size;  /* of this struct */
     uint32_t width; /* pixels */
@@ -92,6 +93,7 @@ typedef struct g3_size {
     uint32_t spare;
 } g3_size;
 
+/* how a page is coded */
 typedef struct g3_code {
     uint32_t coding; /* G3_MH or G3_MMR */
     uint32_t order;  /* G3_MSB_FIRST or G3_LSB_FIRST */
@@ -136,6 +138,7 @@ uint32_t g3_version_number(void);
 G3_CHECK g3_status g3_page_new(g3_page *out, uint32_t width, uint32_t fine);
 /* Appends a row of the first bits of octets; later bits are ignored. G3_BAD_LENGTH: too few octets. G3_TOO_MANY_ROWS: it has 20000. */
 G3_CHECK g3_status g3_page_push_row(g3_page *page, const uint8_t *octets, size_t length);
+/* How many pixels a row has, how many rows there are, and whether they are fine. */
 G3_CHECK g3_status g3_page_size(const g3_page *page, g3_size *size);
 /* Copies row `number`, from 0 at the top. *count: the octets of a row, also where G3_NO_ROOM is answered. G3_NOTHING: no such row. */
 G3_CHECK g3_status g3_page_row(const g3_page *page, uint32_t number, uint8_t *buffer, size_t room, uint64_t *count);
@@ -223,6 +226,7 @@ G3_CHECK g3_status g3_row_reader_next(g3_row_reader *reader, uint8_t *buffer, si
 G3_CHECK g3_status g3_octets_len(const g3_octets *octets, uint64_t *count);
 /* Where they are: *data is the address of *count octets, to be read until the handle changes or is freed. Of no octets it is NULL. */
 G3_CHECK g3_status g3_octets_data(const g3_octets *octets, const uint8_t **data, uint64_t *count);
+/* Copies all of them. *count: how many there are, also where G3_NO_ROOM is answered. */
 G3_CHECK g3_status g3_octets_copy(const g3_octets *octets, uint8_t *buffer, size_t room, uint64_t *count);
 
 /* Frames (HDLC): found in bits that come in pieces of any octets, the least significant bit of each first. */
@@ -232,6 +236,7 @@ G3_CHECK g3_status g3_deframer_feed(g3_deframer *deframer, const uint8_t *octets
 /* Copies the content of the oldest good frame that wasn't handed out: 3 to 300 octets, without the check sequence. G3_NOTHING: none
  * waits. G3_NO_ROOM: room for fewer than 300 octets; nothing is handed out. */
 G3_CHECK g3_status g3_deframer_next(g3_deframer *deframer, uint8_t *buffer, size_t room, uint64_t *count);
+/* How many gaps between flags there were of each class. */
 G3_CHECK g3_status g3_deframer_counts(const g3_deframer *deframer, g3_counts *counts);
 /* Writes the frame of a content of 3 to 300 octets: a flag, the content and its check sequence with 0 bits stuffed, and a flag. *bits:
  * how many bits it has; fewer than eight 0 bits fill the last octet. */
@@ -242,6 +247,7 @@ G3_CHECK g3_status g3_document_new(g3_document *out);
 /* Moves a page to the end: its handle is empty then. The page is copied for that, so that nothing is lost where memory is refused.
  * G3_NO_ROWS: it has no row. */
 G3_CHECK g3_status g3_document_push(g3_document *document, g3_page *page);
+/* How many pages it has. */
 G3_CHECK g3_status g3_document_pages(const g3_document *document, uint64_t *count);
 /* Codes each page now, as G3_MH or G3_MMR: no call that agrees on this code codes it again. The document has the codes as long as its pages,
  * through calls, and of one code alone: those of the other one take their place. A page that is pushed later is coded when it is due.
@@ -255,6 +261,7 @@ G3_CHECK g3_status g3_document_code(g3_document *document, uint32_t coding);
 /* the modems of a station: V.27 ter alone, V.27 ter and V.29, or these and V.17 */
 enum g3_modems { G3_V27TER = 1, G3_V29 = 2, G3_V17 = 3 };
 
+/* what an answerer can do */
 typedef struct g3_caps {
     uint32_t modems; /* G3_V27TER, G3_V29 or G3_V17 */
     uint32_t t6;     /* 1: it reads T.6 beside T.4 in one dimension */
@@ -264,6 +271,7 @@ typedef struct g3_caps {
     uint32_t spare[3];
 } g3_caps;
 
+/* how a caller would send its pages */
 typedef struct g3_wish {
     uint32_t modems; /* G3_V27TER, G3_V29 or G3_V17 */
     uint32_t coding; /* G3_MH or G3_MMR; where the answerer doesn't read T.6, G3_MH is sent */
@@ -344,6 +352,7 @@ enum g3_carrier {
 const char *g3_carrier_name(uint32_t carrier);
 uint32_t g3_carrier_rate(uint32_t carrier);
 
+/* how a burst is sent */
 typedef struct g3_burst {
     uint64_t size; /* of this struct */
     uint64_t bits;
@@ -380,6 +389,7 @@ enum g3_end {
 /* Why a call ended, in English; never NULL, and not to be freed. */
 const char *g3_end_text(uint32_t end);
 
+/* how a call stands */
 typedef struct g3_state {
     uint64_t size;    /* of this struct */
     uint64_t pages;   /* of a caller, confirmed; of an answerer, stored and not taken by g3_terminal_take_page */
@@ -391,6 +401,7 @@ typedef struct g3_state {
     uint32_t end;     /* 0: the call goes on; else G3_END_.. */
     uint32_t spare;
 } g3_state;
+/* What a terminal listens for, which waits run, how many pages there are, and why its call ended. */
 G3_CHECK g3_status g3_terminal_state(const g3_terminal *terminal, g3_state *state);
 
 /* why a call is refused: a second DCS is without error correction, or has a speed, a width, lines or a code that aren't offered; or a page has
@@ -475,6 +486,7 @@ typedef struct g3_block {
     uint32_t spare[4];
 } g3_block;
 
+/* what the content of a frame says */
 typedef struct g3_signal {
     uint64_t size;       /* of this struct, with those in it */
     uint64_t length;     /* how many octets: 1 to 256 of an FCD's data, 32 of a PPR's bits */
@@ -500,6 +512,7 @@ G3_CHECK g3_status g3_signal_write(const g3_signal *signal, uint32_t side, uint3
  * it, it takes no fine lines, no speed is common */
 enum g3_reason { G3_NO_RECEIVER = 1, G3_NO_ECM = 2, G3_TOO_WIDE = 3, G3_NO_FINE = 4, G3_NO_COMMON_SPEED = 5 };
 
+/* how two stations have agreed to send pages */
 typedef struct g3_params {
     uint64_t size; /* of this struct */
     g3_dcs dcs;

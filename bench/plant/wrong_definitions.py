@@ -65,7 +65,8 @@ WRONG = {
         (MARKS, "rw (eq-eqb m.page m.page refl, eq-eqb m.block m.block refl)", "eq-eqb m.block m.block refl"),
         (TAKING, "same_itself mark =\n    and_from (nat_eq mark.page mark.page) (nat_eq mark.block mark.block) (eq-eqb mark.page mark.page refl)\n"
          "    (eq-eqb mark.block mark.block refl)", "same_itself mark = eq-eqb mark.block mark.block refl"),
-        (ENDS, "    ∙ and_from (nat_eq h.0.mark.page page) (nat_eq h.0.mark.block block) (eq-eqb h.0.mark.page page h.2) (eq-eqb h.0.mark.block block h.3)",
+        (ENDS, "    ∙ and_from (nat_eq h.0.mark.page page) (nat_eq h.0.mark.block block) (eq-eqb h.0.mark.page page h.2) "
+         "(eq-eqb h.0.mark.block block h.3)",
          "    ∙ eq-eqb h.0.mark.block block h.3"),
         (TAKING, "      let parts = and_parts (nat_eq asked.mark.page mark.page) (nat_eq asked.mark.block mark.block) same in\n"
          "      let page = eqb-true asked.mark.page mark.page parts.0 in\n      let block = eqb-true asked.mark.block mark.block parts.1 in\n"

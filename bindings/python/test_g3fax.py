@@ -321,13 +321,6 @@ class Pages(unittest.TestCase):
                 with self.assertRaises(g3fax.Invalid) as caught:
                     call()
                 self.assertEqual((caught.exception.number, isinstance(caught.exception, ValueError)), (1, True))
-        for name, call in [("limit", lambda: g3fax.Answerer(limit=0)), ("widest", lambda: g3fax.Answerer(widest=9)),
-                           ("frame", lambda: g3fax.Caller(g3fax.Document([page[1:]]), frame=9)), ("modems", lambda: g3fax.agree(Dis(), modems=4)),
-                           ("order", lambda: g3fax.decode(b"", order=2))]:
-            with self.assertRaisesRegex(g3fax.Invalid, f"no choice: {name}$") as caught:
-                call()
-            again = pickle.loads(pickle.dumps(caught.exception))
-            self.assertEqual((again.number, again.name, str(again)), (104, name, str(caught.exception)))
 
     @unittest.skipUnless(importlib.util.find_spec("numpy"), "numpy isn't there")
     def test_numpy(self):

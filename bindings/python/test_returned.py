@@ -1,7 +1,8 @@
-"""Tests what the package g3fax hands back: the document of a call, and why a page can't be read:
+"""Tests what the package g3fax hands back: the document of a call, why a page can't be read, and which number is no choice:
 
     G3FAX_LIBRARY=FOLDER/libg3fax.so.0 python3 bindings/python/test_returned.py"""
 
+import pickle
 import sys
 import unittest
 from pathlib import Path
@@ -39,6 +40,26 @@ def talk(caller, answerer, most=None):
         if not said:
             caller.wait_over(caller.state.wait)
     raise AssertionError("the call doesn't end")
+
+
+class Names(unittest.TestCase):
+    def test_wrong_choices(self):
+        """A number that stands for no choice is named, also in a copy of what is raised."""
+        answerer = g3fax.Answerer()
+        answerer.tick(9)
+        for name, call in [
+                ("limit", lambda: g3fax.Answerer(limit=0)), ("widest", lambda: g3fax.Answerer(widest=9)), ("modems", lambda: g3fax.Answerer(4)),
+                ("frame", lambda: g3fax.Caller(g3fax.Document([page(1)]), frame=9)), ("modems", lambda: g3fax.agree(g3fax.Dis(), modems=4)),
+                ("order", lambda: g3fax.decode(b"", order=2)), ("coding", lambda: g3fax.salvage(b"", coding=0)),
+                ("order", lambda: g3fax.repair(b"", order=2)), ("coding", lambda: g3fax.RowCoder(coding=3)),
+                ("order", lambda: g3fax.RowCoder(order=2)), ("coding", lambda: g3fax.RowReader(coding=3)),
+                ("order", lambda: g3fax.RowReader(order=2)), ("coding", lambda: page(1).encode(0)), ("order", lambda: page(1).encode(order=2)),
+                ("coding", lambda: g3fax.Document([page(1)]).code(3)), ("wait", lambda: answerer.wait_over(3)), ("now", lambda: answerer.tick(8)),
+                ("limit", lambda: g3fax.Answerer(limit=2).hold())]:
+            with self.assertRaisesRegex(g3fax.Invalid, f"no choice: {name}$") as caught:
+                call()
+            again = pickle.loads(pickle.dumps(caught.exception))
+            self.assertEqual((again.number, again.name, str(again)), (104, name, str(caught.exception)))
 
 
 class Documents(unittest.TestCase):

@@ -1,5 +1,6 @@
 /* The loop of a call that bindings/README.md has, for both ends of a line of virtual time: .ci/readme_programs.sh links it with this. Prints
- * how many calls there were, and ends with 0 if each ended, woke no more often than something happened, and lost no page that was confirmed. */
+ * how many calls there were, and ends with 0 if each ended, woke no more often than something happened, and confirmed no page before it was
+ * stored. */
 #include "g3fax.h"
 #include <stdio.h>
 #include <stdlib.h>
@@ -39,6 +40,7 @@ typedef struct modem {
     int mute;           /* this burst and all after it are lost; 0: none */
     long woken;
     uint64_t pages;
+    int is_early;       /* a page of an answerer was confirmed before it was stored */
     g3_status status;
 } modem;
 
@@ -127,6 +129,9 @@ g3_status modem_send(modem *line, g3_terminal *terminal)
         g3_octets_free(&octets);
         put(line, it);
         line->now = it.ends;
+        g3_progress far = G3_INIT(g3_progress);
+        if (g3_terminal_progress(terminal, &far) != G3_OK) exit(1);
+        line->is_early |= line > line->other && far.confirmed > line->pages;
     }
     return status == G3_NOTHING && any ? G3_OK : status;
 }
@@ -221,7 +226,7 @@ static uint32_t call(way it)
     for (int end = first; end < past; end++) {
         well &= g3_terminal_state(&ends[end].terminal, &state) == G3_OK && has_ended(&ends[end], &it, state.end);
     }
-    well &= g3_terminal_progress(&ends[0].terminal, &far) == G3_OK && far.confirmed <= ends[1].pages;
+    well &= g3_terminal_progress(&ends[0].terminal, &far) == G3_OK && far.confirmed <= ends[1].pages && !ends[1].is_early;
     if (g3_terminal_state(&ends[first].terminal, &state) != G3_OK) exit(1);
     if (!well) {
         printf("lost %d %d, from %d %d on, there %d, carrier at %llu, %u s: statuses %u %u, woken %ld %ld, ended at %llu %llu, confirmed %llu of %llu\n",

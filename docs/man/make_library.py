@@ -32,6 +32,9 @@ GROUPS = [
      r"g3_page|g3_pixels|g3_octets|g3_size|g3_code|g3_raster|g3_found|g3_identify|g3_status|g3_version|G3_FOUND|G3_OK|G3_MH|G3_MSB_FIRST|G3_VERSION|"
      r"G3_EMPTY|G3_INIT|G3_CHECK"),
 ]
+#: how the names of two functions end that have one comment
+TOGETHER = [("_free", "_free"), ("_wrong", "_wrong"), ("_version", "_version_number"), ("_pack", "_unpack"), ("_read_pbm", "_write_pbm"),
+            ("_carrier_name", "_carrier_rate")]
 
 
 class Item:
@@ -176,6 +179,18 @@ def untold(found, tests):
             if name in pages and status not in listed[pages[name]]]
 
 
+def bare(found):
+    """Each function and struct without a comment; and each function that has that of another one, unless their names say that it is of both."""
+    last = None
+    for item in found:
+        if not item.comment:
+            yield f"{item.name} has no comment"
+        shared = last and last.function and item.function and last.comment == item.comment
+        if shared and not any(last.function.endswith(one) and item.function.endswith(other) for one, other in TOGETHER):
+            yield f"{item.name} has the comment of {last.name}"
+        last = item
+
+
 def elsewhere(group, chosen, found, example):
     """The types, numbers and macros that a page names and another page has, a line for each such page."""
     text = "\n".join([*[f"{item.text} {item.comment}" for item in chosen], example])
@@ -232,10 +247,10 @@ def grouped(chosen):
 
 
 def faults():
-    """What the header's readers would miss: a status in its page, or what the record of a version has."""
+    """What the header's readers would miss: a comment, a status in its page, room in a struct, or what the record of a version has."""
     tests = [*sorted((TOP / "bindings/tests").glob("*.c")), TOP / "bindings/c/misuse.c"]
     header = (TOP / "bindings/g3fax.h").read_text()
-    return [*untold(items(header), "\n".join(file.read_text() for file in tests)),
+    return [*untold(items(header), "\n".join(file.read_text() for file in tests)), *bare(items(header)), *from_header.shape_faults(header),
             *from_header.record_faults(from_header.records(), header, (TOP / "CHANGELOG.md").read_text())]
 
 

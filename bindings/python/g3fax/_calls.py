@@ -64,7 +64,7 @@ class Document(_Owner):
         without a page."""
         number = _number(coding, "coding")
         with self._lock:
-            _done(_library.g3_document_code(self._at, number))
+            _done(_library.g3_document_code(self._at, number), None, "coding")
 
     def __len__(self) -> int:
         """The number of pages."""
@@ -115,14 +115,14 @@ class Terminal(_Owner):
     def wait_over(self, wait: Wait) -> None:
         """A wait is over; one that doesn't run changes nothing."""
         with self._lock:
-            _done(_library.g3_terminal_wait_over(self._at, _number(wait, "wait")))
+            _done(_library.g3_terminal_wait_over(self._at, _number(wait, "wait")), None, "wait")
 
     def tick(self, now: int, carrier: bool = False, *, ended: bool = False) -> None:
         """Tells the time, in milliseconds since the call was set up, and whether a carrier of either station is on; `ended`: that of the
         other station has just ended, so that it is this one's turn. A wait that is over on a quiet line ends: wait_over isn't called then."""
         line = 3 if _flag(ended, "ended") else 2 if _flag(carrier, "carrier") else 1
         with self._lock:
-            _done(_library.g3_terminal_tick(self._at, _number(now, "now", 64), line))
+            _done(_library.g3_terminal_tick(self._at, _number(now, "now", 64), line), None, "now")
 
     @property
     def due(self) -> Optional[int]:
@@ -247,7 +247,7 @@ class Terminal(_Owner):
             status = _library.g3_terminal_hold(self._at, page._at)
         if status == _NOTHING:
             return None
-        _done(status)
+        _done(status, None, "limit")
         return page
 
     def pages(self) -> Iterator[Page]:

@@ -77,8 +77,8 @@ class NotCompatible(Fault):
         return type(self), (self.number, int(self.reason))
 
 
-def _done(status: int, bit: Optional[int] = None, wrong: Optional[Callable[[], Any]] = None) -> None:
-    """Raises what a status above 0 says; of a number that is no choice `wrong` has the name."""
+def _done(status: int, bit: Optional[int] = None, wrong: Union[str, Callable[[], Any]] = "") -> None:
+    """Raises what a status above 0 says; `wrong` is the name of a number that is no choice, or finds it."""
     if status == _OK:
         return
     if status == _NO_MEMORY:
@@ -89,9 +89,9 @@ def _done(status: int, bit: Optional[int] = None, wrong: Optional[Callable[[], A
         raise FrameLost(status)
     if status == _NO_ROWS or 10 <= status <= 18:
         raise CodeFault(status, bit)
-    if status == _BAD_CHOICE and wrong is not None:
-        raise Invalid(status, (wrong() or b"").decode())
-    if status in (_BAD_WIDTH, _TOO_MANY_ROWS, _NOT_CALLABLE, _BAD_CHOICE, _BAD_LENGTH):
+    if status == _BAD_CHOICE:
+        raise Invalid(status, wrong if isinstance(wrong, str) else (wrong() or b"").decode())
+    if status in (_BAD_WIDTH, _TOO_MANY_ROWS, _NOT_CALLABLE, _BAD_LENGTH):
         raise Invalid(status)
     raise Fault(status)
 

@@ -6,7 +6,7 @@ import contextlib
 import ctypes
 import importlib
 import operator
-from typing import TYPE_CHECKING, Any, Dict, Iterator, Optional, Tuple, Type, Union, cast, overload
+from typing import TYPE_CHECKING, Any, Callable, Dict, Iterator, Optional, Tuple, Type, Union, cast, overload
 
 from ._native import _MISSING_EOFB, _NOTHING, _Code, _Found, _Handle, _Raster, _Size, _library, _u32, _u64
 from ._names import Coding, FileKind, Found, Order
@@ -86,7 +86,7 @@ class Page(_Owner):
         page, place, (address, length) = cls._empty(), _u64(), _octets(octets)
         code = _code(coding, order, width, fine)
         status = _library.g3_page_decode(address, length, ctypes.byref(code), page._at, ctypes.byref(place))
-        _done(status, place.value, lambda: _library.g3_code_wrong(ctypes.byref(code)))
+        _done(status, place.value, _wrong(code))
         page.bits = place.value
         return cast("_DecodedPage", page)
 
@@ -98,7 +98,7 @@ class Page(_Owner):
         page, fault, place, (address, length) = cls._empty(), _u32(), _u64(), _octets(octets)
         code = _code(coding, order, width, fine)
         status = _library.g3_page_salvage(address, length, ctypes.byref(code), page._at, ctypes.byref(fault), ctypes.byref(place))
-        _done(status, None, lambda: _library.g3_code_wrong(ctypes.byref(code)))
+        _done(status, None, _wrong(code))
         if fault.value:
             page.fault = CodeFault(fault.value, place.value)
         else:
@@ -111,7 +111,7 @@ class Page(_Owner):
         counts these."""
         page, count, (address, length) = cls._empty(), _u64(), _octets(octets)
         code = _code(Coding.MH, order, width, fine)
-        _done(_library.g3_page_repair(address, length, ctypes.byref(code), page._at, ctypes.byref(count)))
+        _done(_library.g3_page_repair(address, length, ctypes.byref(code), page._at, ctypes.byref(count)), None, _wrong(code))
         page.repaired = count.value
         return page
 
@@ -238,9 +238,9 @@ class Page(_Owner):
 
     def encode(self, coding: Coding = Coding.MMR, order: Order = Order.MSB_FIRST) -> memoryview:
         """The code of the page; 0 bits fill the last octet."""
-        out = _Handle()
+        out, code = _Handle(), _code(coding, order, 1, False)
         with self._lock:
-            _done(_library.g3_page_encode(self._at, _number(coding, "coding"), _number(order, "order"), ctypes.byref(out)))
+            _done(_library.g3_page_encode(self._at, code.coding, code.order, ctypes.byref(out)), None, _wrong(code))
         return _taken(out)
 
     def pbm(self) -> memoryview:
@@ -283,7 +283,7 @@ class RowCoder(_Owner):
     def __init__(self, width: int = 1728, coding: Coding = Coding.MMR, order: Order = Order.MSB_FIRST) -> None:
         super().__init__("g3_row_coder_free")
         code = _code(coding, order, width, False)
-        _done(_library.g3_row_coder_new(self._at, ctypes.byref(code)))
+        _done(_library.g3_row_coder_new(self._at, ctypes.byref(code)), None, _wrong(code))
 
     def append(self, octets: Buffer) -> None:
         """Codes a packed row: the first bits of (width + 7) // 8 octets or more, of one dimension: else ValueError."""
@@ -318,7 +318,7 @@ class RowReader(_Owner):
         self.fault: Optional[CodeFault] = None
         code = _code(coding, order, width, False)
         self._row = (code.width + 7) // 8
-        _done(_library.g3_row_reader_new(self._at, ctypes.byref(code)))
+        _done(_library.g3_row_reader_new(self._at, ctypes.byref(code)), None, _wrong(code))
 
     def feed(self, octets: Buffer) -> int:
         """Takes the next octets of the page, as many as there is room for, and answers how many."""
@@ -358,6 +358,11 @@ class RowReader(_Owner):
 
 def _code(coding: int, order: int, width: int, fine: bool) -> _Code:
     return _Code(_number(coding, "coding"), _number(order, "order"), _width(width), _flag(fine, "fine"))
+
+
+def _wrong(code: _Code) -> Callable[[], Any]:
+    """Finds which number of a code is no choice."""
+    return lambda: _library.g3_code_wrong(ctypes.byref(code))
 
 
 def decode(octets: Buffer, width: int = 1728, coding: Coding = Coding.MMR, order: Order = Order.MSB_FIRST) -> memoryview:
