@@ -13,7 +13,7 @@ use signals::{Signal, read};
 use std::alloc::{AllocError, Global};
 
 /// A frame that is a signal.
-#[derive(Clone, Copy, Debug)]
+#[derive(Clone, Copy)]
 pub(crate) struct Told<'a, 'b> {
     /// Its number, from 1.
     pub(crate) number: u64,

@@ -91,7 +91,7 @@ pub fn captured_frames<R: Read>(
 }
 
 /// What is drawn last.
-#[derive(Clone, Copy, Debug)]
+#[derive(Clone, Copy)]
 pub(crate) enum Before {
     /// Nothing yet.
     Nothing,
@@ -102,7 +102,7 @@ pub(crate) enum Before {
 }
 
 /// A frame, and who sent it.
-#[derive(Clone, Copy, Debug)]
+#[derive(Clone, Copy)]
 pub(crate) struct LineFrame {
     /// Who sent it.
     pub(crate) from: Side,

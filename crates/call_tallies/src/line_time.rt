@@ -49,7 +49,7 @@ fn product(one: u64, other: u64) -> Result<u64, ToolFault>
 }
 
 /// How long what is sent in one direction lasts.
-#[derive(Clone, Copy, Debug, PartialEq, Eq)]
+#[derive(Clone, Copy)]
 pub(crate) struct Clock {
     /// How many ticks an octet of a page's frame lasts.
     pub(crate) octet: u64,
@@ -149,7 +149,7 @@ fn after_items(live: &LiveCall, to: Side, first: usize, clock: Clock) -> Result<
 }
 
 /// How long what is sent in each direction lasts.
-#[derive(Clone, Copy, Debug, PartialEq, Eq)]
+#[derive(Clone, Copy)]
 pub(crate) struct Clocks {
     /// What the caller sends.
     pub(crate) to_answerer: Clock,

@@ -30,7 +30,7 @@ use std::alloc::Global;
 use std::io::Write;
 
 /// What is counted of a call.
-#[derive(Clone, Copy, Debug, PartialEq, Eq)]
+#[derive(Clone, Copy)]
 pub(crate) struct CallCounts {
     /// How many items came.
     pub(crate) deliveries: u64,
@@ -45,7 +45,7 @@ pub(crate) struct CallCounts {
 }
 
 /// What is counted of a call, and how long what was sent lasts.
-#[derive(Clone, Copy, Debug, PartialEq, Eq)]
+#[derive(Clone, Copy)]
 struct Counted {
     /// What is counted.
     counts: CallCounts,
@@ -56,7 +56,7 @@ struct Counted {
 }
 
 /// The result of one call of many.
-#[derive(Clone, Copy, Debug, PartialEq, Eq)]
+#[derive(Clone, Copy)]
 pub(crate) struct OneCall {
     /// The call's number.
     pub(crate) number: u64,

@@ -17,7 +17,7 @@ use std::marker::Model;
 const MOST_SECONDS: usize = 86_400;
 
 /// How many of many calls had the line for how many whole seconds.
-#[derive(Debug, Drop)]
+#[derive(Drop)]
 pub(crate) struct Seconds {
     /// How many calls there were.
     calls: u64,

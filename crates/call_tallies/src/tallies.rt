@@ -49,7 +49,7 @@ fn place_of(ending: Option<End>) -> usize
 }
 
 /// Numbers of many calls.
-#[derive(Clone, Copy, Debug, PartialEq, Eq)]
+#[derive(Clone, Copy)]
 pub(crate) struct Tally {
     /// How many calls there were.
     calls: u64,

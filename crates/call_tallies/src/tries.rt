@@ -18,7 +18,7 @@ use faults::ToolFault;
 use line_sim::{DrivenCall, Event, Kind, Step};
 
 /// How much is under way in a call before or after a step, and whether its caller is sending a block.
-#[derive(Clone, Copy, Debug, PartialEq, Eq)]
+#[derive(Clone, Copy)]
 pub(crate) struct Stood {
     /// How much is under way.
     counts: Counts,
@@ -28,7 +28,7 @@ pub(crate) struct Stood {
 
 /// How many tries of a call's phases were bad. A phase is a group's negotiation, or a block from its first burst to MCF; a try is one
 /// transmission of the caller, or one DIS, with its answer. It is bad if any item of it is lost or spoiled.
-#[derive(Clone, Copy, Debug, PartialEq, Eq)]
+#[derive(Clone, Copy)]
 pub(crate) struct TryCounts {
     /// How many tries of the present phase were bad.
     bad: u64,

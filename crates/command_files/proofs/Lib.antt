@@ -1,4 +1,5 @@
 -- The lemmas of what commands share.
 pub mod ApartLemmas
 mod DocumentLemmas
+mod FileRows
 pub mod SystemTextLemmas

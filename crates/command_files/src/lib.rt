@@ -5,6 +5,7 @@ pub mod command;
 pub mod context;
 pub mod error_line;
 pub mod files;
+pub mod laws;
 pub mod notices;
 pub mod streams;
 

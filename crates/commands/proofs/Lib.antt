@@ -1,4 +1,5 @@
 -- The lemmas of the commands.
+mod EachRows
 mod Given
 mod PageReports
 mod RecordData

@@ -2,6 +2,7 @@
 pub mod Captured
 pub mod Damaged
 pub mod Each
+pub mod EachRows
 pub mod Files
 pub mod FoundForms
 pub mod Judge

@@ -65,7 +65,7 @@ fault_of (page.Cut row refused) = Some refused
 fault_of (page.Lost refused) = Some refused
 fault_of (page.NotWritten refused) = Some refused
 
--- its number
+-- the number of the fault with which a page ends, if it does
 abbrev pub fault_number : PageEnd → Option ℕ
 fault_number end = option_map (λ refused. number_of (kind_of refused)) (fault_of end)
 

@@ -41,7 +41,7 @@ pub struct Tried {
 }
 
 /// How far octets fit a way to read them.
-#[derive(Clone, Copy, Debug, PartialEq, Eq)]
+#[derive(Clone, Copy)]
 pub(crate) enum Fit {
     /// They read to a page's end, and no octet comes after it.
     Whole,
@@ -272,7 +272,7 @@ fn try_own(
 }
 
 /// The widths that octets say themselves in T.4, by the order of bits: if the most significant bit is first, and if the least is.
-#[derive(Clone, Copy, Debug, PartialEq, Eq)]
+#[derive(Clone, Copy)]
 pub(crate) struct Said {
     pub(crate) msb: Option<u128>,
     pub(crate) lsb: Option<u128>,

@@ -27,7 +27,7 @@ use std::io::Write;
 use std::mem;
 
 /// What follows some pages of a file.
-#[derive(Clone, Copy, Debug, PartialEq, Eq)]
+#[derive(Clone, Copy)]
 enum Reached {
     /// Another page.
     Page,

@@ -16,7 +16,7 @@ use std::alloc::Global;
 use std::io::Write;
 
 /// How many rows of T.4 octets are in one width, if they are nothing else.
-#[derive(Clone, Copy, Debug, PartialEq, Eq)]
+#[derive(Clone, Copy)]
 struct Alone {
     width: u32,
     rows: usize,

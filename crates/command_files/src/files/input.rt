@@ -110,7 +110,7 @@ fn begins_image(octets: &[u8]) -> bool
 }
 
 /// What a file is read as.
-#[derive(Clone, Copy, Debug, PartialEq, Eq)]
+#[derive(Clone, Copy, PartialEq, Eq)]
 enum Kind {
     /// An image: if the file doesn't begin as one, its first octets are all that is read.
     Image,

@@ -4,7 +4,7 @@ use std::fs::{self, DirEntry, File, Metadata, OpenOptions, TryLockError};
 use std::time::SystemTime;
 
 /// What the program has made up a name for.
-#[derive(Clone, Copy, Debug, PartialEq, Eq)]
+#[derive(Clone, Copy)]
 enum MadeUp {
     /// A part file, or the file of a trial, which is locked while its process lives.
     Locked,

@@ -8,7 +8,7 @@ use faults::ToolFault;
 use std::fmt;
 
 /// How far a file was decoded.
-#[derive(Clone, Copy, Debug, PartialEq, Eq, Drop)]
+#[derive(Clone, Copy, Drop)]
 pub(crate) enum FileEnd {
     /// It has this number of pages, and `decode` writes nothing of any.
     Whole(u32),

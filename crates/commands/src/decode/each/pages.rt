@@ -45,7 +45,7 @@ pub(crate) struct PagesOf<'a> {
 }
 
 /// How a page of a file ends.
-#[derive(Clone, Copy, Debug, PartialEq, Eq)]
+#[derive(Clone, Copy)]
 pub(crate) enum PageEnd {
     /// It was read to the end of its code.
     Read,
@@ -62,7 +62,7 @@ pub(crate) enum PageEnd {
 }
 
 /// What follows a page.
-#[derive(Clone, Copy, Debug, PartialEq, Eq)]
+#[derive(Clone, Copy)]
 pub(crate) enum Next {
     /// Another page.
     Page,
