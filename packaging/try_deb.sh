@@ -152,25 +152,17 @@ builds static $(pkg --cflags --libs | sed 's/-lg3fax/-l:libg3fax.a/')
 ldd "$work/shared" | grep -q 'libg3fax\.so\.0' || ends "the example doesn't want libg3fax.so.0"
 ! ldd "$work/static" | grep -q g3fax || ends "the example wants libg3fax though it has the archive"
 
-# softfax is built by those flags too, in the folder where its sources are; the installed one says that a modem is busy, and with sound
-# two of it carry a page; where libspandsp-dev is, it answers over modems of a program that is built there too
+# softfax is built by those flags too, in the folder where its sources are; the installed one refuses numbers that would be commands, says that
+# a modem is busy, answers on a pty, over modems of a program that is built there too, and with sound two of it carry a page
 if [ -n "$soft" ]; then
-    bench=bench
-    echo '#include <spandsp.h>' | cc -E - > "$work/said" 2>&1 || bench=
-    # shellcheck disable=SC2086
     PKG_CONFIG_SYSROOT_DIR=$root PKG_CONFIG_LIBDIR=$root$libdir/pkgconfig PKG_CONFIG_ALLOW_SYSTEM_CFLAGS=1 \
-        PKG_CONFIG_ALLOW_SYSTEM_LIBS=1 make -s -C "$root/usr/share/doc/libg3fax-dev/c/softfax" OUT="$work/soft" CFLAGS=-O1 softfax $bench \
+        PKG_CONFIG_ALLOW_SYSTEM_LIBS=1 make -s -C "$root/usr/share/doc/libg3fax-dev/c/softfax" OUT="$work/soft" CFLAGS=-O1 softfax ptys \
         || ends "softfax isn't built from the installed library"
     LD_LIBRARY_PATH=$root$libdir "$top/packaging/try_softfax.sh" "$work/soft/softfax" || ends "softfax of the installed sources"
-    if [ -n "$bench" ]; then
-        # it is the packages' program that answers, and it needs no libg3fax; the modems' program does
-        printf '#!/bin/sh\nLD_LIBRARY_PATH="%s" exec "%s" "$@"\n' "$root$libdir" "$work/soft/bench" > "$work/modems"
-        chmod +x "$work/modems"
-        "$top/packaging/try_softfax.sh" "$root/usr/bin/softfax" "$work/modems" || ends "the installed softfax"
-    else
-        "$top/packaging/try_softfax.sh" "$root/usr/bin/softfax" || ends "the installed softfax"
-        echo "try_deb: softfax answers on no pty, since libspandsp-dev isn't installed"
-    fi
+    # it is the packages' program that answers, and it needs no libg3fax; the modems' program does
+    printf '#!/bin/sh\nLD_LIBRARY_PATH="%s" exec "%s" "$@"\n' "$root$libdir" "$work/soft/ptys" > "$work/modems"
+    chmod +x "$work/modems"
+    "$top/packaging/try_softfax.sh" "$root/usr/bin/softfax" "$work/modems" || ends "the installed softfax"
     if command -v systemd-analyze > /dev/null; then
         mkdir "$work/units"
         sed "s,=/usr/bin/,=$root/usr/bin/," "$root/usr/lib/systemd/system/softfax@.service" > "$work/units/softfax@.service"
