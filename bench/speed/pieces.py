@@ -1,11 +1,12 @@
 #!/usr/bin/env python3
-"""Counts the instructions of reading a row that doesn't end, which comes in pieces: does work grow with the octets alone?
+"""Counts the instructions of reading rows that come in pieces: does work grow with the octets alone?
 
     bench/speed/pieces.py [PIECE]
 
-Pieces have PIECE octets, 256 if no number is given. Of only 0 bits in T.6, and in T.4 runs of no pixels, fill, fill after an EOL, and fill
-after a row and three EOLs, read by a `PageReader`, as a station does, and by a `RowReader`, prints the instructions for each octet of 16, 32
-and 64 KiB, counted by valgrind's callgrind. Ends with status 1 if one takes more than 1.1 times as many an octet. Builds
+Pieces have PIECE octets, 256 if no number is given. Of rows that don't end (only 0 bits in T.6, and in T.4 runs of no pixels, fill, fill
+after an EOL, and fill after a row and three EOLs) and of combs (comb in T.4, comb6 in T.6), read by a `PageReader`, as a station does, and by
+a `RowReader`, and of a page that is repaired, a comb and lines of one bit, prints the instructions for each octet of 16, 32 and 64 KiB,
+counted by valgrind's callgrind. Ends with status 1 if one takes more than 1.1 times as many an octet. Builds
 bench/speed/pieces without proof, so the figures are above those of proved crates, or LIBRARY names its libpieces.a. Needs cc and
 valgrind."""
 
@@ -54,12 +55,12 @@ def main():
         memory = os.path.join(os.environ.get("KIT", "/opt/rattle"), "c", "liblibc_c.a")
         words = ["-std=gnu11", "-O1", "-Wall", "-Wextra", os.path.join(HERE, "pieces", "main.c"), library, memory, "-o", program]
         subprocess.run([os.environ.get("CC", "cc"), *words], check=True)
-        for row in ("zeros", "runs", "fill", "eol", "end"):
-            for reader in ("page", "rows"):
-                each = [counted(program, row, reader, str(size), piece) / (1024 * size) for size in SIZES]
-                bad = each[-1] > 1.1 * each[0]
-                grows = grows or bad
-                print(f"{row}, {reader}: {', '.join(f'{count:.1f}' for count in each)}{' !' if bad else ''}", flush=True)
+        ways = [(row, reader) for row in ("zeros", "runs", "fill", "eol", "end", "comb", "comb6") for reader in ("page", "rows")]
+        for row, reader in [*ways, ("broken", "repair")]:
+            each = [counted(program, row, reader, str(size), piece) / (1024 * size) for size in SIZES]
+            bad = each[-1] > 1.1 * each[0]
+            grows = grows or bad
+            print(f"{row}, {reader}: {', '.join(f'{count:.1f}' for count in each)}{' !' if bad else ''}", flush=True)
     return 1 if grows else 0
 
 
