@@ -26,10 +26,11 @@ pub record LateByTimes : Type 0 where
   pub earlier : first_after (Some (met 0 100)) (Some (met 5000 5099)) ≡ Some (met 5000 5099)
   pub later : first_after (Some (met 0 100)) (Some (met 5000 5101)) ≡ Some (met 0 100)
 
--- the first block of the first page, and the one after it
+-- the first block of the first page
 abbrev pub first_block : Mark
 first_block = record { page = 0; block = 0 }
 
+-- the block after the first one
 abbrev pub next_block : Mark
 next_block = record { page = 0; block = 1 }
 
