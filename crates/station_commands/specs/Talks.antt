@@ -7,7 +7,7 @@ use Rattle.std.specs.Prelude.{nat_eq, not, option_map, string_bytes, unwrap_or}
 use Rattle.calls.specs.declared.options.CallOptions.{CallOptions}
 use Rattle.station_commands.specs.CallNotes.{is_whole}
 use Rattle.station_commands.specs.Folders.{KeepsLine, end_of, held_name, limits_of}
-use Rattle.station_commands.specs.Stations.{HaltsBy, IsNoDocument, SendsFrom, as_outside, ended_of, given_wait, page_limit}
+use Rattle.station_commands.specs.Stations.{HaltsBy, IsFailure, IsNoDocument, SendsFrom, as_outside, ended_of, given_wait, page_limit}
 use Rattle.command_files.specs.declared.command.Completeness.{Completeness}
 use Rattle.station_commands.specs.declared.station.AnswerCommand.{AnswerCommand}
 use Rattle.station_commands.specs.declared.station.Confirmed.{Confirmed}
@@ -81,7 +81,7 @@ EndsTalk t lost old keeper new kept (Ok done) = LedTo t old keeper new kept Over
 EndsTalk t lost old keeper new kept (Err halted) =
     ((why : ToolFault) × LedTo t old keeper new kept (Unkept why) × (halted ≡ Fault (as_outside why)))
     ⊎ (((fault : ConverseFault ToolFault) × StoppedAt t old keeper new kept fault × HaltsBy fault halted)
-    ⊎ ((new ≡ old) × (kept ≡ keeper) × ((lost ≡ 0) ⊎ (lost ≡ 2 ^ 64 - 1)) × (halted ≡ Fault (No 9))))
+    ⊎ ((new ≡ old) × (kept ≡ keeper) × (((lost ≡ 0) × IsFailure halted) ⊎ ((lost ≡ 2 ^ 64 - 1) × (halted ≡ Fault (No 9))))))
 
 -- lines are answered until the conversation ends so, and the follower notes each
 abbrev pub FollowedTo : {S K : Type 0} → Talker S K → ConversationFields S → K → Notes → ConversationFields S → K → Notes →

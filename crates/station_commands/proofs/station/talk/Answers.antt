@@ -1,6 +1,7 @@
 -- What the check asks of `talk`.
-use Rattle.std.proofs.Common.{ℕ, add-one, ap, arith, inl, inr, refl, rules, subst, sym}
+use Rattle.std.proofs.Common.{◌≡◌, ℕ, add-one, ap, arith, inl, inr, refl, rules, subst, sym}
 use Rattle.std.proofs.lemmas.Result.{err_from_is_err_and}
+use Rattle.station_commands.specs.Stations.{as_outside}
 use Rattle.station_commands.specs.Talks.{AfterLosses}
 use Rattle.conversations.specs.Conversations.{behaviour}
 use Rattle.conversations.specs.Conversing.{talker}
@@ -23,7 +24,7 @@ returns-in_err-input-clause-talks g c =
         mid = c.args.conversation.now;
         held = c.args.keeper.now;
         before = (refl, refl);
-        ends = inr (inr (refl, refl, inl refl, p.2.0));
+        ends = inr (inr (refl, refl, inl (refl, p.2.0)));
       },
       tt,
     )
@@ -63,20 +64,21 @@ returns-in-Ok-Lost g c = record {
 }
 
 pub returns-in-Ok-Unkept-clause-talks : goal.returns-in-Ok-Unkept-clause-talks
-returns-in-Ok-Unkept-clause-talks g c = (
-  record {
-    lost = c.loop-lost._lost;
-    mid = c.loop-lost.conversation;
-    held = c.loop-lost.keeper;
-    before = c.loop-lost.invariant.0;
-    ends = inl (
-      c.in-Ok-Unkept.fault,
-      led _ _ _ _ _ _ _ _ _ _ _ _ _ c.in-Ok-Unkept.field-0-is c.in-Ok-Unkept.ensures.ends,
-      ap Fault c.outside.ensures.is,
-    );
-  },
-  tt,
-)
+returns-in-Ok-Unkept-clause-talks g c =
+    let same : c.outside.result ≡ as_outside c.in-Ok-Unkept.fault = search rules in (
+      record {
+        lost = c.loop-lost._lost;
+        mid = c.loop-lost.conversation;
+        held = c.loop-lost.keeper;
+        before = c.loop-lost.invariant.0;
+        ends = inl (
+          c.in-Ok-Unkept.fault,
+          led _ _ _ _ _ _ _ _ _ _ _ _ _ c.in-Ok-Unkept.field-0-is c.in-Ok-Unkept.ensures.ends,
+          ap Fault same,
+        );
+      },
+      tt,
+    )
 
 pub returns-in-Err : goal.returns-in-Err
 returns-in-Err g c = record {
@@ -171,7 +173,7 @@ returns-clause-talks g c = (
     mid = c.loop-lost.conversation;
     held = c.loop-lost.keeper;
     before = c.loop-lost.invariant.0;
-    ends = inr (inr (refl, refl, inr (search rules), refl));
+    ends = inr (inr (refl, refl, inr (search rules, refl)));
   },
   tt,
 )
