@@ -3,10 +3,14 @@ use Rattle.std.proofs.Common.{◌≡◌, ◌⊎◌, ◌∙◌, ◌+◌, ◌++◌
 use Rattle.std.proofs.lemmas.List.{length-append}
 use Rattle.std.specs.Prelude.{Option}
 use Rattle.conversations.specs.Conversations.{Behaviour, ConversationFields}
-use Rattle.conversations.specs.Conversing.{AnswersAll, AnswersNext, FailsToRead, StopsSo, TalkState, Talker, talk_state, unanswered}
+use Rattle.conversations.specs.Conversing.{AnswersAll, AnswersNext, Converses, ConversesFollowed, EndsSo, FailsToRead, FollowedAll, FollowedEnd, FollowedNext}
+use Rattle.conversations.specs.Conversing.{StopsSo, TalkState, Talker, talk_state}
+use Rattle.conversations.specs.declared.conversing.Ending.{Ending}
+use Rattle.conversations.specs.declared.conversing.Ending.TheVariants.{Over, Lost, Unkept}
+use Rattle.conversations.specs.Conversing.{unanswered}
 use Rattle.conversations.specs.Reading.{TakesLine as ReadsLine}
 use Rattle.conversations.specs.Reading.{TakesPart}
-use Rattle.conversations.specs.Talking.{IsNoAnswer, KeepsLine, Keeping, is_refused}
+use Rattle.conversations.specs.Talking.{AnswersFollowed, Following, IsNoAnswer, KeepsLine, Keeping, is_refused}
 use Rattle.terminals.specs.Speaking.{BurstsOf}
 use Rattle.conversations.specs.declared.talking.AnswerFault.{AnswerFault}
 use Rattle.conversations.specs.declared.talking.AnswerFault.TheVariants.{NoLine, NotHeld, OutOfTime, NoMemory, Writer, Follower}
@@ -22,12 +26,6 @@ answers_more : {S K : Type 0} (t : Talker S K) (lines : List (List ℕ)) (line :
 answers_more {S} {K} t [] line first now next e is = (next, subst (λ s. AnswersNext S K t s next line true false) e is, refl)
 answers_more t (one ∷ lines) line first now next all is = (all.0, all.1, answers_more t lines line all.0 now next all.2 is)
 
--- what was answered, of values that are equal
-pub told_so : {S K : Type 0} (t : Talker S K) (now next : TalkState S K) (line : List ℕ) (kept kept_is over over_is : Bool) →
-    AnswersNext S K t now next line kept over → kept ≡ kept_is → over ≡ over_is → AnswersNext S K t now next line kept_is over_is
-told_so {S} {K} t now next line kept kept_is over over_is is k o =
-    subst (λ b. AnswersNext S K t now next line kept_is b) o (subst (λ b. AnswersNext S K t now next line b over) k is)
-
 -- one line more is answered
 pub one_more : {S K : Type 0} (t : Talker S K) (first now next : TalkState S K) (number : ℕ) (line : List ℕ) (kept over : Bool) →
     IsTalking t first now number → AnswersNext S K t now next line kept over → kept ≡ true → over ≡ false →
@@ -36,8 +34,65 @@ one_more t first now next number line kept over h is k o = record {
   lines = h.lines ++ line ∷ [];
   answered =
       answers_more t h.lines line first now next h.answered
-      (told_so t now next line kept true over false is k o);
+      (subst (λ b. AnswersNext _ _ t now next line true b) o (subst (λ b. AnswersNext _ _ t now next line b over) k is));
   count = let long = length-append h.lines (line ∷ []) in let count = h.count in omega (arith, count, long);
+}
+
+-- lines were answered, and a follower noted each
+pub record IsFollowing {S K F : Type 0} (t : Talker S K) (f : Following F) (start now : TalkState S K) (first last : F) : Type 0 where
+  pub lines : List (List ℕ)
+  pub followed : FollowedAll t f lines start now first last
+
+followed_all : {S K F : Type 0} (t : Talker S K) (f : Following F) (lines : List (List ℕ)) (line : List ℕ) (start now next : TalkState S K)
+    (first mid last : F) → FollowedAll t f lines start now first mid → FollowedNext t f now next line true false mid last →
+    FollowedAll t f (lines ++ line ∷ []) start next first last
+followed_all {S} {K} {F} t f [] line start now next first mid last is one = (
+  next,
+  last,
+  subst (λ (s : TalkState S K). FollowedNext t f s next line true false first last) is.0
+      (subst (λ (m : F). FollowedNext t f now next line true false m last) is.1 one),
+  (refl, refl),
+)
+followed_all t f (x ∷ lines) line start now next first mid last all is =
+    (all.0, all.1, all.2, followed_all t f lines line all.0 now next all.1 mid last all.3 is)
+
+-- a line is read and answered, and a follower notes it, of values that are equal
+pub followed_so : {S K F : Type 0} (t : Talker S K) (f : Following F) (now next : TalkState S K) (line : List ℕ) (kept kept_is over over_is : Bool)
+    (first last : F) → ReadsLine now.input next.input line →
+    AnswersFollowed f t.station t.keeping t.lends line now.conversation next.conversation now.keeper next.keeper now.output next.output
+    first last kept over → kept ≡ kept_is → over ≡ over_is → FollowedNext t f now next line kept_is over_is first last
+followed_so {S} {K} t f now next line kept kept_is over over_is first last read a k o =
+    let one : FollowedNext t f now next line kept over first last = (record { read = read; answered = a.0 }, a.1) in
+    subst (λ b. FollowedNext t f now next line kept_is b first last) o (subst (λ b. FollowedNext t f now next line b over first last) k one)
+
+-- what is answered where a follower notes it
+pub answered_all : {S K F : Type 0} (t : Talker S K) (f : Following F) (lines : List (List ℕ)) (old new : TalkState S K) (first last : F) →
+    FollowedAll t f lines old new first last → AnswersAll t lines old new
+answered_all t f [] old new first last h = h.0
+answered_all t f (line ∷ lines) old new first last h = (h.0, h.2.0, answered_all t f lines h.0 new h.1 last h.3)
+
+ends_so : {S K E F : Type 0} (t : Talker S K) (f : Following F) (old new : TalkState S K) (ending : Ending E) (first last : F) →
+    FollowedEnd t f old new ending first last → EndsSo t old new ending
+ends_so t f old new Over first last h = (h.0, h.1.0)
+ends_so t f old new (Unkept why) first last h = (h.0, h.1, h.2.0)
+ends_so t f old new Lost first last h = h.0
+
+-- a conversation that a follower notes is one
+pub converses_so : {S K E F : Type 0} (t : Talker S K) (f : Following F) (old new : TalkState S K) (first last : F) (ending : Ending E) →
+    ConversesFollowed S K E F t f old new first last ending → Converses S K E t old new ending
+converses_so t f old new first last ending h = record {
+  lines = h.lines;
+  last = h.mid;
+  answered = answered_all t f h.lines old h.mid first h.noted h.answered;
+  ends = ends_so t f h.mid new ending h.noted last h.ends;
+}
+
+-- one line more is answered, and the follower notes it
+pub follows_more : {S K F : Type 0} (t : Talker S K) (f : Following F) (start now next : TalkState S K) (line : List ℕ) (first mid last : F) →
+    IsFollowing t f start now first mid → FollowedNext t f now next line true false mid last → IsFollowing t f start next first last
+follows_more t f start now next line first mid last h one = record {
+  lines = h.lines ++ line ∷ [];
+  followed = followed_all t f h.lines line start now next first mid last h.followed one;
 }
 
 same_state : {S K : Type 0} (input : Option (List ℕ)) (c d : ConversationFields S) (k l : K) (o p : Option (List ℕ)) → c ≡ d → k ≡ l →

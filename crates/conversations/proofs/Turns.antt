@@ -3,11 +3,12 @@ use Rattle.std.proofs.Common.{◌≡◌, ◌∙◌, ◌++◌, ◌∷◌, List, [
 use Rattle.std.proofs.lemmas.List.{append-nil}
 use Rattle.std.proofs.KnownBytes.{Appends-trans}
 use Rattle.std.specs.Io.KnownBytes.{Appends}
-use Rattle.std.specs.Prelude.{◌↔◌, ℕ, IsSome, IsTrue, Bool, true, false, Option, Some, None, Ok, Err, flat_map, is_none, is_some}
+use Rattle.std.specs.Prelude.{◌↔◌, ℕ, IsSome, IsTrue, Bool, true, false, Option, Some, None, Result, Ok, Err, OnOk, flat_map, is_none, is_ok, is_some}
 use Rattle.hdlc.specs.DeframerState.{DeframerState}
 use Rattle.conversations.proofs.Written.{part_after}
 use Rattle.conversations.specs.Conversations.{ConversationFields, SendsIfBegun, next_quiet}
-use Rattle.conversations.specs.Talking.{GivesAll, GivesNext, GivesSome, Withholds, WritesPart, WritesTurn, rest_text}
+use Rattle.conversations.specs.Talking.{Following, GivesAll, GivesNext, GivesSome, NotesBursts, Withholds, WritesFollowed, WritesPart}
+use Rattle.conversations.specs.Talking.{rest_text}
 use Rattle.conversations.specs.Writing.{AppendsPart, burst_line, on_lines, rest_lines}
 use Rattle.conversations.specs.declared.writing.Says.{Says}
 use Rattle.signals.specs.declared.signal.Side.{Side}
@@ -60,10 +61,17 @@ gives_end : {S : Type 0} (side : Side) (lends : BurstsOf S) (done : List SentBur
 gives_end {S} side lends [] first now new is none = subst (λ (c : ConversationFields S). GivesNext side lends c None new) is none
 gives_end side lends (x ∷ done) first now new is none = (is.0, is.1, gives_end side lends done is.0 now new is.2 none)
 
+-- some bursts were given and written, and a follower noted each
+abbrev pub IsNoting : {S F : Type 0} → Following F → ℕ → F → F → Bool → Side → BurstsOf S → ConversationFields S → ConversationFields S →
+    Option (List ℕ) → Option (List ℕ) → Type 0
+IsNoting f at began noted frames side lends first now before here =
+    (way : IsGiving frames side lends first now before here) × NotesBursts f at began way.done noted
+
 -- before the first burst
-pub begins_giving : {S : Type 0} (frames : Bool) (side : Side) (lends : BurstsOf S) (first : ConversationFields S) (before : Option (List ℕ)) →
-    Appends before before [] → IsGiving frames side lends first first before before
-begins_giving frames side lends first before nothing = record { done = []; some = refl; written = nothing }
+pub begins_giving : {S F : Type 0} (f : Following F) (at : ℕ) (began : F) (frames : Bool) (side : Side) (lends : BurstsOf S)
+    (first : ConversationFields S) (before : Option (List ℕ)) → Appends before before [] →
+    IsNoting f at began began frames side lends first first before before
+begins_giving f at began frames side lends first before nothing = (record { done = []; some = refl; written = nothing }, refl)
 
 flat_push : (line : SentBurst → List ℕ) (xs : List SentBurst) (x : SentBurst) →
     flat_map line (xs ++ x ∷ []) ≡ flat_map line xs ++ line x
@@ -71,30 +79,46 @@ flat_push line [] x = append-nil (line x)
 flat_push line (y ∷ xs) x =
     ap (λ (l : List ℕ). line y ++ l) (flat_push line xs x) ∙ sym (append_assoc (line y) (flat_map line xs) (line x))
 
--- one burst more is given and written
-pub one_given : {S : Type 0} (frames : Bool) (side : Side) (lends : BurstsOf S) (first now next : ConversationFields S)
-    (before here after : Option (List ℕ)) (burst : SentBurst) → IsGiving frames side lends first now before here →
-    GivesNext side lends now (Some burst) next → Appends here after (burst_line frames burst) → IsGiving frames side lends first next before after
-one_given frames side lends first now next before here after burst way gives line = record {
-  done = way.done ++ burst ∷ [];
-  written =
-      subst (λ (l : List ℕ). Appends before after l) (sym (flat_push (burst_line frames) way.done burst))
-      (Appends-trans before here after (flat_map (burst_line frames) way.done) (burst_line frames burst) way.written line);
-  some = gives_more side lends way.done burst first now next way.some gives;
-}
+-- one burst more is noted
+pub notes_more : {F : Type 0} (f : Following F) (at : ℕ) (first now next : F) (done : List SentBurst) (burst : SentBurst) →
+    NotesBursts f at first done now → f.says now at burst next → NotesBursts f at first (done ++ burst ∷ []) next
+notes_more {F} f at first now next [] burst is says = (next, subst (λ (v : F). f.says v at burst next) is says, refl)
+notes_more f at first now next (x ∷ done) burst is says = (is.0, is.1, notes_more f at is.0 now next done burst is.2 says)
+
+-- one burst more is given and written, and noted
+pub one_given : {S F : Type 0} (f : Following F) (at : ℕ) (began noted next_noted : F) (frames : Bool) (side : Side) (lends : BurstsOf S)
+    (first now next : ConversationFields S) (before here after : Option (List ℕ)) (burst : SentBurst) →
+    IsNoting f at began noted frames side lends first now before here → GivesNext side lends now (Some burst) next →
+    Appends here after (burst_line frames burst) → f.says noted at burst next_noted →
+    IsNoting f at began next_noted frames side lends first next before after
+one_given f at began noted next_noted frames side lends first now next before here after burst way gives line says = (
+  record {
+    done = way.0.done ++ burst ∷ [];
+    written =
+        subst (λ (l : List ℕ). Appends before after l) (sym (flat_push (burst_line frames) way.0.done burst))
+        (Appends-trans before here after (flat_map (burst_line frames) way.0.done) (burst_line frames burst) way.0.written line);
+    some = gives_more side lends way.0.done burst first now next way.0.some gives;
+  },
+  notes_more f at began noted next_noted way.0.done burst way.1 says,
+)
 
 -- no burst is left, and what comes after them is written
-pub turn_written : {S : Type 0} (side : Side) (lends : BurstsOf S) (shows : S → Shown → Type 0) (first now new : ConversationFields S)
-    (before here after : Option (List ℕ)) (over : Bool) → IsGiving first.says.frames side lends first now before here →
-    GivesNext side lends now None new → (shown : Shown) → shows new.terminal.speaking.station shown → (IsTrue over ↔ IsSome shown.end) →
-    Appends here after (rest_text side new shown) → WritesTurn S side lends shows first new before after over
-turn_written side lends shows first now new before here after over way none shown so is_over rest = record {
-  bursts = way.done;
-  gives = gives_end side lends way.done first now new way.some none;
-  rest = rest_text side new shown;
-  says_rest = (shown, so, is_over, refl);
-  writes = Appends-trans before here after (flat_map (burst_line first.says.frames) way.done) (rest_text side new shown) way.written rest;
-}
+pub turn_written : {S F : Type 0} (f : Following F) (at : ℕ) (began noted : F) (side : Side) (lends : BurstsOf S)
+    (shows : S → Shown → Type 0) (first now new : ConversationFields S) (before here after : Option (List ℕ)) (over : Bool) →
+    IsNoting f at began noted first.says.frames side lends first now before here → GivesNext side lends now None new → (shown : Shown) →
+    shows new.terminal.speaking.station shown → (IsTrue over ↔ IsSome shown.end) → Appends here after (rest_text side new shown) →
+    WritesFollowed f side lends shows first new before after at began noted over
+turn_written f at began noted side lends shows first now new before here after over way none shown so is_over rest = (
+  record {
+    bursts = way.0.done;
+    gives = gives_end side lends way.0.done first now new way.0.some none;
+    rest = rest_text side new shown;
+    says_rest = (shown, so, is_over, refl);
+    writes =
+        Appends-trans before here after (flat_map (burst_line first.says.frames) way.0.done) (rest_text side new shown) way.0.written rest;
+  },
+  way.1,
+)
 
 -- what is said after the bursts, of values that are equal
 pub rest_is : {S : Type 0} (side : Side) (c : ConversationFields S) (shown : Shown) (says : Says) (begun : Bool) (at : Option ℕ) →
@@ -171,3 +195,11 @@ pub gave_last : {S : Type 0} (side : Side) (lends : BurstsOf S) (first now new :
     HasGiven side lends first now → GivesNext side lends now sent new → is_none sent ≡ true → Withholds side lends first true new
 gave_last side lends first now new None way gives is = (way.0, gives_end side lends way.0 first now new way.1 gives)
 gave_last side lends first now new (Some burst) way gives is = cc is
+
+-- ---- what is made of a fault
+
+-- what holds of a call that went well, whatever is made of its fault
+pub went_well : {T D E P : Type 0} (called : Result T E) (made : Result T D) → is_ok made ≡ is_ok called → is_ok made ≡ true →
+    OnOk called P → P
+went_well (Ok v) made same is h = h
+went_well (Err e) made same is h = let no : false ≡ true = sym same ∙ is in cc no

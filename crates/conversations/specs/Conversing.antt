@@ -5,7 +5,7 @@ use Rattle.conversations.specs.Conversations.{Behaviour, ConversationFields, IsO
 use Rattle.conversations.specs.Lines.{Says, SaysNothing}
 use Rattle.conversations.specs.Reading.{TakesPart, TakesTooMany}
 use Rattle.conversations.specs.Reading.{TakesLine as ReadsLine}
-use Rattle.conversations.specs.Talking.{Answers, BreaksOff, Keeping}
+use Rattle.conversations.specs.Talking.{Answers, BreaksOff, Following, Follows, Keeping}
 use Rattle.conversations.specs.declared.conversing.ConverseFault.{ConverseFault}
 use Rattle.conversations.specs.declared.conversing.ConverseFault.TheVariants.{Line, NoMemory, Reader, Writer, Follower, TooManyLines}
 use Rattle.conversations.specs.declared.conversing.Ending.{Ending}
@@ -76,6 +76,34 @@ pub record Converses (S K E : Type 0) (t : Talker S K) (old new : TalkState S K)
   pub last : TalkState S K
   pub answered : AnswersAll t lines old last
   pub ends : EndsSo t last new ending
+
+-- the next line is read and answered, and a follower notes it
+abbrev pub FollowedNext :
+    {S K F : Type 0} → Talker S K → Following F → TalkState S K → TalkState S K → List ℕ → Bool → Bool → F → F → Type 0
+FollowedNext {S} {K} t f old new line kept over first last =
+    (next : AnswersNext S K t old new line kept over) × Follows f next.answered first last
+
+-- lines are read and answered one after the other, and a follower notes each
+abbrev pub FollowedAll : {S K F : Type 0} → Talker S K → Following F → List (List ℕ) → TalkState S K → TalkState S K → F → F → Type 0
+FollowedAll t f [] old new first last = (new ≡ old) × (last ≡ first)
+FollowedAll {S} {K} {F} t f (line ∷ lines) old new first last = (next : TalkState S K) × (mid : F)
+    × FollowedNext t f old next line true false first mid × FollowedAll t f lines next new mid last
+
+-- the end of a conversation, as `EndsSo` has it, and a follower notes it
+abbrev pub FollowedEnd : {S K E F : Type 0} → Talker S K → Following F → TalkState S K → TalkState S K → Ending E → F → F → Type 0
+FollowedEnd t f old new Over first last = (line : List ℕ) × FollowedNext t f old new line true true first last
+FollowedEnd t f old new (Unkept why) first last =
+    (line : List ℕ) × (over : Bool) × FollowedNext t f old new line false over first last
+FollowedEnd {S} {K} t f old new Lost first last = LosesLine S K t old new × (last ≡ first)
+
+-- lines are read and answered until the conversation ends, and a follower notes each of them
+pub record ConversesFollowed (S K E F : Type 0) (t : Talker S K) (f : Following F) (old new : TalkState S K) (first last : F)
+    (ending : Ending E) : Type 0 where
+  pub lines : List (List ℕ)
+  pub mid : TalkState S K
+  pub noted : F
+  pub answered : FollowedAll t f lines old mid first noted
+  pub ends : FollowedEnd t f mid new ending noted last
 
 -- a line that can't come now: its keeper can't take it, or its time can't follow
 abbrev pub CannotCome : {S K : Type 0} → Talker S K → TalkState S K → TimedLine → Type 0

@@ -9,6 +9,7 @@ use Rattle.conversations.specs.declared.line.TimedLine.{TimedLine}
 use Rattle.conversations.specs.declared.talking.AnswerFault.{AnswerFault}
 use Rattle.conversations.specs.declared.talking.AnswerFault.TheVariants.{NoLine, NotHeld, OutOfTime, NoMemory, Writer, Follower}
 use Rattle.signals.specs.declared.signal.Side.{Side}
+use Rattle.terminals.specs.Sending.{HasBurst}
 use Rattle.terminals.specs.Speaking.{BurstsOf}
 use Rattle.terminals.specs.declared.sending.SentBurst.{SentBurst}
 use Rattle.terminals.specs.declared.stopping.Shown.{Shown}
@@ -101,6 +102,64 @@ pub record Answers (S K : Type 0) (b : Behaviour S) (k : Keeping S K) (lends : B
   pub tells : Appends before told (k.tells kept_in)
   pub withholds : Withholds b.side lends ready late left
   pub writes : WritesTurn S b.side lends b.shows left new told after over
+
+-- A follower as a conversation knows it: what it notes of a line that the station hears; whether it finds that the answer to the line of a
+-- time comes too late; and what it notes of a burst that is sent in answer to the line of a time.
+pub record Following (F : Type 0) : Type 1 where
+  pub hears : F → TimedLine → F → Type 0
+  pub judges : F → ℕ → Bool → F → Type 0
+  pub says : F → ℕ → SentBurst → F → Type 0
+
+-- a follower, of its three parts
+abbrev pub following :
+    {F : Type 0} → (F → TimedLine → F → Type 0) → (F → ℕ → Bool → F → Type 0) → (F → ℕ → SentBurst → F → Type 0) → Following F
+following hears judges says = record { hears = hears; judges = judges; says = says }
+
+-- a follower notes a line, if the station has begun (Bool)
+abbrev pub NotesLine : {F : Type 0} → Following F → Bool → F → TimedLine → F → Type 0
+NotesLine f true first line last = f.hears first line last
+NotesLine f false first line last = last ≡ first
+
+-- a follower finds that the answer to the line of a time comes too late, or that it doesn't
+abbrev pub FindsLate : {F : Type 0} → Following F → F → ℕ → Bool → F → Type 0
+FindsLate f first at late last = f.judges first at late last
+
+-- a follower is asked whether the answer to the line of a time comes too late, if a burst is left (first Bool); and it does, or doesn't
+abbrev pub JudgesTurn : {F : Type 0} → Following F → Bool → F → ℕ → Bool → F → Type 0
+JudgesTurn f true first at late last = FindsLate f first at late last
+JudgesTurn f false first at late last = (late ≡ false) × (last ≡ first)
+
+-- a follower notes bursts in order
+abbrev pub NotesBursts : {F : Type 0} → Following F → ℕ → F → List SentBurst → F → Type 0
+NotesBursts f at first [] last = last ≡ first
+NotesBursts {F} f at first (burst ∷ bursts) last = (mid : F) × f.says first at burst mid × NotesBursts f at mid bursts last
+
+-- What a follower notes of a line that is answered: the line, and each burst that is sent. The answer is withheld if, and only if, the follower
+-- finds that it comes too late.
+pub record Follows {S K F : Type 0} (f : Following F) {b : Behaviour S} {k : Keeping S K} {lends : BurstsOf S} {line : List ℕ}
+    {old new : ConversationFields S} {keeper kept_in : K} {before after : Option (List ℕ)} {kept over : Bool}
+    (a : Answers S K b k lends line old new keeper kept_in before after kept over) (first last : F) : Type 0 where
+  pub heard : F
+  pub asked : F
+  pub some : Bool
+  pub hears : NotesLine f old.begun first a.timed heard
+  pub has_burst : HasBurst lends a.ready.terminal.speaking some
+  pub judges : JudgesTurn f some heard a.timed.at a.late asked
+  pub says : NotesBursts f a.timed.at asked a.writes.bursts last
+
+-- a line is answered, and a follower notes it
+abbrev pub AnswersFollowed :
+    {S K F : Type 0} → Following F → Behaviour S → Keeping S K → BurstsOf S → List ℕ → ConversationFields S → ConversationFields S →
+    K → K → Option (List ℕ) → Option (List ℕ) → F → F → Bool → Bool → Type 0
+AnswersFollowed {S} {K} f b k lends line old new keeper kept_in before after first last kept over =
+    (a : Answers S K b k lends line old new keeper kept_in before after kept over) × Follows f a first last
+
+-- the bursts that are left are given and the lines of the answer written, and a follower notes each burst
+abbrev pub WritesFollowed :
+    {S F : Type 0} → Following F → Side → BurstsOf S → (S → Shown → Type 0) → ConversationFields S → ConversationFields S →
+    Option (List ℕ) → Option (List ℕ) → ℕ → F → F → Bool → Type 0
+WritesFollowed {S} f side lends shows old new before after at first last over =
+    (turn : WritesTurn S side lends shows old new before after over) × NotesBursts f at first turn.bursts last
 
 -- what the keeper says was written in part, and nothing else: bursts may have been given, but none was sent
 abbrev pub TellsPart : {S K : Type 0} → Behaviour S → Keeping S K → BurstsOf S → ConversationFields S → ConversationFields S → K →

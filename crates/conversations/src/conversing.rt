@@ -1,7 +1,7 @@
 //! A whole conversation: the lines of a reader, answered one after the other until the call is over.
 
 ghost use Rattle.conversations.specs.Conversations.{RefusesLine, TakesLine, behaviour};
-ghost use Rattle.conversations.specs.Conversing.{Converses, StopsSo, lost_at, talk_state, talker, unanswered};
+ghost use Rattle.conversations.specs.Conversing.{ConversesFollowed, StopsSo, lost_at, talk_state, talker, unanswered};
 ghost use Rattle.conversations.specs.Talking.{keeping};
 ghost use Rattle.std.specs.Prelude.{◌≡◌, IfErr, IfOk, OnErr, OnOk};
 
@@ -86,10 +86,12 @@ pub fn converse<S: Stoppable, R: BufRead, K: Keeper<S>, W: Write, F: Follower>(
     follower: &mut F,
 ) -> Result<Ending<K::Refused>, ConverseFault<F::Failed>>
     ensures ends { IfOk result (λ ending.
-        Converses S K K.Refused
-        (talker (behaviour S.sends S.steps S.lends S.shows S.cut_off S.stop_says) (keeping K.keeps K.takes K.tells) S.lends)
+        ConversesFollowed S K K.Refused F
+        (talker (behaviour S.sends S.steps S.lends S.shows S.cut_off S.stop_says)
+        (keeping K.keeps K.takes K.tells) S.lends) F.notes
         (talk_state (R.remaining reader.old) conversation.old keeper.old (W.contents writer.old))
-        (talk_state (R.remaining reader.new) conversation.new keeper.new (W.contents writer.new)) ending) }
+        (talk_state (R.remaining reader.new) conversation.new keeper.new (W.contents writer.new))
+        follower.old follower.new ending) }
     ensures stops { IfErr result (λ fault.
         StopsSo (talker (behaviour S.sends S.steps S.lends S.shows S.cut_off S.stop_says) (keeping K.keeps K.takes K.tells) S.lends)
         (talk_state (R.remaining reader.old) conversation.old keeper.old (W.contents writer.old))

@@ -1,9 +1,11 @@
 //! A station that talks: it takes a line of text, keeps what that brings, and writes the bursts of its turn and a word.
 
 ghost use Rattle.conversations.specs.Conversations.{ConversationFields, behaviour};
-ghost use Rattle.conversations.specs.Talking.{Answers, GivesSome, IsNoAnswer, Withholds, WritesPart, WritesTurn, is_refused, keeping};
+ghost use Rattle.conversations.specs.Talking.{AnswersFollowed, FindsLate, Following, GivesSome, IsNoAnswer, JudgesTurn, NotesLine, Withholds};
+ghost use Rattle.conversations.specs.Talking.{WritesFollowed, WritesPart, is_refused, keeping};
 ghost use Rattle.conversations.specs.declared.line.Said.{Said as SaidValue};
 ghost use Rattle.std.specs.Prelude.{◌≡◌, ℕ, Bool, IfErr, IfOk, List, OnErr, OnOk, false, is_none, true};
+ghost use Rattle.terminals.specs.Sending.{HasBurst};
 ghost use Rattle.terminals.specs.declared.sending.SentBurst.{SentBurst as SentValue};
 
 use crate::conversation::{Conversation, TakeFault};
@@ -46,19 +48,25 @@ pub trait Keeper<S: Stoppable> {
         ensures { result.now ≡ tells self.now };
 }
 
-/// Observes a conversation, for example to write a trace, and changes nothing of it.
+/// Observes a conversation, for example to write a trace, and changes nothing of it but that late answers aren't sent.
 pub trait Follower {
+    // What it notes of lines and of bursts, and how it judges whether an answer comes too late.
+    ghost notes: { Following Self };
+
     /// Why the follower can't go on.
     type Failed: Drop;
 
     /// A station that listens for this takes a line.
-    fn heard(&mut self, listens: Listening, line: &TimedLine) -> Result<(), Self::Failed>;
+    fn heard(&mut self, listens: Listening, line: &TimedLine) -> Result<(), Self::Failed>
+        ensures { OnOk result (notes.hears self.old line.now self.new) };
 
     /// Whether the answer to the line of this time, in milliseconds, comes too late to be sent.
-    fn is_late(&mut self, at: u64) -> bool;
+    fn is_late(&mut self, at: u64) -> bool
+        ensures { FindsLate notes self.old at result self.new };
 
     /// A burst is sent, in answer to the line of this time, in milliseconds.
-    fn said(&mut self, at: u64, burst: &SentBurst) -> Result<(), Self::Failed>;
+    fn said(&mut self, at: u64, burst: &SentBurst) -> Result<(), Self::Failed>
+        ensures { OnOk result (notes.says self.old at burst.now self.new) };
 }
 
 /// Why a line wasn't answered.
@@ -120,8 +128,9 @@ pub fn write_turn<S: Stoppable, W: Write, F: Follower>(
     writer: &mut W,
     follower: &mut F,
 ) -> Result<bool, AnswerFault<F::Failed>>
-    ensures ok { IfOk result (λ over.
-        WritesTurn S S.sends S.lends S.shows conversation.old conversation.new (W.contents writer.old) (W.contents writer.new) over) }
+    ensures ok { IfOk result (λ over. WritesFollowed F.notes S.sends S.lends S.shows
+        conversation.old conversation.new (W.contents writer.old) (W.contents writer.new)
+        at follower.old follower.new over) }
     ensures part { OnErr result
         (WritesPart S S.sends S.lends S.shows conversation.old conversation.new (W.contents writer.old) (W.contents writer.new)) }
     ensures late { IfErr result (λ fault. is_refused fault ≡ false) }
@@ -141,13 +150,35 @@ pub fn write_turn<S: Stoppable, W: Write, F: Follower>(
     Err(AnswerFault::NoMemory)
 }
 
+/// Tells the follower of a line that the station takes, if the station has begun.
+fn follow_line<S: Stoppable, F: Follower>(
+    conversation: &Conversation<S>,
+    line: &TimedLine,
+    follower: &mut F,
+) -> Result<(), F::Failed>
+    ensures { OnOk result
+        (NotesLine F.notes conversation.now.begun follower.old line.now follower.new) }
+{
+    if !conversation.has_begun() {
+        return Ok(());
+    }
+    let listens = conversation.terminal().shown().listens;
+    follower.heard(listens, line)
+}
+
 /// Whether there are bursts, and the follower says that they come too late in answer to the line of this time.
 fn comes_late<S: Stoppable, F: Follower>(
     conversation: &Conversation<S>,
     at: u64,
     follower: &mut F,
-) -> bool {
-    conversation.terminal().has_burst() && follower.is_late(at)
+) -> bool
+    ensures { (some : Bool) × HasBurst S.lends conversation.now.terminal.speaking some
+        × JudgesTurn F.notes some follower.old at result follower.new }
+{
+    if !conversation.terminal().has_burst() {
+        return false;
+    }
+    follower.is_late(at)
 }
 
 /// Gives the bursts that are left of the turn, if the answer comes too late, so that none of them is sent. Errs if memory is refused.
@@ -180,10 +211,11 @@ pub fn answer<S: Stoppable, K: Keeper<S>, W: Write, F: Follower>(
     writer: &mut W,
     follower: &mut F,
 ) -> Result<Answered<K::Refused>, AnswerFault<F::Failed>>
-    ensures ok { IfOk result (λ answer.
-        Answers S K (behaviour S.sends S.steps S.lends S.shows S.cut_off S.stop_says) (keeping K.keeps K.takes K.tells) S.lends line.now
-        conversation.old conversation.new keeper.old keeper.new (W.contents writer.old) (W.contents writer.new) (is_none answer.unkept)
-        answer.over) }
+    ensures ok { IfOk result (λ answer. AnswersFollowed F.notes
+        (behaviour S.sends S.steps S.lends S.shows S.cut_off S.stop_says)
+        (keeping K.keeps K.takes K.tells) S.lends line.now
+        conversation.old conversation.new keeper.old keeper.new (W.contents writer.old)
+        (W.contents writer.new) follower.old follower.new (is_none answer.unkept) answer.over) }
     ensures none { IfErr result (λ fault. IsNoAnswer (behaviour S.sends S.steps S.lends S.shows S.cut_off S.stop_says)
         (keeping K.keeps K.takes K.tells) S.lends line.now conversation.old conversation.new keeper.old keeper.new
         (W.contents writer.old) (W.contents writer.new) fault) }
@@ -198,12 +230,7 @@ pub fn answer<S: Stoppable, K: Keeper<S>, W: Write, F: Follower>(
     if !keeper.can_take(&timed.said) {
         return Err(AnswerFault::NotHeld);
     }
-    if conversation.has_begun() {
-        let listens = conversation.terminal().shown().listens;
-        follower
-            .heard(listens, &timed)
-            .map_err(AnswerFault::Follower)?;
-    }
+    follow_line(conversation, &timed, follower).map_err(AnswerFault::Follower)?;
     match conversation.take(&timed) {
         Ok(()) => {}
         Err(TakeFault::OutOfTime) => return Err(AnswerFault::OutOfTime),

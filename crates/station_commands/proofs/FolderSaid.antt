@@ -25,7 +25,7 @@ use Rattle.signals.specs.declared.signal.Side.{Side}
 use Rattle.station_commands.proofs.FolderBooks.{between_both, between_each, books_both, counts, folder_keeps_all}
 use Rattle.station_commands.specs.FolderBooks.{AcceptedAreFiled, AnswerersAreNew, StoredBetween, accepted_in, FilesWhatIsSaid, FolderBook, FolderIsSaid, FolderKeeps, StationFiles, StationsFileWhatIsSaid, StoresSo}
 use Rattle.station_commands.specs.Folders.{StoresPage, FolderRefuses, FolderStores, KeepsLine, KeepsPages, ended_late, held_name, is_full, is_late}
-use Rattle.station_commands.specs.Talks.{AfterLosses, AnswerTalks, EndsTalk, LedTo, folder_talker, receiving}
+use Rattle.station_commands.specs.Talks.{AfterLosses, AnswerTalks, EndsTalk, LedTo, StoppedAt, folder_talker, receiving}
 use Rattle.station_commands.specs.declared.station.AnswerCommand.{AnswerCommand}
 use Rattle.station_commands.specs.declared.station.Halted.{Halted}
 use Rattle.station_commands.specs.declared.station.Talked.{Talked}
@@ -348,14 +348,18 @@ module _ (said : StoredIsSaid Folder FolderStores FolderRefuses) (heard : LineIs
   led_filed last kept ending h =
       ends_filed said heard caps (talk_state h.0 first folder h.2) is holds held (talk_state h.1 last kept h.3) ending h.4
 
-  talk_filed : (last : ConversationFields LimitedFields) (kept : Folder) (ended : Result (Unit {0}) Halted) →
-      EndsTalk folder_talker first folder last kept ended → (lines : List (List ℕ)) × FilesWhatIsSaid caps lines folder kept
-  talk_filed last kept (Ok done) (inl led) = led_filed last kept Over led
-  talk_filed last kept (Ok done) (inr led) = led_filed last kept Lost led
-  talk_filed last kept (Err halted) (inl led) = led_filed last kept (Unkept led.0) led.1
-  talk_filed last kept (Err halted) (inr (inl h)) =
-      stops_filed said heard caps (talk_state h.1.0 first folder h.1.2) is holds held (talk_state h.1.1 last kept h.1.3) h.0 h.1.4
-  talk_filed last kept (Err halted) (inr (inr h)) =
+  stopped_filed : (last : ConversationFields LimitedFields) (kept : Folder) (fault : ConverseFault ToolFault) →
+      StoppedAt folder_talker first folder last kept fault → (lines : List (List ℕ)) × FilesWhatIsSaid caps lines folder kept
+  stopped_filed last kept fault h =
+      stops_filed said heard caps (talk_state h.0 first folder h.2) is holds held (talk_state h.1 last kept h.3) fault h.4
+
+  talk_filed : (lost : ℕ) (last : ConversationFields LimitedFields) (kept : Folder) (ended : Result (Unit {0}) Halted) →
+      EndsTalk folder_talker lost first folder last kept ended → (lines : List (List ℕ)) × FilesWhatIsSaid caps lines folder kept
+  talk_filed lost last kept (Ok done) (inl led) = led_filed last kept Over led
+  talk_filed lost last kept (Ok done) (inr led) = led_filed last kept Lost led
+  talk_filed lost last kept (Err halted) (inl led) = led_filed last kept (Unkept led.0) led.1
+  talk_filed lost last kept (Err halted) (inr (inl h)) = stopped_filed last kept h.0 h.1
+  talk_filed lost last kept (Err halted) (inr (inr h)) =
       ([], same_filed said heard caps (talk_state None first folder None) is holds held [] (talk_state None first folder None) kept refl h.1)
 
 none_lost : (n : ℕ) (old mid : ConversationFields LimitedFields) (keeper held : Folder) → n ≡ 0 → AfterLosses folder_talker n old keeper mid held →
@@ -377,11 +381,11 @@ answerers_are_new command c begins = record {
 pub stations_file : StoredIsSaid Folder FolderStores FolderRefuses → LineIsSaid Folder FolderStores FolderRefuses → StationsFileWhatIsSaid
 stations_file said heard command talked itself t none =
     let from = none_lost t.talks.lost t.first t.talks.mid t.folder t.talks.held none t.talks.before in
-    let ends : EndsTalk folder_talker t.first t.folder t.last t.kept t.ended =
-    subst (λ c. EndsTalk folder_talker c t.folder t.last t.kept t.ended) from.0
-    (subst (λ f. EndsTalk folder_talker t.talks.mid f t.last t.kept t.ended) from.1 t.talks.ends) in
-    let files = talk_filed said heard (receiving command.caps) t.first t.folder (answerers_are_new command t.first t.begins) (t.empty.holds ∙ itself) t.empty.held t.last t.kept t.ended
-    ends in
+    let ends : EndsTalk folder_talker t.talks.lost t.first t.folder t.last t.kept t.ended =
+    subst (λ c. EndsTalk folder_talker t.talks.lost c t.folder t.last t.kept t.ended) from.0
+    (subst (λ f. EndsTalk folder_talker t.talks.lost t.talks.mid f t.last t.kept t.ended) from.1 t.talks.ends) in
+    let files = talk_filed said heard (receiving command.caps) t.first t.folder (answerers_are_new command t.first t.begins) (t.empty.holds ∙ itself) t.empty.held t.talks.lost
+    t.last t.kept t.ended ends in
     record {
       lines = files.0;
       first = t.folder;

@@ -8,3 +8,4 @@ mod FromLemmas
 mod HeardData
 mod NoteLemmas
 mod TalkLemmas
+mod Sent

@@ -1,11 +1,14 @@
 -- The definitions of `dial` and `answer`.
 pub mod CallNotes
+pub mod CallRows
 pub mod EndRecords
 pub mod Figures
 pub mod Files
 pub mod FolderBooks
 pub mod Folders
+pub mod Following
 pub mod Lateness
 pub mod NoLines
+pub mod Sent
 pub mod Stations
 pub mod Talks

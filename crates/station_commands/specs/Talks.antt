@@ -7,23 +7,25 @@ use Rattle.std.specs.Prelude.{nat_eq, not, option_map, string_bytes, unwrap_or}
 use Rattle.calls.specs.declared.options.CallOptions.{CallOptions}
 use Rattle.station_commands.specs.CallNotes.{is_whole}
 use Rattle.station_commands.specs.Folders.{KeepsLine, end_of, held_name, limits_of}
-use Rattle.station_commands.specs.Stations.{IsNoDocument, SendsFrom, ended_of, given_wait, page_limit}
+use Rattle.station_commands.specs.Stations.{HaltsBy, IsFailure, IsNoDocument, SendsFrom, as_outside, ended_of, given_wait, page_limit}
 use Rattle.command_files.specs.declared.command.Completeness.{Completeness}
 use Rattle.station_commands.specs.declared.station.AnswerCommand.{AnswerCommand}
 use Rattle.station_commands.specs.declared.station.Confirmed.{Confirmed}
 use Rattle.station_commands.specs.declared.station.DialCommand.{DialCommand}
 use Rattle.station_commands.specs.declared.station.Halted.{Halted}
+use Rattle.station_commands.specs.declared.station.Halted.TheVariants.{Fault}
 use Rattle.station_commands.specs.declared.station.Talked.{Talked}
 use Rattle.station_commands.specs.declared.station.folder.Folder.{Folder}
 use Rattle.station_commands.specs.declared.station.given.GivenWaits.{GivenWaits}
-use Rattle.station_commands.specs.declared.station.notes.Noted.{Noted}
+use Rattle.station_commands.specs.declared.station.notes.Notes.{Notes}
+use Rattle.station_commands.specs.Following.{IsNewFollower, station_follower}
 use Rattle.conversations.specs.Answering.{limited_behaviour}
-use Rattle.conversations.specs.Conversations.{ConversationFields}
-use Rattle.conversations.specs.Conversing.{Converses, StopsSo, Talker, talk_state, talker}
+use Rattle.conversations.specs.Conversations.{Behaviour, ConversationFields}
+use Rattle.conversations.specs.Conversing.{Converses, ConversesFollowed, StopsSo, Talker, talk_state, talker}
 use Rattle.conversations.specs.Holding.{can_come}
 use Rattle.conversations.specs.Led.{caller_behaviour}
 use Rattle.conversations.specs.Refusing.{new_watch, no_watch, refusal_in}
-use Rattle.conversations.specs.Talking.{keeping}
+use Rattle.conversations.specs.Talking.{Keeping, keeping}
 use Rattle.conversations.specs.declared.conversing.ConverseFault.{ConverseFault}
 use Rattle.conversations.specs.declared.conversing.ConverseFault.TheVariants.{NoMemory}
 use Rattle.conversations.specs.declared.conversing.Ending.{Ending}
@@ -31,6 +33,7 @@ use Rattle.conversations.specs.declared.conversing.Ending.TheVariants.{Over, Los
 use Rattle.conversations.specs.declared.writing.Says.{Says}
 use Rattle.faults.specs.Faults.{IsOutside}
 use Rattle.faults.specs.declared.fault.ToolFault.{ToolFault}
+use Rattle.faults.specs.declared.fault.ToolFault.TheVariants.{No}
 use Rattle.hdlc.specs.DeframerState.{IsAfter}
 use Rattle.raster.specs.Pages.{PagePixels}
 use Rattle.signals.specs.declared.mark.Mark.{Mark}
@@ -45,6 +48,7 @@ use Rattle.stations.specs.declared.mark.Accepted.{Accepted}
 use Rattle.stations.specs.declared.turn.Turn.TheVariants.{Dis, Silent}
 use Rattle.stations.specs.declared.waiting.Wait.{Wait}
 use Rattle.terminals.specs.Clocks.{duration, new_clock}
+use Rattle.terminals.specs.Speaking.{BurstsOf}
 use Rattle.terminals.specs.Stations.{AnswererLends, CallerLends}
 use Rattle.terminals.specs.Timing.{wait_millis}
 
@@ -68,13 +72,31 @@ AfterLosses t zero old keeper new kept = (new ≡ old) × (kept ≡ keeper)
 AfterLosses {S} {K} t (suc before) old keeper new kept =
     (mid : ConversationFields S) × (held : K) × AfterLosses t before old keeper mid held × StoppedAt t mid held new kept NoMemory
 
--- how talking ends: the call is over, or its line is lost; or something wasn't kept, or a line isn't answered, or input, output or memory
--- fails
-abbrev pub EndsTalk :
-    {S K : Type 0} → Talker S K → ConversationFields S → K → ConversationFields S → K → Result (Unit {0}) Halted → Type 0
-EndsTalk t old keeper new kept (Ok done) = LedTo t old keeper new kept Over ⊎ LedTo t old keeper new kept Lost
-EndsTalk t old keeper new kept (Err halted) = ((why : ToolFault) × LedTo t old keeper new kept (Unkept why))
-    ⊎ (((fault : ConverseFault ToolFault) × StoppedAt t old keeper new kept fault) ⊎ ((new ≡ old) × (kept ≡ keeper)))
+-- How talking ends, once so many lines are lost: the call is over, or its line is lost; or something wasn't kept, and its fault is why the
+-- lines went no further; or the conversation stops for a fault, and so do they. Or there was no memory to read a line, or for as many as are
+-- counted: then nothing else is done.
+abbrev pub EndsTalk : {S K : Type 0} → Talker S K → ℕ → ConversationFields S → K → ConversationFields S → K →
+    Result (Unit {0}) Halted → Type 0
+EndsTalk t lost old keeper new kept (Ok done) = LedTo t old keeper new kept Over ⊎ LedTo t old keeper new kept Lost
+EndsTalk t lost old keeper new kept (Err halted) =
+    ((why : ToolFault) × LedTo t old keeper new kept (Unkept why) × (halted ≡ Fault (as_outside why)))
+    ⊎ (((fault : ConverseFault ToolFault) × StoppedAt t old keeper new kept fault × HaltsBy fault halted)
+    ⊎ ((new ≡ old) × (kept ≡ keeper) × (((lost ≡ 0) × IsFailure halted) ⊎ ((lost ≡ 2 ^ 64 - 1) × (halted ≡ Fault (No 9))))))
+
+-- lines are answered until the conversation ends so, and the follower notes each
+abbrev pub FollowedTo : {S K : Type 0} → Talker S K → ConversationFields S → K → Notes → ConversationFields S → K → Notes →
+    Ending ToolFault → Type 0
+FollowedTo {S} {K} t old keeper first new kept last ending =
+    (unread : Option (List ℕ)) × (left : Option (List ℕ)) × (unsaid : Option (List ℕ)) × (said : Option (List ℕ))
+    × ConversesFollowed S K ToolFault Notes t station_follower (talk_state unread old keeper unsaid) (talk_state left new kept said) first last ending
+
+-- What the follower notes of a talk whose call is over, or whose line is lost: each line and each burst, in order, if no line was lost for
+-- want of memory.
+abbrev pub NotesTalk : {S K : Type 0} → Talker S K → ℕ → ConversationFields S → K → Notes → ConversationFields S → K → Notes →
+    Result (Unit {0}) Halted → Type 0
+NotesTalk t lost old keeper first new kept last (Ok done) =
+    lost ≡ 0 → FollowedTo t old keeper first new kept last Over ⊎ FollowedTo t old keeper first new kept last Lost
+NotesTalk t lost old keeper first new kept last (Err halted) = Unit {0}
 
 -- a station and its keeper are led by lines: some are lost for want of memory, and then the talk ends
 pub record Talks (S K : Type 0) (t : Talker S K) (old : ConversationFields S) (keeper : K) (new : ConversationFields S) (kept : K)
@@ -83,7 +105,14 @@ pub record Talks (S K : Type 0) (t : Talker S K) (old : ConversationFields S) (k
   pub mid : ConversationFields S
   pub held : K
   pub before : AfterLosses t lost old keeper mid held
-  pub ends : EndsTalk t mid held new kept ended
+  pub ends : EndsTalk t lost mid held new kept ended
+
+-- a station, its keeper and its follower are led by lines
+abbrev pub TalksSo : {S K : Type 0} → Behaviour S → Keeping S K → BurstsOf S → ConversationFields S → K → Notes → ConversationFields S →
+    K → Notes → Result (Unit {0}) Halted → Type 0
+TalksSo {S} {K} b k lends old keeper first new kept last ended =
+    (talks : Talks S K (talker b k lends) old keeper new kept ended)
+    × NotesTalk (talker b k lends) talks.lost old keeper first new kept last ended
 
 -- why the lines went no further, if that is so
 abbrev pub halt_of : Result (Unit {0}) Halted → Option Halted
@@ -141,7 +170,7 @@ abbrev pub last_mark : ConversationFields LimitedFields → Option Mark
 last_mark c = option_map (λ (accepted : Accepted). accepted.mark) c.terminal.speaking.station.station.accepted
 
 -- What comes of an answerer's command: a new conversation and its new folder are led by lines, and this is how the call stands then. It is
--- whole, and its last page unconfirmed, by what was noted of it.
+-- whole, and its last page unconfirmed, by what its follower noted.
 pub record AnswerTalks (command : AnswerCommand) (talked : Talked) : Type 0 where
   pub first : ConversationFields LimitedFields
   pub begins : NewAnswering command first
@@ -157,9 +186,12 @@ pub record AnswerTalks (command : AnswerCommand) (talked : Talked) : Type 0 wher
   pub stopped : talked.stopped ≡ kept.stopped
   pub failed : talked.failed ≡ kept.failed
   pub pages : talked.pages ≡ kept.tally.pages
-  pub noted : Noted
-  pub whole : talked.whole ≡ is_whole noted (last_mark last) kept.has_gap
-  pub unconfirmed : talked.unconfirmed ≡ not noted.confirms
+  pub follower : Notes
+  pub is_new : IsNewFollower command.waits.late follower
+  pub notes : Notes
+  pub follows : NotesTalk folder_talker talks.lost first folder follower last kept notes ended
+  pub whole : talked.whole ≡ is_whole notes.noted (last_mark last) kept.has_gap
+  pub unconfirmed : talked.unconfirmed ≡ not notes.noted.confirms
 
 -- a file or memory failed; or the lines were taken, and all was done if the call is whole and lacks its last DCN at most
 abbrev pub AnswerGives : AnswerCommand → Result Completeness ToolFault → Type 0
@@ -210,6 +242,10 @@ pub record DialTalks (command : DialCommand) (talked : Talked) : Type 0 where
   pub end : (t : Caller) → Represents last.terminal.speaking.station.station t
       → talked.end ≡ call_end t.ending last.terminal.speaking.station.cut
   pub answers : talked.unconfirmed ≡ false
+  pub follower : Notes
+  pub is_new : IsNewFollower command.waits.late follower
+  pub notes : Notes
+  pub follows : NotesTalk confirmed_talker talks.lost first none follower last kept notes ended
   pub pages : (t : Caller) → Represents last.terminal.speaking.station.station t
       → (talked.pages ≡ confirmed t) × (talked.whole ≡ nat_eq (confirmed t) (length t.document))
 

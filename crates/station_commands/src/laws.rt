@@ -1,9 +1,11 @@
 //! Laws of the definitions. Nothing runs.
 
+ghost use Rattle.station_commands.specs.CallRows.{LateByTimes, WholeByFrames};
 ghost use Rattle.station_commands.specs.FolderBooks.{AcceptedAreFiled, AnswerersAreNew, AnswersAreFolders, AnswersAreHeld};
 ghost use Rattle.station_commands.specs.FolderBooks.{BreaksAreFolders, CommandsBegin, CommandsHoldOne, ConfirmedAreFiled, ConfirmedAreKept};
 ghost use Rattle.station_commands.specs.FolderBooks.{DialledAnswer, FolderIsSaid, FolderKeepsAll, StationsFileWhatIsSaid};
 ghost use Rattle.station_commands.specs.Folders.{FolderIsStore};
+ghost use Rattle.station_commands.specs.Sent.{NoneIsWithheld};
 
 use crate::station::Confirmed;
 use crate::station::folder::Folder;
@@ -73,3 +75,14 @@ pub fn confirmed_are_kept()
 {
     joined_terminals::laws::held_are_stored();
 }
+
+/// Where a command names no time by which an answer may be late, each burst of each answer is sent.
+pub fn none_is_withheld()
+    ensures { NoneIsWithheld }
+{}
+
+/// Answers that are late, and calls that are whole, worked by hand.
+pub fn calls_by_hand()
+    ensures late { LateByTimes }
+    ensures whole { WholeByFrames }
+{}

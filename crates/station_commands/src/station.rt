@@ -12,11 +12,13 @@ pub(crate) mod records;
 pub(crate) mod trace;
 
 ghost use Rattle.faults.specs.Faults.{IsOutside};
-ghost use Rattle.station_commands.specs.Stations.{IsHalt, IsNoDocument, SendsFrom, end_word, ends_normal, given_wait, page_limit, stopped_word, table_word};
-ghost use Rattle.station_commands.specs.Talks.{AnswerTalks, DialTalks, NewAnswering, NewDialling, Talks, halt_of, says_of, wish_of};
+ghost use Rattle.station_commands.specs.Stations.{HaltsBy, IsHalt, IsNoDocument, SendsFrom, as_outside, end_word, ends_normal, given_wait, page_limit};
+ghost use Rattle.station_commands.specs.Stations.{stopped_word, table_word};
+ghost use Rattle.station_commands.specs.Talks.{AnswerTalks, DialTalks, NewAnswering, NewDialling, TalksSo, halt_of, says_of};
+ghost use Rattle.station_commands.specs.Talks.{wish_of};
+ghost use Rattle.station_commands.specs.declared.station.notes.Notes.{Notes as NotesValue};
 ghost use Rattle.station_commands.specs.declared.station.Halted.{Halted as HaltedValue};
 ghost use Rattle.conversations.specs.Conversations.{behaviour};
-ghost use Rattle.conversations.specs.Conversing.{talker};
 ghost use Rattle.conversations.specs.Talking.{keeping};
 ghost use Rattle.stations.specs.CallerFields.{NewCaller};
 ghost use Rattle.std.specs.Prelude.{◌≡◌, ◌<◌, ◌-◌, IfErr, IfOk, IfSome, List, Ok, Result, drop, length, map, unwrap_or};
@@ -75,9 +77,9 @@ pub(crate) enum Halted {
 }
 
 impl From<io::Error> for Halted {
-    ghost use Rattle.station_commands.specs.Stations.{IsHalt};
+    ghost use Rattle.station_commands.specs.Stations.{IsFailure, IsHalt};
 
-    ghost from_gives = { λ _ halted. IsHalt halted };
+    ghost from_gives = { λ _ halted. IsFailure halted × IsHalt halted };
 
     fn from(error: io::Error) -> Halted {
         Halted::Fault(ToolFault::from(error))
@@ -85,9 +87,12 @@ impl From<io::Error> for Halted {
 }
 
 impl From<AllocError> for Halted {
+    ghost use Rattle.faults.specs.declared.fault.ToolFault.TheVariants.{No};
     ghost use Rattle.station_commands.specs.Stations.{IsHalt};
+    ghost use Rattle.station_commands.specs.declared.station.Halted.TheVariants.{Fault};
+    ghost use Rattle.std.specs.Prelude.{◌≡◌};
 
-    ghost from_gives = { λ _ halted. IsHalt halted };
+    ghost from_gives = { λ _ halted. (halted ≡ Fault (No 9)) × IsHalt halted };
 
     fn from(error: AllocError) -> Halted {
         Halted::Fault(ToolFault::from(error))
@@ -254,7 +259,8 @@ impl Confirmed<'_> {
 
 /// The fault of a follower or a keeper: `NoMemory` (9), or `Io` (8).
 fn outside(fault: ToolFault) -> ToolFault
-    ensures { IsOutside result }
+    ensures is { result ≡ as_outside fault }
+    ensures outside { IsOutside result }
 {
     match fault {
         ToolFault::No(9) => NO_MEMORY,
@@ -268,7 +274,8 @@ fn halted_by<R: BufRead + Drop>(
     fault: ConverseFault<ToolFault>,
     reader: &LastLine<R>,
 ) -> Halted
-    ensures { IsHalt result }
+    ensures by { HaltsBy fault result }
+    ensures halt { IsHalt result }
 {
     match fault {
         ConverseFault::Line(_) => {
@@ -297,8 +304,10 @@ fn talk<S: Stoppable, K: Keeper<S, Refused = ToolFault>>(
     notes: &mut Notes<'_>,
 ) -> Result<(), Halted>
     ensures halted { IfErr result IsHalt }
-    ensures talks { Talks S K (talker (behaviour S.sends S.steps S.lends S.shows S.cut_off S.stop_says) (keeping K.keeps K.takes K.tells) S.lends)
-        conversation.old keeper.old conversation.new keeper.new result }
+    ensures talks { TalksSo
+        (behaviour S.sends S.steps S.lends S.shows S.cut_off S.stop_says)
+        (keeping K.keeps K.takes K.tells) S.lends
+        conversation.old keeper.old notes.old conversation.new keeper.new notes.new result }
 {
     let alloc = context.alloc();
     let input = BufReader::with_capacity(alloc, READ_AT_ONCE, context.rt().reader())?;
@@ -328,10 +337,12 @@ fn talk_out<S: Stoppable, K: Keeper<S, Refused = ToolFault>>(
     notes: &mut Notes<'_>,
 ) -> Result<Option<Halted>, ToolFault>
     ensures halted { IfOk result (λ halted. IfSome halted IsHalt) }
-    ensures talks { IfOk result (λ halted. (ended : Result (Unit {0}) HaltedValue)
-        × Talks S K (talker (behaviour S.sends S.steps S.lends S.shows S.cut_off S.stop_says) (keeping K.keeps K.takes K.tells) S.lends)
-        conversation.old keeper.old conversation.new keeper.new ended
-        × (halted ≡ halt_of ended)) }
+    ensures talks { IfOk result (λ halted. (ended : Result (Unit {0}) HaltedValue) × (last : NotesValue)
+        × TalksSo
+        (behaviour S.sends S.steps S.lends S.shows S.cut_off S.stop_says)
+        (keeping K.keeps K.takes K.tells) S.lends
+        conversation.old keeper.old notes.old conversation.new keeper.new last ended
+        × (halted ≡ halt_of ended) × (notes.new.noted ≡ last.noted)) }
     ensures fault { IfErr result IsOutside }
 {
     let mut writer = printed::print(context)?;

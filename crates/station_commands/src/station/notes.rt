@@ -2,9 +2,11 @@
 
 ghost use Rattle.station_commands.specs.CallNotes.{IsLack, IsMissing, ends_all, ends_document, is_confirmation, is_of_mark, is_whole, noted_after};
 ghost use Rattle.station_commands.specs.CallNotes.{known_heard, no_notes, noted_heard, noted_said, said_after, with_pps};
+ghost use Rattle.station_commands.specs.Following.{HearsOctets, HearsSome, SaysOctets, SaysSome, v21_heard, v21_said};
+ghost use Rattle.hdlc.specs.DeframerState.{IsAfter};
 ghost use Rattle.signals.specs.Reading.{read_content};
 ghost use Rattle.faults.specs.Faults.{IsOutside};
-ghost use Rattle.std.specs.Prelude.{◌≡◌, ◌+◌, ◌-◌, ◌^◌, [], IfErr, None, Some, min, not};
+ghost use Rattle.std.specs.Prelude.{◌≡◌, ◌+◌, ◌-◌, ◌^◌, [], IfErr, None, Some, min, not, option_map};
 
 use crate::station::figures::Figures;
 use crate::station::lateness::Lateness;
@@ -249,6 +251,32 @@ fn note_saying(mouth: &mut Deframer, before: Noted) -> Noted
     noted
 }
 
+/// The octets of frames by V.21 that a line brings, if it does.
+fn v21_heard(said: &Said) -> Option<&[u8]>
+    ensures { option_map (λ octets. octets.now) result ≡ v21_heard said.now }
+{
+    match said {
+        Said::Received {
+            channel: Channel::V21,
+            kind: Kind::Frames,
+            octets,
+            ..
+        } => Some(octets.as_slice()),
+        _ => None,
+    }
+}
+
+/// The octets of a burst, if it goes by V.21.
+fn v21_said(burst: &SentBurst) -> Option<&[u8]>
+    ensures { option_map (λ octets. octets.now) result
+        ≡ v21_said burst.now.carrier burst.now.octets.items }
+{
+    match burst.carrier {
+        Carrier::V21 => Some(burst.octets.as_slice()),
+        Carrier::Training(_) | Carrier::Page(_) => None,
+    }
+}
+
 /// Observes a call: writes its trace, if one is asked for, and notes what is known of it at its end.
 #[derive(Drop)]
 pub(crate) struct Notes<'a> {
@@ -263,20 +291,16 @@ pub(crate) struct Notes<'a> {
 }
 
 impl Follower for Notes<'_> {
+    ghost use Rattle.station_commands.specs.Following.{station_follower};
+
+    ghost notes = { station_follower };
+
     type Failed = ToolFault;
 
     fn heard(&mut self, listens: Listening, line: &TimedLine) -> Result<(), ToolFault> {
         self.lateness.note(line.at);
         self.trace.heard(listens, line);
-        if let Said::Received {
-            channel: Channel::V21,
-            kind: Kind::Frames,
-            octets,
-            ..
-        } = &line.said
-        {
-            self.note_heard(line.at, octets);
-        }
+        self.note_line(line);
         Ok(())
     }
 
@@ -291,9 +315,7 @@ impl Follower for Notes<'_> {
 
     fn said(&mut self, at: u64, burst: &SentBurst) -> Result<(), ToolFault> {
         self.trace.said(at, burst);
-        if let Carrier::V21 = burst.carrier {
-            self.note_said(&burst.octets);
-        }
+        self.note_burst(burst);
         Ok(())
     }
 }
@@ -306,7 +328,9 @@ impl<'a> Notes<'a> {
         trace: Trace<'a>,
         lateness: Lateness<'a>,
     ) -> Notes<'a>
-        ensures { result.noted ≡ no_notes }
+        ensures noted { result.noted ≡ no_notes }
+        ensures deframers { IsAfter result.ear [] 0 × IsAfter result.mouth [] 0 }
+        ensures lateness { result.lateness ≡ lateness.entry }
     {
         let alloc = streams.rt().alloc();
         Notes {
@@ -369,8 +393,30 @@ impl<'a> Notes<'a> {
         self.noted
     }
 
+    /// Notes the frames by V.21 that a line brings, if it does.
+    fn note_line(&mut self, line: &TimedLine)
+        ensures { HearsSome (v21_heard line.now.said) self.old self.new }
+    {
+        let Some(octets) = v21_heard(&line.said) else {
+            return;
+        };
+        self.note_heard(line.at, octets);
+    }
+
+    /// Notes the frames of a burst, if it goes by V.21.
+    fn note_burst(&mut self, burst: &SentBurst)
+        ensures { SaysSome (v21_said burst.now.carrier burst.now.octets.items) self.old self.new }
+    {
+        let Some(octets) = v21_said(burst) else {
+            return;
+        };
+        self.note_said(octets);
+    }
+
     /// Notes octets of frames that came by V.21 at a time. If memory is refused no PPS is known any more.
-    fn note_heard(&mut self, at: u64, octets: &[u8]) {
+    fn note_heard(&mut self, at: u64, octets: &[u8])
+        ensures { HearsOctets self.old octets.now self.new }
+    {
         if self.ear.feed(octets).is_err() {
             self.noted.pps = None;
             return;
@@ -384,7 +430,9 @@ impl<'a> Notes<'a> {
     }
 
     /// Notes octets of frames that are sent by V.21. If memory is refused nothing counts as confirmed.
-    fn note_said(&mut self, octets: &[u8]) {
+    fn note_said(&mut self, octets: &[u8])
+        ensures { SaysOctets self.old octets.now self.new }
+    {
         match self.mouth.feed(octets) {
             Ok(()) => self.noted = note_saying(&mut self.mouth, self.noted),
             Err(_memory) => self.noted.confirms = false,

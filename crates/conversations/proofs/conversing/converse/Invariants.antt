@@ -1,5 +1,5 @@
 -- What holds in the loop of `converse`.
-use Rattle.conversations.proofs.TalkedLines.{IsTalking}
+use Rattle.conversations.proofs.TalkedLines.{IsFollowing, IsTalking}
 use Rattle.conversations.proofs.conversing.converse.Given as goal
 use Rattle.conversations.specs.Conversations.{behaviour}
 use Rattle.conversations.specs.Conversing.{talk_state, talker}
@@ -12,3 +12,9 @@ invariant-loop-number g l =
     (keeping g.K.Keeper.keeps g.K.Keeper.takes g.K.Keeper.tells) g.S.Station.lends)
     (talk_state (g.R.Read.remaining l.fn.reader) l.fn.conversation l.fn.keeper (g.W.Write.contents l.fn.writer))
     (talk_state (g.R.Read.remaining l.reader) l.conversation l.keeper (g.W.Write.contents l.writer)) l.number
+    × IsFollowing
+    (talker (behaviour g.S.Station.sends g.S.Station.steps g.S.Station.lends g.S.Stoppable.shows g.S.Stoppable.cut_off g.S.Stoppable.stop_says)
+    (keeping g.K.Keeper.keeps g.K.Keeper.takes g.K.Keeper.tells) g.S.Station.lends)
+    g.F.Follower.notes
+    (talk_state (g.R.Read.remaining l.fn.reader) l.fn.conversation l.fn.keeper (g.W.Write.contents l.fn.writer))
+    (talk_state (g.R.Read.remaining l.reader) l.conversation l.keeper (g.W.Write.contents l.writer)) l.fn.follower l.follower

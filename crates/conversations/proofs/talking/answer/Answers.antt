@@ -3,29 +3,41 @@ use Rattle.std.proofs.Common.{[], append-nil, inl, inr, refl, rules, subst, sym}
 use Rattle.std.proofs.lemmas.Result.{err_from_is_err_and}
 use Rattle.std.specs.Prelude.{is_none}
 use Rattle.conversations.proofs.TalkedLines.{broken_late}
+use Rattle.conversations.proofs.Turns.{went_well}
 use Rattle.conversations.proofs.talking.answer.Goals as goal
 use Rattle.conversations.specs.Conversations.{behaviour}
 use Rattle.conversations.specs.Talking.{keeping}
 use Rattle.conversations.specs.Writing.{AppendsPart}
 
 pub returns-clause-ok : goal.returns-clause-ok
-returns-clause-ok g c = record {
-  timed = c.in-Ok.timed;
-  heard = c.take.new.self;
-  ready = c.keep-unkept.new.conversation;
-  late = c.comes_late-late.result;
-  left = c.withhold.new.conversation;
-  told = g.W.Write.contents c.write_octets.new.writer;
-  says = search rules;
-  can_come = search rules;
-  takes = search rules;
-  keeps_so =
-      subst (λ v. g.K.Keeper.keeps c.args.keeper.now v c.in-Ok.timed.said c.keep-unkept.new.self c.keep-unkept.new.conversation (is_none c.keep-unkept.result))
-      c.refuse.ensures c.keep-unkept.ensures;
-  tells = search rules;
-  withholds = search rules;
-  writes = c.in_ok-over.ensures.ok;
-}
+returns-clause-ok g c = (
+  record {
+    timed = c.in-Ok.timed;
+    heard = c.take.new.self;
+    ready = c.keep-unkept.new.conversation;
+    late = c.comes_late-late.result;
+    left = c.withhold.new.conversation;
+    told = g.W.Write.contents c.write_octets.new.writer;
+    says = search rules;
+    can_come = search rules;
+    takes = search rules;
+    keeps_so =
+        subst (λ v. g.K.Keeper.keeps c.args.keeper.now v c.in-Ok.timed.said c.keep-unkept.new.self c.keep-unkept.new.conversation (is_none c.keep-unkept.result))
+        c.refuse.ensures c.keep-unkept.ensures;
+    tells = search rules;
+    withholds = search rules;
+    writes = c.in_ok-over.ensures.ok.0;
+  },
+  record {
+    heard = c.follow_line.new.follower;
+    asked = c.comes_late-late.new.follower;
+    some = c.comes_late-late.ensures.0;
+    hears = went_well c.follow_line.result c.map_err.result c.map_err.ensures.variant (search rules) c.follow_line.ensures;
+    has_burst = c.comes_late-late.ensures.1;
+    judges = c.comes_late-late.ensures.2;
+    says = c.in_ok-over.ensures.ok.1;
+  },
+)
 
 pub returns-in_err-write_octets-clause-none : goal.returns-in_err-write_octets-clause-none
 returns-in_err-write_octets-clause-none g c =

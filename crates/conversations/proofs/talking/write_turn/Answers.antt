@@ -2,7 +2,7 @@
 use Rattle.std.proofs.Common.{Bool, ap, ◌≡◌, ℕ, List, None, Option, rules, subst}
 use Rattle.std.specs.Io.KnownBytes.{Appends}
 use Rattle.std.specs.declared.alloc.AllocError.{AllocError}
-use Rattle.conversations.proofs.Turns.{begins_giving, burst_stopped, given_next, one_given, rest_is, rest_stopped, turn_stopped, turn_written, unsent}
+use Rattle.conversations.proofs.Turns.{begins_giving, burst_stopped, given_next, one_given, rest_is, rest_stopped, turn_stopped, turn_written, unsent, went_well}
 use Rattle.conversations.proofs.Written.{if_failed, no_part}
 use Rattle.conversations.proofs.talking.write_turn.Goals as goal
 use Rattle.conversations.specs.Talking.{GivesNext}
@@ -13,13 +13,14 @@ use Rattle.terminals.specs.Stopping.{IsShown}
 use Rattle.terminals.specs.declared.sending.SentBurst.{SentBurst}
 
 pub loop-burst-init : goal.loop-burst-init
-loop-burst-init g c = begins_giving _ _ _ _ _ (search rules)
+loop-burst-init g c =
+    begins_giving g.F.Follower.notes c.args.at c.args.follower.now _ _ _ _ _ (search rules)
 
 pub returns-in_default-clause-ok : goal.returns-in_default-clause-ok
 returns-in_default-clause-ok g c =
     let none : c.in_ok-burst.field-0 ≡ None = search rules in
     let given = given_next AllocError g.S.Station.sends g.S.Station.lends _ _ _ _ c.in_ok-burst.ensures in
-    turn_written _ _ _ _ c.loop-burst.conversation _ _ (g.W.Write.contents c.loop-burst.writer) _ _ c.loop-burst.invariant
+    turn_written g.F.Follower.notes c.args.at c.args.follower.now c.loop-burst.follower _ _ _ _ c.loop-burst.conversation _ _ (g.W.Write.contents c.loop-burst.writer) _ _ c.loop-burst.invariant
     (subst (λ (sent : Option SentBurst).
     GivesNext g.S.Station.sends g.S.Station.lends c.loop-burst.conversation sent c.next_burst.new.self) none given)
     c.shown-shown.result
@@ -34,22 +35,24 @@ returns-in_default-clause-ok g c =
 pub loop-burst-preserved : goal.loop-burst-preserved
 loop-burst-preserved g c =
     let given = given_next AllocError g.S.Station.sends g.S.Station.lends _ _ _ _ c.in_ok-burst.ensures in
-    one_given _ _ _ _ c.loop-burst.conversation _ _ (g.W.Write.contents c.loop-burst.writer) _ c.in-Some.burst c.loop-burst.invariant
+    one_given g.F.Follower.notes c.args.at c.args.follower.now c.loop-burst.follower c.said.new.self _ _ _ _ c.loop-burst.conversation _ _ (g.W.Write.contents c.loop-burst.writer) _
+    c.in-Some.burst c.loop-burst.invariant
     (subst (λ (sent : Option SentBurst).
     GivesNext g.S.Station.sends g.S.Station.lends c.loop-burst.conversation sent c.next_burst.new.self) c.in-Some.is given)
     (subst (λ (frames : Bool). Appends (g.W.Write.contents c.loop-burst.writer) (g.W.Write.contents c.write_sent.new.writer)
     (burst_line frames c.in-Some.burst)) (ap (λ (says : Says). says.frames) c.says-frames.ensures) c.in_ok-write_sent.ensures)
+    (went_well c.said.result c.map_err.result c.map_err.ensures.variant (search rules) c.said.ensures)
 
 pub returns-in_err-burst-clause-part : goal.returns-in_err-burst-clause-part
 returns-in_err-burst-clause-part g c =
-    if_failed _ _ (turn_stopped _ _ _ _ c.loop-burst.conversation _ _ _ c.loop-burst.invariant
+    if_failed _ _ (turn_stopped _ _ _ _ c.loop-burst.conversation _ _ _ c.loop-burst.invariant.0
     (unsent AllocError g.S.Station.sends g.S.Station.lends _ _ _ _ c.in_err-burst.ensures))
 
 pub returns-in_err-over-clause-part : goal.returns-in_err-over-clause-part
 returns-in_err-over-clause-part g c =
     let none : c.in_ok-burst.field-0 ≡ None = search rules in
     let given = given_next AllocError g.S.Station.sends g.S.Station.lends _ _ _ _ c.in_ok-burst.ensures in
-    if_failed _ _ (rest_stopped _ _ _ _ c.loop-burst.conversation _ _ (g.W.Write.contents c.loop-burst.writer) _ c.loop-burst.invariant
+    if_failed _ _ (rest_stopped _ _ _ _ c.loop-burst.conversation _ _ (g.W.Write.contents c.loop-burst.writer) _ c.loop-burst.invariant.0
     (subst (λ (sent : Option SentBurst).
     GivesNext g.S.Station.sends g.S.Station.lends c.loop-burst.conversation sent c.next_burst.new.self) none given)
     c.shown-shown.result
@@ -64,7 +67,7 @@ pub returns-in_err-map_err-clause-part : goal.returns-in_err-map_err-clause-part
 returns-in_err-map_err-clause-part g c =
     let given = given_next AllocError g.S.Station.sends g.S.Station.lends _ _ _ _ c.in_ok-burst.ensures in
     if_failed _ _ (burst_stopped _ _ _ _ c.loop-burst.conversation _ _ (g.W.Write.contents c.loop-burst.writer) _ c.in-Some.burst
-    c.loop-burst.invariant
+    c.loop-burst.invariant.0
     (subst (λ (sent : Option SentBurst).
     GivesNext g.S.Station.sends g.S.Station.lends c.loop-burst.conversation sent c.next_burst.new.self) c.in-Some.is given)
     (no_part _ _))
@@ -73,7 +76,7 @@ pub returns-in_err-write_sent-clause-part : goal.returns-in_err-write_sent-claus
 returns-in_err-write_sent-clause-part g c =
     let given = given_next AllocError g.S.Station.sends g.S.Station.lends _ _ _ _ c.in_ok-burst.ensures in
     if_failed _ _ (burst_stopped _ _ _ _ c.loop-burst.conversation _ _ (g.W.Write.contents c.loop-burst.writer) _ c.in-Some.burst
-    c.loop-burst.invariant
+    c.loop-burst.invariant.0
     (subst (λ (sent : Option SentBurst).
     GivesNext g.S.Station.sends g.S.Station.lends c.loop-burst.conversation sent c.next_burst.new.self) c.in-Some.is given)
     (subst (λ (frames : Bool). AppendsPart (g.W.Write.contents c.loop-burst.writer) (g.W.Write.contents c.write_sent.new.writer)

@@ -26,14 +26,23 @@ returns-clause-talks c =
       last = c.talk_out.new.conversation;
       kept = c.talk_out.new.keeper;
       ended = talks.0;
-      talks = talks.1;
-      halted = talks.2;
+      talks = talks.2.0;
+      halted = talks.3;
       end = c.end.ensures.2 ∙ ap (λ (shown : Shown). shown.end) c.end.ensures.1;
       refused = c.refusal.ensures;
       stopped = c.stopped.ensures;
       failed = c.failed-2.ensures;
       pages = c.stored.ensures;
-      noted = c.noted-noted.result;
+      follower = c.new-notes.result;
+      is_new = record {
+        noted = c.new-notes.ensures.noted;
+        ear = c.new-notes.ensures.deframers.0;
+        mouth = c.new-notes.ensures.deframers.1;
+        most_is = search rules;
+        first = search rules;
+      };
+      notes = talks.1;
+      follows = talks.2.1;
       whole = search rules;
       unconfirmed = search rules;
     }
