@@ -1,7 +1,6 @@
 -- The definitions of `dial` and `answer`.
 pub mod CallNotes
 pub mod EndRecords
-pub mod Figures
 pub mod Files
 pub mod FolderBooks
 pub mod Folders
