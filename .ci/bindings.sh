@@ -346,7 +346,7 @@ esac
 "$top/.ci/archive.py" "$work"
 
 # the module for Python, over the shared library
-for test in test_g3fax test_returned test_help; do
+for test in test_g3fax test_figures test_returned test_help; do
     PYTHONDONTWRITEBYTECODE=1 G3FAX_LIBRARY=$work/libg3fax.so.0 timeout 600 python3 -W error "$top/bindings/python/$test.py" \
         > "$work/output" 2>&1 || { cat "$work/output" >&2; fails "bindings/python/$test.py"; }
     left=$(sed -n 's/^OK (skipped=\([0-9]*\))$/\1/p' "$work/output")

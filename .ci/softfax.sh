@@ -61,16 +61,7 @@ timeout $longest "$work/lock-test" 500 "$work/ttys" > "$work/output" 2>&1 || fai
 cat "$work/output"
 
 objects=
-compiles figures identity
-shared=$objects
-builds figures-test
-timeout $longest "$work/figures-test" > "$work/output" || fails figures-test
-cat "$work/output"
-"$here/figures.py" "$work/figures-test" > "$work/output" 2>&1 || fails figures.py
-cat "$work/output"
-
-objects=$shared
-compiles behind t31 class1 class1_setup class1_frame class1_words stopped trial line paper terminal bits
+compiles identity behind t31 class1 class1_setup class1_frame class1_words stopped trial line paper terminal bits
 shared=$objects
 builds bits-test
 timeout $longest "$work/bits-test" > "$work/output" || fails bits-test

@@ -197,7 +197,7 @@ def end_fields(texts):
     """The fields of the record of a call's end, as the program has them and as softfax has."""
     there = set(re.findall(r'put \(codes "(\w+)"\)', texts[END_SPECS]))
     body = texts[END_C].partition("void record_end_json")[2].partition("\n}\n")[0]
-    here = set(re.findall(r'\\"(\w+)\\":', body)) | set(re.findall(r'put_text(?:_or_null)?\("(\w+)"', body))
+    here = set(re.findall(r'\\"(\w+)\\":', body)) | set(re.findall(r'put_(?:text|text_or_null|count)\("(\w+)"', body))
     return there, here - C_FIELDS
 
 

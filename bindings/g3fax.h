@@ -408,6 +408,22 @@ G3_CHECK g3_status g3_terminal_state(const g3_terminal *terminal, g3_state *stat
  * come under the number of the last one, from which it can't be told, so that the terminal has stopped the call in place of confirming it */
 enum g3_refused { G3_REFUSED_NO_ECM = 1, G3_REFUSED_NOT_OFFERED = 2, G3_REFUSED_USED_NUMBER = 3 };
 
+/* what a call came to so far, counted from the good frames that its terminal heard and from those of the bursts that were taken by
+ * g3_terminal_next_burst; the frames of pages, FCD and RCP, count as nothing */
+typedef struct g3_figures {
+    uint64_t blocks;        /* blocks that are confirmed, each by the first MCF after its PPS */
+    uint64_t pprs;          /* PPRs */
+    uint64_t resent;        /* frames that these ask for, of those that the block of the last PPS has */
+    uint64_t retries;       /* commands, which are DIS, DCS, PPS and RR, that this terminal sent with no frame heard since the one before */
+    uint64_t failed_checks; /* FTTs */
+    uint32_t first_speed;   /* the carrier of the first DCS; 0: none came */
+    uint32_t last_speed;    /* that of the last one */
+    uint32_t other;         /* 1: the last frame that was heard is G3_OTHER: it may want an answer that isn't given */
+    uint32_t control;       /* the octet of its facsimile control field */
+    uint32_t peer_length;   /* how many characters the other station's name has; 0: it hasn't named itself in 20 characters, by CSI or TSI */
+    uint8_t peer[20];       /* the name without the spaces before it, as it is read, and then 0; any octets */
+} g3_figures;
+
 /* how far a call is; what belongs to the other station is 0 */
 typedef struct g3_progress {
     uint64_t size;           /* of this struct */
@@ -426,6 +442,7 @@ typedef struct g3_progress {
     uint32_t refused_why;    /* G3_REFUSED_.., or 0. For a DCS the program may stop the call; for a used number the terminal has */
     uint32_t gap;            /* 1: the page numbers that an answerer hears have jumped, so a page may be missing */
     uint32_t gap_page;       /* the first number modulo 256, from 0, that was neither the last one nor the next */
+    g3_figures figures;      /* what the call came to */
 } g3_progress;
 G3_CHECK g3_status g3_terminal_progress(const g3_terminal *terminal, g3_progress *progress);
 

@@ -1,7 +1,8 @@
 """What a call of `faxtool station` came to: a second reading of the figures that it tells at its end, apart from the program.
 
 They are counted from the lines in and out of one conversation alone, by docs/STATION.md and T.30. What was heard are the good frames of
-V.21 of the lines in, by an answerer from its first DIS on; what was said are those of the lines out. `figures_of` counts, `words_of` and
+V.21 of the lines in, by an answerer from its first DIS on; what was said are those of the lines out. FCD and RCP count as nothing, by
+whatever carrier they come. `figures_of` counts, `words_of` and
 `record_of` are the line of words and the JSON object, and `told_of` adds the line to what else is told at the end."""
 
 import json
@@ -16,6 +17,8 @@ from reference_station import CARRIERS, FIRST_DIS, Ear  # noqa: E402
 
 # What a station says again if nothing answers it.
 COMMANDS = ("DIS", "DCS", "PPS", "RR")
+# The frames of a page, which count as nothing.
+OF_PAGES = ("FCD", "RCP")
 # CSI, and TSI with either first bit, by which a station names itself with so many signs of a telephone (T.30, 5.3.6.2).
 NAMING, MOST_SIGNS, SIGNS = (0x40, 0x42, 0x43), 20, "0123456789+*# "
 # What goes beside a DIS or a DCS and asks for no answer: what a station is, who it is, and where it wants a page to go.
@@ -57,6 +60,8 @@ class Count:
 
     def heard(self, content):
         signal, fields = read_signal(content), content[3:]
+        if signal and signal[0] in OF_PAGES:
+            return
         self.is_waiting, self.left_out = False, None
         if signal == ("OTHER",):
             self.left_out = OTHERS.get(content[2])

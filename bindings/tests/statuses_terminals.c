@@ -533,17 +533,19 @@ static void confirmed(const g3_terminal *t, uint64_t pages, uint32_t end)
     IS(end, state.end);
 }
 
+/* 1.5 s of zeros at 14,400 bit/s */
+static const uint8_t check_octets[2700];
+
 /* Begins a call of an answerer by V.17 and T.6. */
 static void begin(g3_terminal *t)
 {
-    static const uint8_t check[2700];
     g3_caps caps = {G3_V17, 1, 1, 2432, 3}; /* RNR is sent while that many pages wait */
     g3_signal dcs = G3_INIT(g3_signal);
     dcs.kind = G3_DCS, dcs.dcs.carrier = G3_V17_14400, dcs.dcs.width = 1728, dcs.dcs.coding = G3_MMR, dcs.dcs.frame = 64;
     IS(G3_OK, g3_answerer_new(t, &caps));
     sent(t); /* DIS */
     say(t, &dcs);
-    IS(G3_OK, g3_terminal_hear_training(t, check, sizeof check));
+    IS(G3_OK, g3_terminal_hear_training(t, check_octets, sizeof check_octets));
     sent(t); /* CFR */
 }
 
@@ -591,6 +593,49 @@ static void confirms(void)
     say_page(&t, 0, G3_EOP), confirmed(&t, 1, G3_END_STOPPED);
     IS(G3_OK, g3_terminal_progress(&t, &far));
     IS(1, far.refused == 2 && far.refused_why == G3_REFUSED_USED_NUMBER);
+    g3_terminal_free(&t);
+}
+
+/* The figures of a call: what an answerer hears and says of a block of 4 frames that don't come, by hand. */
+static void counted(void)
+{
+    static const uint8_t tsi[] = "\xFF\x03\x43 54321+             ", blank[] = "\xFF\x03\x43                    ";
+    static const uint8_t cig[] = "\xFF\x03\x41 9                  ", fcd[] = {0xFF, 0x03, 0x06, 0x07, 0x00}, ctc[] = {0xFF, 0x13, 0x13, 0x00, 0x22};
+    g3_terminal t = G3_EMPTY;
+    g3_caps caps = {G3_V17, 1, 1, 2432, 1};
+    g3_progress far = G3_INIT(g3_progress);
+    const g3_figures *are = &far.figures;
+    g3_signal dcs = G3_INIT(g3_signal), pps = G3_INIT(g3_signal);
+    dcs.kind = G3_DCS, dcs.dcs.carrier = G3_V17_14400, dcs.dcs.width = 1728, dcs.dcs.coding = G3_MMR, dcs.dcs.frame = 64;
+    pps.kind = G3_PPS, pps.pps.ends = G3_EOP, pps.pps.last = 3;
+    IS(G3_OK, g3_answerer_new(&t, &caps));
+    sent(&t); /* DIS */
+    IS(G3_OK, g3_terminal_wait_over(&t, G3_T2));
+    sent(&t); /* DIS once more */
+    IS(G3_OK, g3_terminal_progress(&t, &far));
+    IS(1, are->retries == 1 && are->first_speed == 0 && are->last_speed == 0 && are->other == 0 && are->peer_length == 0);
+    IS(G3_OK, g3_terminal_hear_frame(&t, tsi, sizeof tsi - 1));
+    IS(G3_OK, g3_terminal_hear_frame(&t, blank, sizeof blank - 1)); /* no name */
+    IS(G3_OK, g3_terminal_hear_frame(&t, tsi, sizeof tsi - 2));     /* 19 characters */
+    IS(G3_OK, g3_terminal_hear_frame(&t, cig, sizeof cig - 1));     /* nobody's name */
+    IS(G3_OK, g3_terminal_progress(&t, &far));
+    IS(1, are->other == 1 && are->control == 0x41 && are->peer_length == 7 && memcmp(are->peer, "+12345 \0\0\0\0\0\0\0\0\0\0\0\0", 20) == 0);
+    say(&t, &dcs);
+    IS(G3_OK, g3_terminal_missed(&t));
+    sent(&t); /* FTT */
+    dcs.dcs.carrier = G3_V17_9600;
+    say(&t, &dcs);
+    IS(G3_OK, g3_terminal_hear_training(&t, check_octets, sizeof check_octets));
+    sent(&t); /* CFR */
+    say(&t, &pps);
+    IS(G3_OK, g3_terminal_progress(&t, &far));
+    IS(1, are->pprs == 0); /* it waits to be taken */
+    sent(&t); /* PPR */
+    IS(G3_OK, g3_terminal_hear_frame(&t, ctc, sizeof ctc));
+    IS(G3_OK, g3_terminal_hear_frame(&t, fcd, sizeof fcd)); /* counts as nothing */
+    IS(G3_OK, g3_terminal_progress(&t, &far));
+    IS(1, are->blocks == 0 && are->pprs == 1 && are->resent == 4 && are->retries == 1 && are->failed_checks == 1 && are->other == 1
+        && are->control == 0x13 && are->first_speed == G3_V17_14400 && are->last_speed == G3_V17_9600);
     g3_terminal_free(&t);
 }
 
@@ -650,6 +695,7 @@ int main(void)
     ended();
     carriers();
     watched();
+    counted();
     held();
     confirms();
     doubled();

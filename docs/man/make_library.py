@@ -26,7 +26,7 @@ GROUPS = [
     ("signals", "what the contents of frames say, and what two stations agree on",
      r"g3_signal|g3_agree|g3_dis|g3_dcs|g3_params|g3_block|G3_DIS|G3_V29_ALONE|G3_BLOCK_ALONE|G3_CALLER|G3_NO_RECEIVER"),
     ("terminals", "documents, and the two stations of a call",
-     r"g3_document|g3_terminal|g3_answerer|g3_caller|g3_caps|g3_wish|g3_wait|g3_burst|g3_state|g3_progress|g3_carrier|g3_end|"
+     r"g3_document|g3_terminal|g3_answerer|g3_caller|g3_caps|g3_wish|g3_wait|g3_burst|g3_state|g3_progress|g3_figures|g3_carrier|g3_end|"
      r"G3_V27TER|G3_T1|G3_QUIET|G3_NEXT|G3_V21|G3_HEARS|G3_END|G3_REFUSED"),
     ("pages", "pages, their codes and images, octets, statuses and the version",
      r"g3_page|g3_pixels|g3_octets|g3_size|g3_code|g3_raster|g3_found|g3_identify|g3_status|g3_version|G3_FOUND|G3_OK|G3_MH|G3_MSB_FIRST|G3_VERSION|"

@@ -76,7 +76,7 @@ int call_begin(call *it, uint32_t modems, const modem_kind *kind, modem *modem)
     it->terminal = terminal_new(&it->station, given->calls ? NULL : &pages, kind, modem);
     if (it->terminal == NULL) return fails(g3_status_text(G3_NO_MEMORY));
     it->folder = (pages_folder){.name = given->folder, .is_of_calls = given->most_calls != 0, .most_pages = given->most_pages,
-        .most_octets = given->most_octets, .json = given->json, .square = given->square, .peer = terminal_figures(it->terminal)->peer};
+        .most_octets = given->most_octets, .json = given->json, .square = given->square, .figures = terminal_figures(it->terminal)};
     stop_call_begins();
     if (!given->refuses_ctc) terminal_answer_ctc(it->terminal);
     if (given->identity != NULL) terminal_identify(it->terminal, given->identity);
@@ -92,7 +92,7 @@ static void note_confirmed(call *it)
     for (; it->confirmed < state.pages && it->confirmed < (uint64_t)it->count; it->confirmed++) {
         const pages_sent *sent = &it->sent[it->confirmed];
         record_page record = {"confirmed", it->confirmed + 1, sent->file, sent->image, sent->size.width, sent->size.rows,
-            sent->size.fine, 0, terminal_figures(it->terminal)->peer};
+            sent->size.fine, 0, terminal_figures(it->terminal)};
         record_page_json(&record);
     }
 }
@@ -141,7 +141,7 @@ int call_end(call *it)
     static const char *const ENDS[] = {
         "no-end", "normal", "no-answer", "not-compatible", "training", "no-reply", "unreadable", "still-busy", "peer-left", "bad-page",
         "page-too-long", "stopped", "line-lost"};
-    static const figures NONE;
+    static const g3_figures NONE;
     const options *given = it->given;
     g3_state state = G3_INIT(g3_state);
     record_end record = {"no-call", given->calls ? "confirmed" : "pages", it->folder.kept, &NONE, NULL,

@@ -33,11 +33,12 @@ static int calls, complete; /* on all lines */
 
 /* Whether both ends of a whole call have counted the same, on a line that carries all that the answerer says, and a block a page; and the
  * caller has said DCS or PPS once more where it was cut, and no other command again. */
-static int have_counted(const trial *kind, const figures *caller, const figures *answerer)
+static int have_counted(const trial *kind, const g3_figures *caller, const g3_figures *answerer)
 {
     int is_same = caller->pprs == answerer->pprs && caller->resent == answerer->resent && caller->failed_checks == answerer->failed_checks
         && caller->first_speed == answerer->first_speed && caller->last_speed == answerer->last_speed;
-    return is_same && caller->blocks == kind->pages && answerer->blocks == kind->pages && strcmp(caller->peer, answerer->peer) == 0
+    return is_same && caller->blocks == kind->pages && answerer->blocks == kind->pages
+        && memcmp(caller->peer, answerer->peer, sizeof caller->peer) == 0
         && caller->retries == (kind->line.cut == CUTS_DCS || kind->line.cut == CUTS_PPS);
 }
 
@@ -143,15 +144,15 @@ static int try_frames(void)
     return well == count;
 }
 
-/* A name is that of a frame with the address and the control field of T.30 alone. */
+/* A name is told without the spaces around it, and without what isn't printable. */
 static int try_names(void)
 {
-    static const uint8_t OURS[] = {0xff, 0x03, 0x40, '1'};
-    static const uint8_t OTHERS[][4] = {{0xfe, 0x03, 0x40, '1'}, {0xff, 0x23, 0x40, '1'}, {0xff, 0x03, 0x80, '1'}};
-    char text[IDENTITY_MOST + 1] = "";
-    int is_right = identity_read(OURS, sizeof OURS, text) && strcmp(text, "1") == 0;
-    for (int i = 0; i < 3; i++) is_right = is_right && !identity_read(OTHERS[i], sizeof OTHERS[i], text);
-    if (!is_right) printf("a frame of another address names a station\n");
+    static const g3_figures NAMED = {.peer_length = 6, .peer = "1\n\xff 2 "}, NONE;
+    char text[IDENTITY_MOST + 1] = "", none[IDENTITY_MOST + 1] = "1";
+    identity_read(&NAMED, text);
+    identity_read(&NONE, none);
+    int is_right = strcmp(text, "1?? 2") == 0 && none[0] == 0;
+    if (!is_right) printf("a name is told as '%s'\n", text);
     return is_right;
 }
 

@@ -1,6 +1,5 @@
 #include "identity.h"
 #include "carriers.h"
-#include "names.h"
 #include <stdlib.h>
 #include <string.h>
 
@@ -25,19 +24,12 @@ void identity_write(const char *text, int calls, uint8_t *content)
     for (size_t i = 0; i < IDENTITY_MOST; i++) content[3 + i] = i < length ? (uint8_t)text[length - 1 - i] : ' ';
 }
 
-int identity_read(const uint8_t *content, uint64_t length, char text[IDENTITY_MOST + 1])
+void identity_read(const g3_figures *figures, char text[IDENTITY_MOST + 1])
 {
-    size_t filled = 0;
-    if (!is_frame(content, length) || (content[2] != CSI && (content[2] & ~OF_CALLER) != TSI)) return 0;
-    size_t count = length < IDENTITY_CONTENT ? (size_t)length - 3 : IDENTITY_MOST;
-    for (size_t i = count; i > 0; i--) {
-        uint8_t is = content[2 + i];
-        if (filled == 0 && is == ' ') continue;
-        text[filled++] = is >= ' ' && is <= '~' ? (char)is : '?';
-    }
-    while (filled > 0 && text[filled - 1] == ' ') filled--;
-    text[filled] = 0;
-    return 1;
+    size_t length = figures->peer_length;
+    while (length > 0 && figures->peer[length - 1] == ' ') length--;
+    for (size_t i = 0; i < length; i++) text[i] = figures->peer[i] >= ' ' && figures->peer[i] <= '~' ? (char)figures->peer[i] : '?';
+    text[length] = 0;
 }
 
 uint8_t *identity_join(const uint8_t *octets, uint64_t bits, const uint8_t *content, uint64_t *joined)

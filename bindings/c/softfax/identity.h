@@ -2,7 +2,7 @@
  * send nor read them, so a terminal puts them before what it sends, as frames of their own. */
 #ifndef IDENTITY_H
 #define IDENTITY_H
-#include <stdint.h>
+#include "g3fax.h"
 
 enum { IDENTITY_MOST = 20, IDENTITY_CONTENT = 3 + IDENTITY_MOST }; /* characters, and octets of the frame's content */
 
@@ -10,9 +10,8 @@ enum { IDENTITY_MOST = 20, IDENTITY_CONTENT = 3 + IDENTITY_MOST }; /* characters
 int identity_is(const char *text);
 /* Writes the content of the frame, of IDENTITY_CONTENT octets. */
 void identity_write(const char *text, int calls, uint8_t *content);
-/* Returns whether a content is a TSI or CSI. Then `text` is the other station's name, without the spaces around it; what isn't printable
- * ASCII is a question mark. */
-int identity_read(const uint8_t *content, uint64_t length, char text[IDENTITY_MOST + 1]);
+/* The other station's name, without the spaces around it; "": it hasn't named itself. What isn't printable ASCII is a question mark. */
+void identity_read(const g3_figures *figures, char text[IDENTITY_MOST + 1]);
 /* Returns a burst of V.21 with the frame of a content after its first flags, to be freed; NULL if memory is refused. */
 uint8_t *identity_join(const uint8_t *octets, uint64_t bits, const uint8_t *content, uint64_t *joined);
 #endif

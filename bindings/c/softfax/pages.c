@@ -249,8 +249,7 @@ static g3_status write_image(g3_page *page, uint8_t **octets, uint64_t *length)
 /* Tells of a page that is kept. */
 static void note(const pages_folder *folder, const char *name, const g3_size *size, int is_doubled)
 {
-    record_page record = {"page", folder->kept, name, 0, size->width, size->rows, size->fine, is_doubled,
-        folder->peer != NULL ? folder->peer : ""};
+    record_page record = {"page", folder->kept, name, 0, size->width, size->rows, size->fine, is_doubled, folder->figures};
     if (folder->json) record_page_json(&record);
 }
 

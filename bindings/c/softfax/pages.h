@@ -28,7 +28,7 @@ typedef struct pages_folder {
     uint64_t most_pages, most_octets; /* 0: no limit */
     int json;              /* a record is written of each */
     int square;            /* a page of 3.85 lines a millimeter has each row twice, so that its pixels are about square */
-    const char *peer;      /* how the other station has named itself, for the records */
+    const g3_figures *figures; /* how the other station has named itself, for the records */
     char fault[PAGES_NAME + 100]; /* why the last page wasn't kept; "": it was */
 } pages_folder;
 /* Returns whether there is such a folder; if not, that is told. */

@@ -1,5 +1,6 @@
 #include "record.h"
 #include "carriers.h"
+#include "identity.h"
 #include "told.h"
 #include <stddef.h>
 
@@ -19,6 +20,11 @@ static void put_text_or_null(const char *name, const char *text)
 {
     if (text != NULL) put_text(name, text);
     else told_add(",\"%s\":null", name);
+}
+
+static void put_count(const char *name, uint64_t count)
+{
+    told_add(",\"%s\":%llu", name, (unsigned long long)count);
 }
 
 /* The members that say which call it is. */
@@ -53,21 +59,28 @@ void record_page_json(const record_page *it)
     if (it->image > 0) told_add(",\"image\":%u", it->image);
     told_add(",\"width\":%u,\"height\":%u,\"lines\":\"%s\"", it->width, it->height, it->fine ? "fine" : "standard");
     if (it->square) told_add(",\"square\":true");
-    if (it->peer[0] != 0) put_text("peer", it->peer);
+    char peer[IDENTITY_MOST + 1];
+    identity_read(it->figures, peer);
+    if (peer[0] != 0) put_text("peer", peer);
     told_add("}");
     told_end();
 }
 
 void record_end_json(const record_end *it)
 {
-    const figures *are = it->figures;
+    const g3_figures *are = it->figures;
+    char peer[IDENTITY_MOST + 1];
+    identity_read(are, peer);
     told_add("{\"end\":\"%s\",\"%s\":%llu", it->end, it->what, (unsigned long long)it->pages);
-    told_add(",\"blocks\":%u,\"failed_checks\":%u", are->blocks, are->failed_checks);
+    put_count("blocks", are->blocks);
+    put_count("failed_checks", are->failed_checks);
     put_text_or_null("first_speed", carrier_name(are->first_speed));
     put_text_or_null("last_speed", carrier_name(are->last_speed));
-    put_text_or_null("peer", are->peer[0] != 0 ? are->peer : NULL);
-    told_add(",\"pprs\":%u,\"resent\":%u,\"retries\":%u", are->pprs, are->resent, are->retries);
-    told_add(",\"seconds\":%llu", (unsigned long long)it->seconds);
+    put_text_or_null("peer", peer[0] != 0 ? peer : NULL);
+    put_count("pprs", are->pprs);
+    put_count("resent", are->resent);
+    put_count("retries", are->retries);
+    put_count("seconds", it->seconds);
     put_text_or_null("why", it->why);
     put_call(&it->of, ',');
     if (it->folder[0] != 0) put_text("folder", it->folder);
@@ -75,12 +88,15 @@ void record_end_json(const record_end *it)
     told_end();
 }
 
-static void put_figures(const figures *are)
+static void put_figures(const g3_figures *are)
 {
-    told_add("blocks %u, PPRs %u, frames sent again %u, failed checks %u, retries %u", are->blocks, are->pprs, are->resent,
-        are->failed_checks, are->retries);
+    told_add("blocks %llu, PPRs %llu, frames sent again %llu, failed checks %llu, retries %llu", (unsigned long long)are->blocks,
+        (unsigned long long)are->pprs, (unsigned long long)are->resent, (unsigned long long)are->failed_checks,
+        (unsigned long long)are->retries);
+    char peer[IDENTITY_MOST + 1];
+    identity_read(are, peer);
     if (are->first_speed != 0) told_add("; %s to %s", carrier_name(are->first_speed), carrier_name(are->last_speed));
-    if (are->peer[0] != 0) told_add("; peer %s", are->peer);
+    if (peer[0] != 0) told_add("; peer %s", peer);
 }
 
 void record_end_words(const record_end *it)

@@ -1,7 +1,7 @@
 /* What came of a call, on standard error: as lines of JSON, an object for each page and one for the end, or lines of words for the end. */
 #ifndef RECORD_H
 #define RECORD_H
-#include "figures.h"
+#include "g3fax.h"
 
 /* A call that begins. */
 typedef struct record_call {
@@ -20,7 +20,7 @@ typedef struct record_page {
     unsigned image;     /* of the file, from 1; 0: its only one */
     uint32_t width, height, fine;
     int square;         /* the file has each row twice */
-    const char *peer;   /* how the other station has named itself; "": not */
+    const g3_figures *figures; /* how the other station has named itself */
 } record_page;
 void record_page_json(const record_page *it);
 
@@ -28,7 +28,7 @@ typedef struct record_end {
     const char *end;    /* "normal", or why not, in a word: those of STATION.md, "refused" by the terminal itself, "no-call" */
     const char *what;   /* "confirmed" or "pages" */
     uint64_t pages;
-    const figures *figures;
+    const g3_figures *figures;
     const char *why;    /* in words; NULL: nothing more is known */
     record_call of;
     const char *folder; /* of its pages; "": it has none of its own */

@@ -58,8 +58,7 @@ if make -s -C "$here" LIB="$LIB" OUT="$OUT" softfax-checked > "$work/said" 2>&1;
     export ASAN_OPTIONS=exitcode=99 UBSAN_OPTIONS=exitcode=99:print_stacktrace=1
 fi
 if [ "$1" != --audio ]; then
-    make -s -C "$here" LIB="$LIB" OUT="$OUT" figures-test bits-test class1-test memory-test
-    "$OUT/figures-test"
+    make -s -C "$here" LIB="$LIB" OUT="$OUT" bits-test class1-test memory-test
     "$OUT/bits-test"
     mkdir "$work/papers"
     "$OUT/class1-test" "$work/papers"

@@ -1,6 +1,6 @@
 #include "terminal.h"
 #include "carriers.h"
-#include "figures.h"
+#include "identity.h"
 #include "names.h"
 #include <stdio.h>
 #include <stdlib.h>
@@ -53,11 +53,11 @@ struct terminal {
     g3_burst burst;
     int answers_ctc, ctr;           /* CTC is answered; CTR is to be said */
     uint32_t ctc;                   /* the carrier that CTC has named; 0: none since the last DCS */
-    const char *left_out;           /* the last frame that was heard, if it is one that this station answers by nothing; NULL: it isn't */
+    int is_answered;                /* the last frame that was heard is a CTC which CTR answers */
     int without_correction;         /* how many DCS have come from a caller that has no error correction */
     const char *why;                /* why the terminal has ended the call; NULL: it hasn't */
     const char *identity;           /* how this station is named in what it sends; NULL: it isn't */
-    figures figures;
+    g3_figures figures;             /* as the library told them last */
     int hurries;                    /* the call is to end soon, whatever is on the line */
     int trains_anew;                /* the next page carrier comes with the long training, as CTC has it */
 };
@@ -141,14 +141,21 @@ void terminal_identify(terminal *it, const char *text)
     it->identity = text;
 }
 
-const figures *terminal_figures(const terminal *it)
+const g3_figures *terminal_figures(const terminal *it)
 {
     return &it->figures;
 }
 
 const char *terminal_left_out(const terminal *it)
 {
-    return it->left_out;
+    static const char *const WANT_NONE[] = {"CSI", "TSI", "NSF", "NSS", "CIG", "NSC", "PWD", "SEP", "SUB", "SID", "PSA", "CIA", "ISP", "CSA",
+        "TSA", "IRA", "frame"};
+    const char *name = frame_name((uint8_t)it->figures.control);
+    if (!it->figures.other || it->is_answered) return NULL;
+    for (size_t i = 0; i < sizeof WANT_NONE / sizeof WANT_NONE[0]; i++) {
+        if (strcmp(name, WANT_NONE[i]) == 0) return NULL;
+    }
+    return name;
 }
 
 const char *terminal_why(const terminal *it)
@@ -219,27 +226,15 @@ static void note_correction(terminal *it, const uint8_t *content, uint64_t lengt
     is_done(it, g3_terminal_stop(it->station));
 }
 
-/* Notes a page that came under the number of the last one: the library has stopped the call. */
-static void note_used_number(terminal *it)
+/* Takes the figures of the call, and notes a page that came under the number of the last one: the library has stopped the call. */
+static void note_progress(terminal *it)
 {
     g3_progress far = G3_INIT(g3_progress);
-    if (it->why != NULL || !is_done(it, g3_terminal_progress(it->station, &far)) || far.refused_why != G3_REFUSED_USED_NUMBER) return;
+    if (!is_done(it, g3_terminal_progress(it->station, &far))) return;
+    it->figures = far.figures;
+    if (it->why != NULL || far.refused_why != G3_REFUSED_USED_NUMBER) return;
     it->why = "a page came under the number of the last one";
     tell(it, it->why, NULL, 0);
-}
-
-/* The name of a frame that wants an answer, and that neither the stations know nor this terminal answers; NULL: it is none, or has none. */
-static const char *left_out(const terminal *it, const uint8_t *content, uint64_t length)
-{
-    static const char *const WANT_NONE[] = {"CSI", "TSI", "NSF", "NSS", "CIG", "NSC", "PWD", "SEP", "SUB", "SID", "PSA", "CIA", "ISP", "CSA",
-        "TSA", "IRA", "frame"};
-    g3_signal signal = G3_INIT(g3_signal);
-    const char *name = frame_name(content[2]);
-    if (it->ctr || (g3_signal_read(content, length, &signal) == G3_OK && signal.kind != G3_OTHER)) return NULL;
-    for (size_t i = 0; i < sizeof WANT_NONE / sizeof WANT_NONE[0]; i++) {
-        if (strcmp(name, WANT_NONE[i]) == 0) return NULL;
-    }
-    return name;
 }
 
 /* Hears the content of a good frame. */
@@ -250,17 +245,13 @@ static void hear_content(terminal *it, int receiver, const uint8_t *content, uin
     else tell(it, "hears what is no frame of a fax, octets", NULL, length);
     it->heard = it->now;
     it->reads = 1;
-    if (receiver == BY_V21) {
-        figures_hear(&it->figures, content, length);
-        it->left_out = NULL;
-    }
     if (is_ours && receiver == BY_V21) {
         if (it->answers_ctc) note_ctc(it, content, length);
-        it->left_out = left_out(it, content, length);
         note_correction(it, content, length);
     }
+    if (receiver == BY_V21) it->is_answered = it->ctr;
     is_done(it, g3_terminal_hear_frame(it->station, content, length)); /* as a line of its own: two receivers never mix */
-    if (!it->calls && receiver == BY_V21) note_used_number(it);
+    note_progress(it);
 }
 
 /* Hears octets of a receiver as flags and frames. */
@@ -426,7 +417,6 @@ static void note_said(terminal *it, const uint8_t *content, uint64_t length)
 {
     g3_signal signal = G3_INIT(g3_signal);
     if (g3_signal_read(content, length, &signal) == G3_OK) it->said = signal.kind;
-    figures_say(&it->figures, content, length);
 }
 
 static void tell_said(terminal *it, const uint8_t *content, uint64_t length)
@@ -469,6 +459,7 @@ static g3_status begin_carrier(terminal *it)
     it->burst.size = sizeof it->burst;
     g3_status status = g3_terminal_next_burst(it->station, &handle, &it->burst);
     if (status == G3_NOTHING || !is_done(it, status)) return status;
+    note_progress(it);
     free(it->octets);
     it->octets = octets_of(&handle, &length);
     if (it->octets == NULL) return G3_NO_MEMORY; /* the burst is lost, as on a line */

@@ -2,7 +2,6 @@
  * when, by a clock of samples, is decided here. It knows no signal processing. */
 #ifndef TERMINAL_H
 #define TERMINAL_H
-#include "figures.h"
 #include "g3fax.h"
 #include "modem.h"
 
@@ -30,8 +29,8 @@ void terminal_lose(terminal *it);
 void terminal_answer_ctc(terminal *it);
 /* Names this station in what it sends, as `text` says, which is kept by address and fits identity_is. */
 void terminal_identify(terminal *it, const char *text);
-/* The figures of the call so far. */
-const figures *terminal_figures(const terminal *it);
+/* The figures of the call so far, which change with it. */
+const g3_figures *terminal_figures(const terminal *it);
 /* Why the terminal itself has ended the call; NULL if it hasn't. */
 const char *terminal_why(const terminal *it);
 /* The name of the frame that was heard last, if it wants an answer that this station doesn't give; NULL: it isn't one, or has no name. */

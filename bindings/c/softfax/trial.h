@@ -37,7 +37,7 @@ typedef struct outcome {
     uint32_t equal, wrong;         /* stored pages that are those of the document, in order, and others */
     uint32_t seconds;              /* how long the call was */
     uint32_t stops;                /* how often a tty was stopped by XOFF */
-    figures counted[2];            /* by our answerer, and by our caller */
+    g3_figures counted[2];         /* by our answerer, and by our caller */
 } outcome;
 
 /* An end of a call, ours or another. */

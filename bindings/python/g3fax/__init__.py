@@ -23,15 +23,15 @@ from ._calls import Answerer, Burst, Caller, Document, Terminal
 from ._frames import Deframer, agree, frames, read_signal, write_frame, write_signal
 from ._native import __version__ as __version__
 from ._native import _library
-from ._names import (Carrier, Coding, Counts, Dis, End, FileKind, Found, Frame, Kind, Listens, Modems, Next, Order, PageEnd, Params, Pps,
-                     Progress, Reason, Refusal, Side, Signal, State, Wait)
+from ._names import (Carrier, Coding, Counts, Dis, End, Figures, FileKind, Found, Frame, Kind, Listens, Modems, Next, Order, PageEnd, Params,
+                     Pps, Progress, Reason, Refusal, Side, Signal, State, Wait)
 from ._owning import Closed, CodeFault, Fault, FrameLost, Invalid, NoMemory, NotCompatible
 from ._pages import Page, RowCoder, RowReader, decode, encode, encode_pixels, identify, pages, repair, salvage, to_pixels
 
 __all__ = ["Coding", "Order", "Fault", "Closed", "CodeFault", "Invalid", "NoMemory", "Counts", "Frame", "Page", "RowCoder", "RowReader", "Deframer",
            "decode", "encode", "encode_pixels", "to_pixels", "salvage", "repair", "write_frame", "frames", "version"]
 __all__ += ["FileKind", "Found", "identify", "pages"]
-__all__ += ["FrameLost", "NotCompatible", "Modems", "Carrier", "Wait", "Listens", "Next", "End", "State", "Progress", "Burst", "Document",
+__all__ += ["FrameLost", "NotCompatible", "Modems", "Carrier", "Wait", "Listens", "Next", "End", "State", "Figures", "Progress", "Burst", "Document",
             "Terminal", "Caller", "Answerer", "Kind", "Side", "PageEnd", "Reason", "Refusal", "Dis", "Params", "Pps", "Signal", "read_signal",
             "write_signal", "agree"]
 

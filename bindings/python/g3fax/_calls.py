@@ -6,8 +6,8 @@ import ctypes
 from typing import TYPE_CHECKING, Iterable, Iterator, List, NamedTuple, Optional, Tuple, Union
 
 from ._frames import _dis, _params, _wish, frames
-from ._native import _NOTHING, _Burst, _Caps, _Handle, _library, _Params, _Progress, _Signal, _State, _u32, _u64
-from ._names import Carrier, Coding, Dis, End, Kind, Listens, Modems, Next, Params, Progress, Refusal, State, Wait
+from ._native import _NOTHING, _Burst, _Caps, _Figures, _Handle, _library, _Params, _Progress, _Signal, _State, _u32, _u64
+from ._names import Carrier, Coding, Dis, End, Figures, Kind, Listens, Modems, Next, Params, Progress, Refusal, State, Wait
 from ._owning import _done, _flag, _is, _number, _octets, _Owner, _taken
 from ._pages import Page
 from ._shown import shown
@@ -75,6 +75,18 @@ class Document(_Owner):
 
     def _says(self) -> str:
         return f"{len(self)} pages"
+
+
+def _carrier(number: int) -> Optional[Carrier]:
+    """A carrier by its number, or None."""
+    return Carrier(number) if number else None
+
+
+def _figures(told: _Figures) -> Figures:
+    """What a call came to."""
+    peer = bytes(told.peer[:told.peer_length]).decode("latin-1") or None
+    return Figures(told.blocks, told.pprs, told.resent, told.retries, told.failed_checks, _carrier(told.first_speed), _carrier(told.last_speed),
+                   told.control if told.other else None, peer)
 
 
 class Terminal(_Owner):
@@ -191,7 +203,7 @@ class Terminal(_Owner):
         told = _State()
         with self._lock:
             _done(_library.g3_terminal_state(self._at, ctypes.byref(told)))
-        return State(told.pages, told.frames, Listens(told.listens), Carrier(told.carrier) if told.carrier else None,
+        return State(told.pages, told.frames, Listens(told.listens), _carrier(told.carrier),
                      Wait(told.wait) if told.wait else None, Wait(told.longer) if told.longer else None,
                      End(told.end) if told.end else None)
 
@@ -205,6 +217,7 @@ class Terminal(_Owner):
         numbers["accepted"] = (told.accepted_page, told.accepted_block) if told.accepted else None
         numbers["refused_why"] = Refusal(told.refused_why) if told.refused_why else None
         numbers["gap"] = told.gap_page if told.gap else None
+        numbers["figures"] = _figures(told.figures)
         return Progress(**numbers)
 
     @property

@@ -194,13 +194,32 @@ class Refusal(_Choice):
 
 
 @shown
+class Figures(NamedTuple):
+    """What a call came to, counted from the good frames that its terminal heard and from those of the bursts that were taken: the `blocks` that
+    are confirmed, its `pprs`, the frames that these ask for, `resent`, the `retries` of commands that nothing answered, the
+    `failed_checks`, the carriers of the first DCS and of the last, `first_speed` and `last_speed`, or None; the facsimile control field
+    of the last frame that was heard, `other`, if that is no signal of these stations, or None; and the other station's name, `peer`, each
+    octet as a character of Latin-1, or None."""
+
+    blocks: int = 0
+    pprs: int = 0
+    resent: int = 0
+    retries: int = 0
+    failed_checks: int = 0
+    first_speed: Optional[Carrier] = None
+    last_speed: Optional[Carrier] = None
+    other: Optional[int] = None
+    peer: Optional[str] = None
+
+
+@shown
 class Progress(NamedTuple):
     """How far a call is; what belongs to the other station is 0. Of a caller: the `pages` of its document, how many are `confirmed`, the
     `block` of the next one that it sends, from 1, of so many `blocks`, its `resends`, and the `tries` of the last command. Of an answerer:
     the `pages` that it has stored and that weren't taken, how many of all are `confirmed`, the `octets` of the page under way, the `frames`
     of the block under way, and the page and block that it has `accepted` last, by their numbers modulo 256, or None; how often it had a DCS
     that it doesn't allow, `refused`, 0 to 2 for twice or more, and why the call is refused, `refused_why`, or None; and the first page
-    number modulo 256, from 0, that was neither the last one nor the next, `gap`, or None."""
+    number modulo 256, from 0, that was neither the last one nor the next, `gap`, or None. Of both: what the call came to, its `figures`."""
 
     pages: int
     confirmed: int
@@ -214,6 +233,7 @@ class Progress(NamedTuple):
     refused: int = 0
     refused_why: Optional[Refusal] = None
     gap: Optional[int] = None
+    figures: Figures = Figures()
 
 
 class Kind(_Choice):

@@ -80,6 +80,10 @@ class _State(_Sized):
     _fields_ = _members("g3_state")
 
 
+class _Figures(ctypes.Structure):
+    _fields_ = _members("g3_figures")
+
+
 class _Progress(_Sized):
     _fields_ = _members("g3_progress")
 

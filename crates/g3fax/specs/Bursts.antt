@@ -4,8 +4,10 @@ use Rattle.std.specs.declared.alloc.AllocError.{AllocError}
 use Rattle.std.specs.declared.option.Option.{Option}
 use Rattle.std.specs.declared.option.Option.TheVariants.{None, Some}
 use Rattle.terminals.specs.Clocks.{after_burst}
+use Rattle.terminals.specs.Figures.{figures_said}
 use Rattle.terminals.specs.Sending.{HasBurst, Sends}
 use Rattle.terminals.specs.Timed.{TimedFields}
+use Rattle.terminals.specs.Watching.{SawSent}
 use Rattle.terminals.specs.declared.clock.LineState.TheVariants.{Unsaid}
 use Rattle.terminals.specs.declared.sending.SentBurst.{SentBurst}
 use Rattle.g3fax.specs.Codes.{Tells}
@@ -23,13 +25,14 @@ pub record TellsBurst (sent : SentBurst) (burst : G3Burst) : Type 0 where
   pub check : burst.check ≡ check_number sent.carrier
   pub last : burst.last ≡ flag_number sent.last
 
--- A burst was taken of the turn: its octets fill a handle, and its details are told. It has ended the calm, and nothing is said of the line.
+-- A burst was taken of the turn: its octets fill a handle, its details are told, and its frames are counted. It has ended the calm, and nothing is said of the line.
 pub record GivesBurst (S : Type 0) (b : Behaviour S) (old new : TimedFields S) (octets : Option Kept) (burst : G3Burst) : Type 0 where
   pub sent : SentBurst
   pub sends : Sends {E = AllocError} b.side b.lends old.terminal.speaking new.terminal.speaking (Ok (Some sent))
   pub octets_are : HasOctets (λ octets. octets ≡ sent.octets.items) octets
   pub told : TellsBurst sent burst
-  pub rest : new ≡ record old { terminal = new.terminal; clock = after_burst old.clock; line = Unsaid }
+  pub counts : SawSent {E = AllocError} figures_said b.side b.lends old.terminal.speaking old.figures new.figures (Ok (Some sent))
+  pub rest : new ≡ record old { terminal = new.terminal; figures = new.figures; clock = after_burst old.clock; line = Unsaid }
 
 -- 106 exactly if no burst of the turn is left
 abbrev pub IsNothing : {S : Type 0} → Behaviour S → TimedFields S → ℕ → Type 0

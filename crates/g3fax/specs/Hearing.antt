@@ -4,34 +4,45 @@ use Rattle.std.specs.declared.option.Option.{Option}
 use Rattle.std.specs.declared.option.Option.TheVariants.{None, Some}
 use Rattle.signals.specs.Reading.{read_content}
 use Rattle.stations.specs.declared.waiting.Wait.{Wait}
+use Rattle.terminals.specs.Figures.{figures_heard}
 use Rattle.terminals.specs.Hearing.{PlainInput, check, heard_if, over}
 use Rattle.terminals.specs.Runs.{Hears, TakesAll}
 use Rattle.terminals.specs.Speaking.{Takes}
 use Rattle.terminals.specs.Stopping.{hung_up, silenced, stopped}
 use Rattle.terminals.specs.Timed.{Brings, BringsCheck, Misses, SeesContent, SeesOctets, TimedFields, one_more}
+use Rattle.terminals.specs.Watching.{SeesBy}
 use Rattle.terminals.specs.declared.fault.HearFault.TheVariants.{FrameLost}
 use Rattle.terminals.specs.declared.watching.Watched.{Watched}
 use Rattle.g3fax.specs.Frames.{longest_content}
 use Rattle.g3fax.specs.Stations.{Behaviour}
 use Rattle.g3fax.specs.Statuses.{ok, no_memory, bad_choice, bad_length, frame_lost}
 
--- The station has taken each signal in the octets, or passed over it while a burst of its turn was left to be sent; what they brought was seen. By 9 nothing was taken; by 108 frames in them are lost.
+-- The station has taken each signal in the octets, or passed over it while a burst of its turn was left to be sent; what they brought was seen
+-- and counted. By 9 nothing was taken; by 108 frames in them are lost.
 pub record HearsOctets (S : Type 0) (b : Behaviour S) (old : TimedFields S) (octets : List ℕ) (new : TimedFields S) (status : ℕ) : Type 0 where
   pub done : status ≡ ok → Hears b.steps b.lends old.terminal octets new.terminal (Ok tt)
   pub lost : status ≡ frame_lost → Hears b.steps b.lends old.terminal octets new.terminal (Err FrameLost)
   pub sees : status ≢ no_memory → SeesOctets S b.shows old.terminal octets old.watched new.watched (Ok tt)
+  pub counts : status ≢ no_memory → SeesBy figures_heard old.terminal.framing octets old.figures new.figures
   pub brings : status ≢ no_memory → Brings old.terminal.framing new.terminal.framing old.brought new.brought
-  pub rest : new ≡ record old { terminal = new.terminal; watched = new.watched; brought = new.brought }
+  pub rest : new ≡
+      record old { terminal = new.terminal; watched = new.watched; figures = new.figures; brought = new.brought }
   pub kept : status ≡ no_memory → new ≡ old
   pub only : (status ≡ ok) ⊎ ((status ≡ no_memory) ⊎ (status ≡ frame_lost))
 
--- The station has taken the signal that a content says, if it says one, or passed over it; and the content was seen.
+-- The station has taken the signal that a content says, if it says one, or passed over it; and the content was seen and counted.
 pub record HearsContent (S : Type 0) (b : Behaviour S) (old : TimedFields S) (content : List ℕ) (new : TimedFields S) : Type 0 where
   pub takes : TakesAll b.steps b.lends old.terminal.speaking (heard_if (read_content content)) new.terminal.speaking
   pub framing : new.terminal.framing ≡ old.terminal.framing
   pub sees : SeesContent S b.shows old.terminal content old.watched new.watched
-  pub rest : new ≡
-      record old { terminal = new.terminal; watched = new.watched; brought = true; contents = one_more old.contents }
+  pub counts : new.figures ≡ figures_heard old.figures content (read_content content)
+  pub rest : new ≡ record old {
+    terminal = new.terminal;
+    watched = new.watched;
+    figures = new.figures;
+    brought = true;
+    contents = one_more old.contents;
+  }
 
 -- a content was heard, status 0; or memory was refused, 9, and nothing has changed
 pub record TakesContent (S : Type 0) (b : Behaviour S) (old : TimedFields S) (content : List ℕ) (new : TimedFields S) (status : ℕ) :

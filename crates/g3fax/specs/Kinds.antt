@@ -1,11 +1,9 @@
 -- Both stations as handles have them, so that each contract of a terminal is said once.
-use Rattle.std.specs.Prelude.{ℕ, ◌≡◌, ◌≢◌, Option, None, Some}
-use Rattle.signals.specs.Signals.{dcs, dis}
-use Rattle.signals.specs.declared.params.Caps.{Caps}
+use Rattle.std.specs.Prelude.{ℕ, ◌≡◌, ◌≢◌, Option}
 use Rattle.signals.specs.declared.params.Params.{Params}
 use Rattle.stations.specs.CallerFields.{Represents}
 use Rattle.stations.specs.CallerStep.{Caller, confirmed}
-use Rattle.stations.specs.HowFar.{answerer_progress, caller_progress}
+use Rattle.stations.specs.HowFar.{caller_progress}
 use Rattle.stations.specs.Limiting.{LimitedFields}
 use Rattle.stations.specs.Listening.{answerer_params, answerer_peer, caller_params, caller_peer}
 use Rattle.stations.specs.Stopping.{StoppableCallerFields}
@@ -56,7 +54,7 @@ caller_kind = record {
   pages = λ timed pages. OfTuple timed (λ t. pages ≡ confirmed t);
   params = λ timed params. OfTuple timed (λ t. params ≡ caller_params t.state t.params);
   peer = λ timed peer. OfTuple timed (λ t. peer ≡ told_dis (caller_peer t.state (confirmed t) t.caps));
-  progress = λ timed far. OfTuple timed (λ t. far ≡ calling_told (caller_progress t));
+  progress = λ timed far. OfTuple timed (λ t. far ≡ calling_told (caller_progress t) timed.figures);
 }
 
 -- An answerer: if the burst was MCF, it confirms all pages stored so far; its pages are those stored and not handed out, and the other station

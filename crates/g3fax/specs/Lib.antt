@@ -5,6 +5,7 @@ pub mod Beginning
 pub mod Bursts
 pub mod Codes
 pub mod Documents
+pub mod Figures
 pub mod Frames
 pub mod Handles
 pub mod Hearing

@@ -8,6 +8,7 @@ use Rattle.stations.specs.declared.howfar.BlockProgress.{BlockProgress}
 use Rattle.stations.specs.declared.howfar.CallerProgress.{CallerProgress}
 use Rattle.signals.specs.declared.mark.Mark.{Mark}
 use Rattle.terminals.specs.Watching.{refusal_of_seen}
+use Rattle.terminals.specs.declared.figures.Figures.{Figures}
 use Rattle.terminals.specs.declared.watching.Refusal.{Refusal}
 use Rattle.terminals.specs.declared.watching.Refusal.TheVariants.{NoErrorCorrection, NotOffered, UsedNumber}
 use Rattle.terminals.specs.declared.watching.Refused.{Refused}
@@ -15,11 +16,12 @@ use Rattle.terminals.specs.declared.watching.Refused.TheVariants.{Never, Once, T
 use Rattle.terminals.specs.declared.watching.Watched.{Watched}
 use Rattle.g3fax.specs.Answering.{AnsweringFields, count_left}
 use Rattle.g3fax.specs.Codes.{Tells}
+use Rattle.g3fax.specs.Figures.{figures_told}
 use Rattle.g3fax.specs.declared.progress.G3Progress.{G3Progress}
 
--- how far a caller is beside its block, by numbers; 0 for all that belongs to an answerer
-abbrev pub calling_without : CallerProgress → G3Progress
-calling_without far = record {
+-- how far a caller is whose call came to this, beside its block, by numbers; 0 for all that belongs to an answerer
+abbrev pub calling_without : CallerProgress → Figures → G3Progress
+calling_without far figures = record {
   pages = far.pages;
   confirmed = far.confirmed;
   block = 0;
@@ -35,6 +37,7 @@ calling_without far = record {
   refused_why = 0;
   gap = 0;
   gap_page = 0;
+  figures = figures_told figures;
 }
 
 -- the block that a caller sends, from 1, of how many, and how often frames of it were asked for again; 0 if it sends none
@@ -42,13 +45,14 @@ abbrev pub with_block : Option BlockProgress → G3Progress → G3Progress
 with_block None told = told
 with_block (Some far) told = record told { block = far.number; blocks = far.blocks; resends = far.resends }
 
--- how far a caller is, by numbers
-abbrev pub calling_told : CallerProgress → G3Progress
-calling_told far = with_block far.block (calling_without far)
+-- how far a caller is whose call came to this, by numbers
+abbrev pub calling_told : CallerProgress → Figures → G3Progress
+calling_told far figures = with_block far.block (calling_without far figures)
 
--- how far an answerer with these pages, and so many of all confirmed, is beside its mark, by numbers; 0 for all that belongs to a caller
-abbrev pub answering_without : AnswererProgress → ℕ → ℕ → G3Progress
-answering_without far pages confirmed = record {
+-- how far an answerer with these pages, and so many of all confirmed, is whose call came to this, beside its mark, by numbers; 0 for all that
+-- belongs to a caller
+abbrev pub answering_without : AnswererProgress → ℕ → ℕ → Figures → G3Progress
+answering_without far pages confirmed figures = record {
   pages = pages;
   confirmed = confirmed;
   block = 0;
@@ -64,6 +68,7 @@ answering_without far pages confirmed = record {
   refused_why = 0;
   gap = 0;
   gap_page = 0;
+  figures = figures_told figures;
 }
 
 -- the mark of the last block that an answerer accepted, if there is one
@@ -96,14 +101,15 @@ with_watch None told = told
 with_watch (Some w) told =
     with_gap w.pages.gap (record told { refused = refused_times w.refused; refused_why = refused_why (refusal_of_seen w) })
 
--- how far an answerer with these pages, and so many of all confirmed, is, by numbers
-abbrev pub answering_told : AnswererProgress → ℕ → ℕ → G3Progress
-answering_told far pages confirmed = with_mark far.accepted (answering_without far pages confirmed)
+-- how far an answerer with these pages, and so many of all confirmed, is whose call came to this, by numbers
+abbrev pub answering_told : AnswererProgress → ℕ → ℕ → Figures → G3Progress
+answering_told far pages confirmed figures = with_mark far.accepted (answering_without far pages confirmed figures)
 
--- the numbers of a progress say how far an answerer is, with the pages stored and not handed out, those confirmed, and what it saw; those of a
--- caller are 0
+-- the numbers of a progress say how far an answerer is, with the pages stored and not handed out, those confirmed, what it saw, and what its call
+-- came to; those of a caller are 0
 pub record AnsweringTold (answering : AnsweringFields) (progress : G3Progress) : Type 0 where
   pub told : progress ≡
       with_watch answering.timed.watched
-      (answering_told (answerer_progress answering.timed.terminal.speaking.station.station) progress.pages answering.tally.confirmed)
+      (answering_told (answerer_progress answering.timed.terminal.speaking.station.station) progress.pages answering.tally.confirmed
+      answering.timed.figures)
   pub pages : Tells (count_left answering) progress.pages

@@ -6,11 +6,12 @@ ghost use Rattle.std.specs.Prelude.{◌≡◌, ◌≢◌, ◌≤◌};
 
 use crate::answering::Answering;
 use crate::codes::in_64_bits;
+use crate::figures::{G3Figures, figures_told};
 use crate::handle::{G3Handle, Kept};
 use crate::status::{EMPTY_HANDLE, OK, OTHER_HANDLE};
 use stations::{AnswererProgress, CallerProgress, StoppableCaller};
 use std::alloc::Global;
-use terminals::{Refusal, Refused, TimedTerminal, Watched};
+use terminals::{Figures, Refusal, Refused, TimedTerminal, Watched};
 
 /// How far a terminal is with its call; what belongs to the other station is 0.
 #[repr(C)]
@@ -47,6 +48,8 @@ pub struct G3Progress {
     pub gap: u32,
     /// The page number, modulo 256, that came first after a jump.
     pub gap_page: u32,
+    /// What the call came to.
+    pub figures: G3Figures,
 }
 
 /// How often a DCS wasn't allowed.
@@ -92,9 +95,9 @@ fn with_watch(told: G3Progress, watched: Option<Watched>) -> G3Progress
     }
 }
 
-/// What is told of how far a caller is.
-fn calling_told(far: CallerProgress) -> G3Progress
-    ensures { result ≡ calling_told far }
+/// What is told of how far a caller is, whose call came to this.
+fn calling_told(far: CallerProgress, figures: Figures) -> G3Progress
+    ensures { result ≡ calling_told far figures }
 {
     let (block, blocks, resends) = match far.block {
         Some(block) => (block.number, block.blocks, block.resends as u32),
@@ -116,12 +119,13 @@ fn calling_told(far: CallerProgress) -> G3Progress
         refused_why: 0,
         gap: 0,
         gap_page: 0,
+        figures: figures_told(figures),
     }
 }
 
-/// What is told of how far an answerer is, with this many pages and so many of all confirmed.
-fn answering_told(far: AnswererProgress, pages: u64, confirmed: u64) -> G3Progress
-    ensures { result ≡ answering_told far pages confirmed }
+/// What is told of how far an answerer is, with this many pages and so many of all confirmed, whose call came to this.
+fn answering_told(far: AnswererProgress, pages: u64, confirmed: u64, figures: Figures) -> G3Progress
+    ensures { result ≡ answering_told far pages confirmed figures }
 {
     let (accepted, accepted_page, accepted_block) = match far.accepted {
         Some(mark) => (1, mark.page as u32, mark.block as u32),
@@ -143,6 +147,7 @@ fn answering_told(far: AnswererProgress, pages: u64, confirmed: u64) -> G3Progre
         refused_why: 0,
         gap: 0,
         gap_page: 0,
+        figures: figures_told(figures),
     }
 }
 
@@ -150,7 +155,8 @@ fn answering_told(far: AnswererProgress, pages: u64, confirmed: u64) -> G3Progre
 fn tell_calling(timed: &TimedTerminal<StoppableCaller>, progress: &mut G3Progress) -> u32
     ensures { TellsProgress caller_kind timed.now progress.new result }
 {
-    *progress = calling_told(timed.terminal().station().station().progress());
+    let far = timed.terminal().station().station().progress();
+    *progress = calling_told(far, timed.figures());
     OK
 }
 
@@ -160,13 +166,19 @@ fn tell_answering(answering: &Answering, progress: &mut G3Progress) -> u32
 {
     let station = answering.timed.terminal().station().station();
     let pages = in_64_bits(answering.count_left());
-    let told = answering_told(station.progress(), pages, answering.tally.confirmed);
+    let confirmed = answering.tally.confirmed;
+    let told = answering_told(
+        station.progress(),
+        pages,
+        confirmed,
+        answering.timed.figures(),
+    );
     *progress = with_watch(told, answering.timed.watched());
     OK
 }
 
 /// Tells how far a terminal is with its call: a caller's pages, block and tries, or an answerer's pages, octets and
-/// frames, and what it saw of its caller.
+/// frames, and what it saw of its caller; and what the call came to.
 #[unsafe(no_mangle)]
 pub extern "C" fn g3_core_terminal_progress(
     alloc: Global,

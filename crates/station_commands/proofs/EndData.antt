@@ -10,7 +10,7 @@ use Rattle.faults.specs.RecordLines.{count, words}
 use Rattle.serde_json.specs.Data.{Data, Members, member, no_members, put}
 use Rattle.serde_json.specs.Written.{has_float, members_have_float}
 use Rattle.signals.specs.declared.params.Speed.{Speed}
-use Rattle.station_commands.specs.declared.station.figures.Figures.{Figures}
+use Rattle.terminals.specs.declared.figures.Figures.{Figures}
 use Rattle.station_commands.specs.EndRecords.{ended_record, maybe_words, name_record, pages_word, speed_record, with_counts, with_end}
 use Rattle.station_commands.specs.EndRecords.{with_speeds}
 

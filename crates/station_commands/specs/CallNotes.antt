@@ -8,12 +8,13 @@ use Rattle.captures.specs.Records.{other_record}
 use Rattle.captures.specs.Texts.{content_text}
 use Rattle.conversations.specs.Lines.{channel_name}
 use Rattle.conversations.specs.declared.carrier.Channel.TheVariants.{Message}
+use Rattle.terminals.specs.Figures.{figures_heard, no_figures, said_as}
+use Rattle.terminals.specs.declared.figures.Figures.{Figures}
 use Rattle.terminals.specs.declared.watching.Refusal.{Refusal}
 use Rattle.terminals.specs.declared.watching.Refusal.TheVariants.{NoErrorCorrection as RefusedPlain, NotOffered, UsedNumber}
 use Rattle.faults.specs.RecordLines.{count, words}
 use Rattle.faults.specs.Explanations.{reason_words as system_words}
 use Rattle.std.specs.declared.io.ErrorKind.{ErrorKind}
-use Rattle.station_commands.specs.Figures.{figures_heard, figures_said, no_figures}
 use Rattle.station_commands.specs.declared.station.folder.StoppedBy.{StoppedBy}
 use Rattle.station_commands.specs.declared.station.folder.StoppedBy.TheVariants.{Pages, Octets, Seconds, LostPage}
 use Rattle.station_commands.specs.declared.station.notes.Noted.{Noted}
@@ -65,7 +66,8 @@ known_heard old (Err fault) = old
 
 -- the same with the figures
 abbrev pub noted_heard : Noted → List ℕ → Noted
-noted_heard old content = record (known_heard old (read_content content)) { figures = figures_heard old.figures content }
+noted_heard old content =
+    record (known_heard old (read_content content)) { figures = figures_heard old.figures content (read_content content) }
 
 -- the same of contents in order
 abbrev pub noted_after : Noted → List (List ℕ) → Noted
@@ -77,6 +79,11 @@ abbrev pub is_confirmation : Result PlainSignal SignalFault → Bool
 is_confirmation (Ok mcf) = true
 is_confirmation (Ok signal) = false
 is_confirmation (Err fault) = false
+
+-- the figures once a content that reads so was said
+abbrev pub figures_said : Figures → Result PlainSignal SignalFault → Figures
+figures_said f (Ok signal) = said_as f signal
+figures_said f (Err fault) = f
 
 -- what is noted once a content was said
 abbrev pub noted_said : Noted → Result PlainSignal SignalFault → Noted

@@ -10,7 +10,7 @@ use Rattle.signals.specs.declared.params.Speed.{Speed}
 use Rattle.stations.specs.declared.stopping.CallEnd.{CallEnd}
 use Rattle.stations.specs.declared.stopping.CallEnd.TheVariants.{By, LineLost, Stopped}
 use Rattle.stations.specs.declared.turn.End.TheVariants.{Normal, NotCompatible}
-use Rattle.station_commands.specs.declared.station.figures.Figures.{Figures}
+use Rattle.terminals.specs.declared.figures.Figures.{Figures}
 
 -- ---- a frame that the stations leave out
 

@@ -2,7 +2,6 @@
 pub mod CallNotes
 pub mod CallRows
 pub mod EndRecords
-pub mod Figures
 pub mod Files
 pub mod FolderBooks
 pub mod Folders

@@ -2,7 +2,6 @@
 
 pub(crate) mod end_records;
 pub(crate) mod ending;
-pub(crate) mod figures;
 pub(crate) mod folder;
 pub mod given;
 pub(crate) mod lateness;
@@ -30,7 +29,6 @@ ghost use Rattle.terminals.specs.Clocks.{duration};
 ghost use Rattle.terminals.specs.Timing.{wait_millis};
 
 use crate::station::ending::end_station;
-use crate::station::figures::Figures;
 use crate::station::folder::{CallLimits, Folder, StoppedBy};
 use crate::station::given::{GivenLimits, GivenWaits};
 use crate::station::lateness::Lateness;
@@ -62,7 +60,7 @@ use stations::{CallEnd, Caller, CallerFault, End, LimitedAnswerer, Limits, Stopp
 use std::alloc::{AllocError, Global};
 use std::io;
 use std::io::{BufRead, BufReader, BufWriter, ErrorKind, Write};
-use terminals::{Durations, Stoppable, Terminal};
+use terminals::{Durations, Figures, Stoppable, Terminal};
 
 /// How many octets of standard input are read at a time.
 const READ_AT_ONCE: usize = 65536;

@@ -10,6 +10,7 @@ pub mod Few
 pub mod Sent
 pub mod Memory
 pub mod Seen
+pub mod Counted
 pub mod Saying
 pub mod Writable
 pub mod FrameSizes

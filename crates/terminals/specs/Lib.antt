@@ -2,6 +2,8 @@ pub mod BurstSizes
 pub mod Bursts
 pub mod ClockLaws
 pub mod Clocks
+pub mod Figures
+pub mod FiguresLaws
 pub mod Hearing
 pub mod InputsTaken
 pub mod Memory

@@ -10,6 +10,7 @@ use Rattle.signals.specs.declared.mark.Mark.{Mark}
 use Rattle.stations.specs.declared.stopping.Cut.{Cut}
 use Rattle.stations.specs.declared.turn.Turn.{Turn}
 use Rattle.terminals.specs.Clocks.{after_burst, asked_since, new_clock}
+use Rattle.terminals.specs.Figures.{no_figures}
 use Rattle.terminals.specs.Hearing.{HasHeard, check, good_frames}
 use Rattle.terminals.specs.Passing.{Acts, clock_told, is_awaited}
 use Rattle.terminals.specs.Runs.{TerminalFields}
@@ -23,6 +24,7 @@ use Rattle.terminals.specs.declared.clock.LineState.{LineState}
 use Rattle.terminals.specs.declared.clock.LineState.TheVariants.{Quiet, Carrier, Ended, Unsaid}
 use Rattle.terminals.specs.declared.fault.HearFault.{HearFault}
 use Rattle.terminals.specs.declared.fault.HearFault.TheVariants.{NothingTaken, FrameLost}
+use Rattle.terminals.specs.declared.figures.Figures.{Figures}
 use Rattle.terminals.specs.declared.passing.Moment.{Moment}
 use Rattle.terminals.specs.declared.sending.SentBurst.{SentBurst}
 use Rattle.terminals.specs.declared.stopping.Shown.{Shown}
@@ -34,7 +36,7 @@ use Rattle.terminals.specs.declared.timeout.Timeout.TheVariants.{Stop, GiveUp}
 use Rattle.terminals.specs.declared.watching.Watched.{Watched}
 
 -- a terminal, its clock, what its line is, whether a good frame or the awaited training check has come since the time was told, how many good
--- frames came as contents, what is watched, how long its waits run, and how long its call lasts at most
+-- frames came as contents, what is watched, what its call came to, how long its waits run, and how long its call lasts at most
 pub record TimedFields (S : Type 0) : Type 0 where
   pub terminal : TerminalFields S
   pub clock : Clock
@@ -42,6 +44,7 @@ pub record TimedFields (S : Type 0) : Type 0 where
   pub brought : Bool
   pub contents : ℕ
   pub watched : Option Watched
+  pub figures : Figures
   pub durations : Durations
   pub limit : Limit
 
@@ -54,6 +57,7 @@ new_timed terminal watched durations limit = record {
   brought = false;
   contents = 0;
   watched = watched;
+  figures = no_figures;
   durations = durations;
   limit = limit;
 }

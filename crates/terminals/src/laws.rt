@@ -1,9 +1,11 @@
-//! Laws of what is heard, of where it leads, of waits, of DCN, of what can be written, of what is held, and of what is watched. Nothing runs.
+//! Laws of what is heard, of where it leads, of waits, of DCN, of what can be written, of what is held, of what is watched, and of what a
+//! call came to. Nothing runs.
 
 ghost use Rattle.terminals.specs.BurstSizes.{AnswerersBurstsAreShort, CallersBurstsAreShort, FramesAreShort};
 ghost use Rattle.terminals.specs.Bursts.{AnswerersSendOne, CallersSendTwo};
 ghost use Rattle.terminals.specs.ClockLaws.{FlagsLast, OverHavePassedAlways, PassedAreOverAlways, T1RunsFromHeardAlways, T5RunsFromFirstAlways, WaitsLast};
 ghost use Rattle.terminals.specs.Clocks.{CalmIsQuiet, CarriersHold, WaitsAreNamed, WaitsPass};
+ghost use Rattle.terminals.specs.FiguresLaws.{FiguresByOctets, PagesCountAsNothing};
 ghost use Rattle.terminals.specs.Hearing.{CutsChangeNothing};
 ghost use Rattle.terminals.specs.InputsTaken.{AnswerersTake, CallersTake};
 ghost use Rattle.terminals.specs.Memory.{OneFrameIsKept, OpenPagesAreLimited};
@@ -194,4 +196,10 @@ pub fn gaps_are_jumps()
 pub fn used_by_octets()
     ensures octets { UsedByOctets }
     ensures brought { UsedIsBrought }
+{}
+
+/// Calls come to these figures, by the octets of their frames; and frames of pages count as nothing, so that the figures are those of V.21.
+pub fn figures_by_octets()
+    ensures octets { FiguresByOctets }
+    ensures pages { PagesCountAsNothing }
 {}

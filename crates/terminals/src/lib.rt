@@ -4,6 +4,7 @@
 
 mod clock;
 mod fault;
+mod figures;
 mod input;
 pub mod laws;
 mod passing;
@@ -19,6 +20,7 @@ mod watching;
 
 pub use crate::clock::{Clock, Durations, LineState};
 pub use crate::fault::HearFault;
+pub use crate::figures::Figures;
 pub use crate::input::Input;
 pub use crate::passing::{Moment, is_awaited, pass};
 pub use crate::sending::SentBurst;

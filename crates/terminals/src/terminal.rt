@@ -9,7 +9,7 @@ ghost use Rattle.terminals.specs.Sending.{HasBurst, Sends};
 ghost use Rattle.terminals.specs.Speaking.{Takes, is_mcf};
 ghost use Rattle.terminals.specs.Stations.{without_pages};
 ghost use Rattle.terminals.specs.Stopping.{IsShown, hung_up, silenced, stopped, with_pages_taken};
-ghost use Rattle.terminals.specs.Watching.{SawSent, SeesByIfTaken, SeesIfTaken};
+ghost use Rattle.terminals.specs.Watching.{SawSent, SeesByIfTaken, SeesIfTaken, seen_reading};
 
 use crate::fault::HearFault;
 use crate::input::Input;
@@ -128,19 +128,24 @@ impl<S: Station> Terminal<S> {
     }
 
     /// Hears the content of a good frame that was found elsewhere: the station takes the signal that it says, or nothing if it says none,
-    /// or one that isn't DCN while a burst of its turn is left to be sent; and a watch sees it, read once. The octets heard so far, and the count of good frames in them, stay. `AllocError` if memory is refused to
-    /// the step: the frame is lost, as on a line, and was seen.
+    /// or one that isn't DCN while a burst of its turn is left to be sent. What is watched, and a second watch, see it, read once. The octets
+    /// heard so far, and the count of good frames in them, stay. `AllocError` if memory is refused to the step: the frame is lost, as on a
+    /// line, and was seen.
     pub fn hear_content<W: Watch>(
         &mut self,
         content: &[u8],
+        watched: &mut Option<Watched>,
         watch: &mut W,
     ) -> Result<(), AllocError>
         ensures ok { OnOk result (TakesAll S.steps S.lends self.old.speaking (heard_if (read_content content.now)) self.new.speaking) }
         ensures err { OnErr result (self.new ≡ self.old) }
         ensures framing { self.new.framing ≡ self.old.framing }
+        ensures sees { watched.new
+            ≡ seen_reading watched.old content.now (read_content content.now) }
         ensures seen { watch.new ≡ W.saw watch.old content.now (read_content content.now) }
     {
         let said = signals::read(content);
+        watched.see(content, said);
         watch.see(content, said);
         if self.speaker.hear_said(said) {
             return Ok(());

@@ -2,6 +2,7 @@
 
 ghost use Rattle.signals.specs.Reading.{read_content};
 ghost use Rattle.std.specs.Prelude.{◌≡◌, ◌||◌, IfOk, List, OnErr, OnOk, false, nat_lt, true, ℕ};
+ghost use Rattle.terminals.specs.Figures.{figures_heard, figures_said};
 ghost use Rattle.terminals.specs.Hearing.{HasHeard, busy, check, heard_if, over};
 ghost use Rattle.terminals.specs.Runs.{Hears, TakesAll};
 ghost use Rattle.terminals.specs.Passing.{is_awaited};
@@ -10,9 +11,11 @@ ghost use Rattle.terminals.specs.Speaking.{Takes};
 ghost use Rattle.terminals.specs.Stopping.{hung_up, silenced, stopped, with_pages_taken};
 ghost use Rattle.terminals.specs.Timed.{BringsCheck, BringsIfTaken, IsDue, IsNext, Misses, PassesUnlessSending, SeesContent, SeesOctets};
 ghost use Rattle.terminals.specs.Timed.{after_given, all_frames, new_timed, next_of, one_more};
+ghost use Rattle.terminals.specs.Watching.{SawSent, SeesByIfTaken};
 
 use crate::clock::{Clock, Durations, LineState};
 use crate::fault::HearFault;
+use crate::figures::Figures;
 use crate::passing::{Moment, is_awaited, pass_unless_sending, unless_sending};
 use crate::sending::SentBurst;
 use crate::stopping::Stoppable;
@@ -47,6 +50,7 @@ pub struct TimedTerminal<S: Stoppable> {
     // how many good frames came as contents
     contents: u64,
     watched: Option<Watched>,
+    figures: Figures,
     durations: Durations,
     limit: Limit,
 }
@@ -63,6 +67,7 @@ impl<S: Stoppable> Model for TimedTerminal<S> {
       brought = s.brought;
       contents = s.contents;
       watched = s.watched;
+      figures = s.figures;
       durations = s.durations;
       limit = s.limit;
     } };
@@ -85,6 +90,7 @@ impl<S: Stoppable> TimedTerminal<S> {
             brought: false,
             contents: 0,
             watched,
+            figures: Figures::NONE,
             durations,
             limit,
         }
@@ -136,39 +142,55 @@ impl<S: Stoppable> TimedTerminal<S> {
         Ok(done)
     }
 
-    /// Hears octets of the line, as `Terminal::hear_watching` does. What is watched is seen in each good frame, by the block that the station
-    /// has accepted last; by `NothingTaken` nothing changes.
+    /// Hears octets of the line, as `Terminal::hear_by` does. What is watched is seen in each good frame, by the block that the station has
+    /// accepted last, and the figures count it; by `NothingTaken` nothing changes.
     pub fn hear(&mut self, octets: &[u8]) -> Result<(), HearFault>
         ensures hears { Hears S.steps S.lends self.old.terminal octets.now
             self.new.terminal result }
         ensures sees { SeesOctets S S.shows self.old.terminal octets.now self.old.watched self.new.watched result }
+        ensures counts { SeesByIfTaken figures_heard self.old.terminal.framing octets.now
+            self.old.figures self.new.figures result }
         ensures brings { BringsIfTaken self.old.terminal.framing self.new.terminal.framing self.old.brought self.new.brought result }
-        ensures rest { self.new ≡ record self.old { terminal = self.new.terminal; watched = self.new.watched; brought = self.new.brought } }
+        ensures rest { self.new ≡ record self.old {
+          terminal = self.new.terminal;
+          watched = self.new.watched;
+          figures = self.new.figures;
+          brought = self.new.brought;
+        } }
     {
         hear_noting(
             &mut self.terminal,
             &mut self.watched,
+            &mut self.figures,
             &mut self.brought,
             octets,
         )
     }
 
-    /// Hears the content of a good frame that was found elsewhere, as `Terminal::hear_content` does. `AllocError` if memory is refused; nothing
-    /// changes.
+    /// Hears the content of a good frame that was found elsewhere, as `Terminal::hear_content` does; the figures count it. `AllocError` if
+    /// memory is refused; nothing changes.
     pub fn hear_content(&mut self, content: &[u8]) -> Result<(), AllocError>
         ensures ok { OnOk result (TakesAll S.steps S.lends self.old.terminal.speaking (heard_if (read_content content.now))
             self.new.terminal.speaking) }
         ensures sees { OnOk result (SeesContent S S.shows self.old.terminal content.now self.old.watched self.new.watched) }
+        ensures counts { OnOk result (self.new.figures
+            ≡ figures_heard self.old.figures content.now (read_content content.now)) }
         ensures framing { self.new.terminal.framing ≡ self.old.terminal.framing }
         ensures rest { OnOk result (self.new ≡ record self.old {
           terminal = self.new.terminal;
           watched = self.new.watched;
+          figures = self.new.figures;
           brought = true;
           contents = one_more self.old.contents;
         }) }
         ensures err { OnErr result (self.new ≡ self.old) }
     {
-        hear_content_noting(&mut self.terminal, &mut self.watched, content)?;
+        hear_content_noting(
+            &mut self.terminal,
+            &mut self.watched,
+            &mut self.figures,
+            content,
+        )?;
         self.brought = true;
         self.contents = self.contents.saturating_add(1);
         Ok(())
@@ -220,14 +242,16 @@ impl<S: Stoppable> TimedTerminal<S> {
         self.terminal.set_busy(is)
     }
 
-    /// Takes the next burst of the turn that is kept, as `Terminal::next_burst` does. A burst ends the calm, and nothing is said of the line
-    /// until `pass` says it. `AllocError` if memory is refused; nothing changes.
+    /// Takes the next burst of the turn that is kept, as `Terminal::next_burst` does; the figures count its frames. A burst ends the calm, and
+    /// nothing is said of the line until `pass` says it. `AllocError` if memory is refused; nothing changes.
     pub fn next_burst(&mut self) -> Result<Option<SentBurst>, AllocError>
         ensures sends { Sends S.sends S.lends self.old.terminal.speaking self.new.terminal.speaking result }
         ensures framing { self.new.terminal.framing ≡ self.old.terminal.framing }
-        ensures rest { self.new ≡ after_given result (record self.old { terminal = self.new.terminal }) }
+        ensures counts { SawSent figures_said S.sends S.lends self.old.terminal.speaking
+            self.old.figures self.new.figures result }
+        ensures rest { self.new ≡ after_given result (record self.old { terminal = self.new.terminal; figures = self.new.figures }) }
     {
-        let sent = self.terminal.next_burst()?;
+        let sent = self.terminal.next_burst_by(&mut self.figures)?;
         if sent.is_some() {
             self.clock = self.clock.sent();
             self.line = LineState::Unsaid;
@@ -308,6 +332,13 @@ impl<S: Stoppable> TimedTerminal<S> {
         self.watched
     }
 
+    /// Returns what the call came to so far, counted from the good frames that were heard and from those of the bursts that were taken.
+    pub fn figures(&self) -> Figures
+        ensures { result ≡ self.now.figures }
+    {
+        self.figures
+    }
+
     /// Returns the terminal: its station, what this shows, and whether a burst is left.
     pub fn terminal(&self) -> &Terminal<S>
         ensures { result.now ≡ self.now.terminal }
@@ -328,21 +359,24 @@ impl TimedTerminal<LimitedAnswerer> {
     }
 }
 
-/// Hears octets, sees what they bring, by the block that the station has accepted last, and notes whether something has come.
+/// Hears octets, sees what they bring, by the block that the station has accepted last, counts it, and notes whether something has come.
 fn hear_noting<S: Stoppable>(
     terminal: &mut Terminal<S>,
     watched: &mut Option<Watched>,
+    figures: &mut Figures,
     brought: &mut bool,
     octets: &[u8],
 ) -> Result<(), HearFault>
     ensures hears { Hears S.steps S.lends terminal.old octets.now terminal.new result }
     ensures sees { SeesOctets S S.shows terminal.old octets.now watched.old watched.new result }
+    ensures counts { SeesByIfTaken figures_heard terminal.old.framing octets.now figures.old
+        figures.new result }
     ensures brings { BringsIfTaken terminal.old.framing terminal.new.framing brought.old brought.new result }
 {
     let before = terminal.good_frames();
     let mut seen = *watched;
     note(&mut seen, terminal.shown().accepted);
-    match terminal.hear_watching(octets, &mut seen) {
+    match terminal.hear_by(octets, &mut seen, figures) {
         Ok(()) => {
             *watched = seen;
             *brought = has_come(*brought, before, terminal.good_frames());
@@ -357,21 +391,26 @@ fn hear_noting<S: Stoppable>(
     }
 }
 
-/// Hears a content, and sees it, by the block that the station has accepted last.
+/// Hears a content, sees it, by the block that the station has accepted last, and counts it.
 fn hear_content_noting<S: Stoppable>(
     terminal: &mut Terminal<S>,
     watched: &mut Option<Watched>,
+    figures: &mut Figures,
     content: &[u8],
 ) -> Result<(), AllocError>
     ensures ok { OnOk result (TakesAll S.steps S.lends terminal.old.speaking (heard_if (read_content content.now)) terminal.new.speaking) }
     ensures sees { OnOk result (SeesContent S S.shows terminal.old content.now watched.old watched.new) }
+    ensures counts { OnOk result (figures.new
+        ≡ figures_heard figures.old content.now (read_content content.now)) }
     ensures framing { terminal.new.framing ≡ terminal.old.framing }
-    ensures err { OnErr result ((terminal.new ≡ terminal.old) × (watched.new ≡ watched.old)) }
+    ensures err { OnErr result ((terminal.new ≡ terminal.old) × (watched.new ≡ watched.old)
+        × (figures.new ≡ figures.old)) }
 {
-    let mut seen = *watched;
+    let (mut seen, mut counted) = (*watched, *figures);
     note(&mut seen, terminal.shown().accepted);
-    terminal.hear_content(content, &mut seen)?;
+    terminal.hear_content(content, &mut seen, &mut counted)?;
     *watched = seen;
+    *figures = counted;
     Ok(())
 }
 

@@ -350,7 +350,7 @@ fn unknown_dcs(corrects: bool) -> Refusal
 }
 
 /// The octets after a content's third.
-fn fields_of(content: &[u8]) -> &[u8]
+pub(crate) fn fields_of(content: &[u8]) -> &[u8]
     ensures { result.now ≡ drop 3 content.now }
 {
     if content.len() < 3 {

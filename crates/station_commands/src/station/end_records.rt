@@ -8,7 +8,6 @@ ghost use Rattle.station_commands.specs.EndRecords.{name_record, pages_word, res
 ghost use Rattle.std.specs.Io.KnownBytes.{Appends};
 ghost use Rattle.std.specs.Prelude.{◌≡◌, IfErr, IfOk, OnOk};
 
-use crate::station::figures::Figures;
 use captures::write_signs;
 use conversations::Channel;
 use faults::{FAILED, ToolFault, write_record};
@@ -16,6 +15,7 @@ use serde_json::{Map, Value, put};
 use signals::Speed;
 use std::alloc::{AllocError, Global};
 use std::io::Write;
+use terminals::Figures;
 
 /// How a call ended, and what it came to.
 #[derive(Clone, Copy)]

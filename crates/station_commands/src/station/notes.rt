@@ -1,14 +1,14 @@
 //! What is noted of a station's call while it runs, beside its trace, and what the other station says that is no signal of ours.
 
 ghost use Rattle.station_commands.specs.CallNotes.{IsLack, IsMissing, ends_all, ends_document, is_confirmation, is_of_mark, is_whole, noted_after};
-ghost use Rattle.station_commands.specs.CallNotes.{known_heard, no_notes, noted_heard, noted_said, said_after, with_pps};
+ghost use Rattle.station_commands.specs.CallNotes.{figures_said, known_heard, no_notes, noted_heard, noted_said, said_after, with_pps};
 ghost use Rattle.station_commands.specs.Following.{HearsOctets, HearsSome, SaysOctets, SaysSome, v21_heard, v21_said};
 ghost use Rattle.hdlc.specs.DeframerState.{IsAfter};
 ghost use Rattle.signals.specs.Reading.{read_content};
+ghost use Rattle.signals.specs.Signals.{plain_read};
 ghost use Rattle.faults.specs.Faults.{IsOutside};
 ghost use Rattle.std.specs.Prelude.{◌≡◌, ◌+◌, ◌-◌, ◌^◌, [], IfErr, None, Some, min, not, option_map};
 
-use crate::station::figures::Figures;
 use crate::station::lateness::Lateness;
 use crate::station::records::{other_line, write_heard, write_heard_words, write_lost};
 use crate::station::trace::Trace;
@@ -18,9 +18,11 @@ use command_files::streams::Streams;
 use conversations::{Channel, Follower, Kind, Said, TimedLine};
 use faults::ToolFault;
 use hdlc::Deframer;
-use signals::{Caps, Mark, PageEnd, PageWidth, Pps, Reason, Signal, Wish, read, why_not};
+use signals::{
+    Caps, Mark, PageEnd, PageWidth, Pps, Reason, Signal, SignalFault, Wish, read, why_not,
+};
 use stations::{Carrier, Listening};
-use terminals::SentBurst;
+use terminals::{Figures, SentBurst};
 
 /// What is noted of the frames that a station heard by V.21, and of those that it said.
 #[derive(Clone, Copy, Debug, PartialEq, Eq)]
@@ -48,10 +50,10 @@ impl Noted {
     fn heard(self, content: &[u8]) -> Noted
         ensures { result ≡ noted_heard self content.now }
     {
-        let noted = self.known(content);
+        let said = read(content);
         Noted {
-            figures: self.figures.heard(content),
-            ..noted
+            figures: self.figures.heard(content, said),
+            ..self.known(said)
         }
     }
 
@@ -59,18 +61,19 @@ impl Noted {
     fn said(self, content: &[u8]) -> Noted
         ensures { result ≡ noted_said self (read_content content.now) }
     {
+        let said = read(content);
         Noted {
-            confirms: is_confirmation(content),
-            figures: self.figures.said(content),
+            confirms: is_confirmation(said),
+            figures: figures_said(self.figures, said),
             ..self
         }
     }
 
-    /// What is noted, beside the figures, once a content was heard too.
-    fn known(self, content: &[u8]) -> Noted
-        ensures { result ≡ known_heard self (read_content content.now) }
+    /// What is noted, beside the figures, once a content that says this was heard too.
+    fn known(self, said: Result<Signal<'_>, SignalFault>) -> Noted
+        ensures { result ≡ known_heard self (plain_read said.entry) }
     {
-        match read(content) {
+        match said {
             Ok(
                 Signal::Pps {
                     ends,
@@ -175,13 +178,23 @@ fn ends_all(ends: PageEnd) -> bool
     }
 }
 
-/// Whether a content is MCF.
-fn is_confirmation(content: &[u8]) -> bool
-    ensures { result ≡ is_confirmation (read_content content.now) }
+/// Whether a content that says this is MCF.
+fn is_confirmation(said: Result<Signal<'_>, SignalFault>) -> bool
+    ensures { result ≡ is_confirmation (plain_read said.entry) }
 {
-    match read(content) {
+    match said {
         Ok(Signal::Mcf) => true,
         _ => false,
+    }
+}
+
+/// Returns the figures once a content that says this was said.
+fn figures_said(figures: Figures, said: Result<Signal<'_>, SignalFault>) -> Figures
+    ensures { result ≡ figures_said figures (plain_read said.entry) }
+{
+    match said {
+        Ok(signal) => figures.said(signal),
+        Err(_) => figures,
     }
 }
 

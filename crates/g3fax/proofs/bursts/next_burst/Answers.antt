@@ -1,9 +1,11 @@
 -- What the check asks of `next_burst`.
 use Rattle.std.proofs.Common.{◌≡◌, ◌∙◌, None, Some, Ok, Option, arith, false, inl, inr, refl, rules, subst, sym, true}
 use Rattle.std.specs.declared.alloc.AllocError.{AllocError}
+use Rattle.terminals.specs.Figures.{figures_said}
 use Rattle.terminals.specs.Runs.{TerminalFields}
 use Rattle.terminals.specs.Sending.{HasBurst, Sends}
 use Rattle.terminals.specs.Timed.{after_given}
+use Rattle.terminals.specs.Watching.{SawSent}
 use Rattle.terminals.specs.declared.sending.SentBurst.{SentBurst}
 use Rattle.g3fax.proofs.BurstLemmas.{sends_none}
 use Rattle.g3fax.proofs.bursts.next_burst.Goals as goal
@@ -25,8 +27,11 @@ returns-in-Ok-Some-clause-next g c =
                 c.args.timed.now.terminal.speaking c.next_burst.new.self.terminal.speaking (Ok sent)) is c.in-Ok-Some.ensures.sends;
             octets_are = c.give.ensures.given;
             told = c.give.ensures.told;
+            counts = subst (λ (sent : Option SentBurst). SawSent {E = AllocError} figures_said g.S.Station.sends g.S.Station.lends
+                c.args.timed.now.terminal.speaking c.args.timed.now.figures c.next_burst.new.self.figures (Ok sent)) is c.in-Ok-Some.ensures.counts;
             rest = subst (λ (sent : Option SentBurst). c.next_burst.new.self ≡ after_given {E = AllocError} (Ok sent)
-                (record c.args.timed.now { terminal = c.next_burst.new.self.terminal })) is c.in-Ok-Some.ensures.rest;
+                (record c.args.timed.now { terminal = c.next_burst.new.self.terminal; figures = c.next_burst.new.self.figures })) is
+                c.in-Ok-Some.ensures.rest;
           },
         );
         kept = λ other. absurd (other refl);

@@ -1,42 +1,44 @@
-//! What a station's call came to, counted from the frames of V.21 that it heard and said.
+//! What a call came to, counted from the frames that its station heard and said.
 
-ghost use Rattle.captures.specs.SignalWords.{is_in_map};
-ghost use Rattle.signals.specs.Reading.{read_content};
-ghost use Rattle.signals.specs.Signals.{plain};
-ghost use Rattle.station_commands.specs.Figures.{asked_below, asked_of, begins_block, commanding, counted, figures_heard, figures_said, is_blank, is_command, is_name, more};
-ghost use Rattle.station_commands.specs.Figures.{name_after, no_figures, unread_of, with_confirmed, with_pps, with_request, with_speed};
-ghost use Rattle.std.specs.Prelude.{◌≡◌, ◌≤◌, drop};
+ghost use Rattle.raster.specs.Packed.{bit_in};
+ghost use Rattle.signals.specs.Signals.{plain, plain_read};
+ghost use Rattle.std.specs.Prelude.{◌≡◌, ◌≤◌};
+ghost use Rattle.terminals.specs.Figures.{asked_below, asked_of, begins_block, commanding, counted, figures_heard, figures_said, hearing};
+ghost use Rattle.terminals.specs.Figures.{is_blank, is_command, is_name, is_of_page, more, name_after, no_figures, said_as, unread_of};
+ghost use Rattle.terminals.specs.Figures.{with_confirmed, with_pps, with_request, with_speed};
 
-use captures::is_in_map;
-use signals::{Mark, Pps, Signal, Speed, read};
+use crate::watching::{Watch, fields_of};
+use raster::packed::{Order, bit_of};
+use signals::{Mark, Pps, Signal, SignalFault, Speed};
 
-/// What a call came to so far, counted from the contents of V.21 that its station heard and said. A count stays at its greatest value.
+/// What a call came to so far, counted from the good frames that its station heard and those that it said. A frame of a page, FCD or RCP,
+/// changes nothing. A count stays at its greatest value.
 #[derive(Clone, Copy, Debug, PartialEq, Eq)]
-pub(crate) struct Figures {
+pub struct Figures {
     /// The blocks that are confirmed: each by the first MCF after its PPS.
-    pub(crate) blocks: u64,
+    pub blocks: u64,
     /// The PPRs.
-    pub(crate) requests: u64,
+    pub requests: u64,
     /// The frames that these ask for, of those that the block of the last PPS has.
-    pub(crate) resent: u64,
+    pub resent: u64,
     /// The commands that the station said again though no frame answered the one before.
-    pub(crate) retries: u64,
+    pub retries: u64,
     /// The FTTs.
-    pub(crate) failed_checks: u64,
+    pub failed_checks: u64,
     /// The speed of the first DCS.
-    pub(crate) first_speed: Option<Speed>,
+    pub first_speed: Option<Speed>,
     /// The speed of the last DCS.
-    pub(crate) last_speed: Option<Speed>,
+    pub last_speed: Option<Speed>,
     /// The information field of the last TSI or CSI that was heard: what the other station calls itself, the last sign first.
-    pub(crate) name: Option<[u8; 20]>,
-    /// The control field of the last frame that was heard, if that is no signal of ours.
-    pub(crate) unread: Option<u8>,
+    pub name: Option<[u8; 20]>,
+    /// The control field of the last frame that was heard, if that is no signal of ours; frames of pages aside.
+    pub unread: Option<u8>,
     /// The last PPS.
-    pps: Option<Pps>,
+    pub pps: Option<Pps>,
     /// Whether its block isn't confirmed.
-    is_open: bool,
+    pub is_open: bool,
     /// Whether no frame has answered the last command.
-    is_unanswered: bool,
+    pub is_unanswered: bool,
 }
 
 /// Returns one more, unless the count is at its greatest value.
@@ -56,6 +58,13 @@ fn is_command(signal: Signal<'_>) -> bool
     }
 }
 
+/// Returns whether a signal is a frame of a page.
+fn is_of_page(signal: Signal<'_>) -> bool
+    ensures { result ≡ is_of_page (plain signal.entry) }
+{
+    matches!(signal, Signal::Fcd { .. } | Signal::Rcp)
+}
+
 /// Returns whether a control field is that of CSI or TSI, by which a station names itself (T.30, 5.3.6.2).
 fn is_name(octet: u8) -> bool
     ensures { result ≡ is_name octet }
@@ -70,7 +79,7 @@ fn asked_below(map: &[u8; 32], end: u16) -> u64
 {
     let mut asked = 0;
     for number in 0..end {
-        asked += u64::from(is_in_map(map, number));
+        asked += u64::from(bit_of(Order::LsbFirst, map, u128::from(number)));
     }
     asked
 }
@@ -134,7 +143,7 @@ fn name_after(before: Option<[u8; 20]>, octet: Option<u8>, fields: &[u8]) -> Opt
 
 impl Figures {
     /// Those of a call that hasn't begun.
-    pub(crate) const NONE: Figures = Figures {
+    pub const NONE: Figures = Figures {
         blocks: 0,
         requests: 0,
         resent: 0,
@@ -149,36 +158,41 @@ impl Figures {
         is_unanswered: false,
     };
 
-    /// Returns the figures once a content was heard too.
-    pub(crate) fn heard(self, content: &[u8]) -> Figures
-        ensures { result ≡ figures_heard self content.now }
+    /// Returns the figures once a content was heard too that says this.
+    pub fn heard(self, content: &[u8], said: Result<Signal<'_>, SignalFault>) -> Figures
+        ensures { result ≡ figures_heard self content.now (plain_read said.entry) }
     {
-        let Ok(signal) = read(content) else {
+        let Ok(signal) = said else {
             return Figures {
                 unread: None,
                 is_unanswered: false,
                 ..self
             };
         };
+        if is_of_page(signal) {
+            return self;
+        }
+        self.hearing(fields_of(content), signal).counted(signal)
+    }
+
+    /// Returns the figures once a signal was said too.
+    pub fn said(self, signal: Signal<'_>) -> Figures
+        ensures { result ≡ said_as self (plain signal.entry) }
+    {
+        self.commanding(signal).counted(signal)
+    }
+
+    /// Returns the figures once a signal was heard in a content with this information field, but for what it adds, whoever says it.
+    fn hearing(self, fields: &[u8], signal: Signal<'_>) -> Figures
+        ensures { result ≡ hearing self fields.now (plain signal.entry) }
+    {
         let unread = unread_of(signal);
-        let fields = content.get(3..).unwrap_or(&[]);
-        let heard = Figures {
+        Figures {
             name: name_after(self.name, unread, fields),
             unread,
             is_unanswered: false,
             ..self
-        };
-        heard.counted(signal)
-    }
-
-    /// Returns the figures once a content was said too.
-    pub(crate) fn said(self, content: &[u8]) -> Figures
-        ensures { result ≡ figures_said self (read_content content.now) }
-    {
-        let Ok(signal) = read(content) else {
-            return self;
-        };
-        self.commanding(signal).counted(signal)
+        }
     }
 
     /// Returns the figures once a signal was said, as far as it asks for an answer.
@@ -278,5 +292,19 @@ impl Figures {
             is_open: false,
             ..self
         }
+    }
+}
+
+impl Watch for Figures {
+    ghost saw = { figures_heard };
+
+    ghost saw_said = { figures_said };
+
+    fn see(&mut self, content: &[u8], said: Result<Signal<'_>, SignalFault>) {
+        *self = self.heard(content, said);
+    }
+
+    fn see_said(&mut self, _content: &[u8], signal: Signal<'_>) {
+        *self = self.said(signal);
     }
 }
