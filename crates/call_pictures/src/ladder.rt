@@ -4,8 +4,9 @@ ghost use Rattle.call_pictures.specs.Ladders.{entries_in, entries_of_round, entr
 ghost use Rattle.call_pictures.specs.Ladders.{item_after, repeated};
 ghost use Rattle.call_pictures.specs.DrawnFields.{drawn_entry};
 ghost use Rattle.faults.specs.Faults.{IsOutside};
-ghost use Rattle.std.specs.Prelude.{◌≡◌, ◌+◌, ◌++◌, ◌∷◌, [], length, IfErr, IfOk, IfSome, OnOk, None, Some};
+ghost use Rattle.std.specs.Prelude.{◌≡◌, ◌+◌, ◌++◌, ◌∷◌, [], length, IfErr, IfOk, IfSome, IsTrue, OnOk, None, Some};
 
+use crate::alike::same_entry;
 use crate::drawn_fields::drawn;
 use calls::after;
 use faults::{FAILED, ToolFault};
@@ -16,7 +17,7 @@ use std::marker::Model;
 use std::mem;
 
 /// Events of a call that follow one another and are drawn as one: equal ones, or of frames whose numbers follow one another.
-#[derive(Clone, Copy, Debug, PartialEq, Eq)]
+#[derive(Clone, Copy, Debug)]
 pub(crate) struct Row {
     /// The first of them.
     pub(crate) entry: Entry,
@@ -92,7 +93,7 @@ impl Row {
         let times = self.times.checked_add(1)?;
         let item = item_after(self.entry.item, self.times)?;
         let next = Entry { item, ..self.entry };
-        if next != *entry {
+        if !same_entry(&next, entry) {
             return None;
         }
         Some(Row {
@@ -119,12 +120,37 @@ fn add_row(rows: &mut Vec<Row>, entry: &Entry) -> Result<(), AllocError>
     Ok(())
 }
 
+/// True if two rows are the same.
+fn same_row(row: &Row, other: &Row) -> bool
+    ensures { IsTrue result → row.now ≡ other.now }
+{
+    if row.times != other.times {
+        return false;
+    }
+    same_entry(&row.entry, &other.entry)
+}
+
+/// True if rows are the same.
+fn are_same(rows: &[Row], others: &[Row]) -> bool
+    ensures { IsTrue result → rows.now ≡ others.now }
+{
+    if rows.len() != others.len() {
+        return false;
+    }
+    for place in 0..rows.len() {
+        if !same_row(&rows[place], &others[place]) {
+            return false;
+        }
+    }
+    true
+}
+
 /// How often a round comes with rows that come after it, if they are its own.
 fn times_with(round: &Round, rows: &[Row]) -> Option<u64>
     ensures { IfSome result (λ times.
         repeated (entries_of_rows rows.now) times ≡ entries_of_round round.now ++ entries_of_rows rows.now) }
 {
-    if round.rows.as_slice() != rows {
+    if !are_same(&round.rows, rows) {
         return None;
     }
     let times = round.times.checked_add(1)?;

@@ -1,6 +1,7 @@
 //! Calls and captures drawn as ladders.
 #![tactic(auto)]
 
+mod alike;
 mod captured_call;
 mod diagram;
 mod drawn_fields;
