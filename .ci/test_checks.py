@@ -194,7 +194,7 @@ def witnesses():
     yield refuses("a premise that nothing gives", premises, set(), coming, "PieceComes")
     entry = {**given.NOT_GIVEN, ("joined_terminals", "Octets", "PieceComes"): "it is given"}
     yield refuses("a premise that is given", lambda listed: premises(set(), listed), given.NOT_GIVEN, entry, "PieceComes")
-    dialled = {key for key in laws if key[2] == "DialledAnswer"}
+    dialled = {key for key in laws if key[2] in ("DialledAnswer", "NoneIsWithheld")}
     yield refuses("a keeper of no law", lambda own: given.trait_faults(BOOK.crates, BOOK.specs, own), laws, laws - dialled, "Confirmed")
 
 
@@ -414,7 +414,7 @@ def words():
                            (told.NAMES, ' ∷ (75, codes "TK")', "")):
         yield refuses(f"a frame that {path} names otherwise", told.name_faults, texts, changed_in(path, old=old, new=new), told.C_NAMES)
     assert not list(told.end_faults(texts))
-    for path, old, new in ((told.END_SPECS, 'put (codes "resent")', 'put (codes "sent_again")'), (told.END_C, 'retries\\\":', 'repeats\\\":'),
+    for path, old, new in ((told.END_SPECS, 'put (codes "resent")', 'put (codes "sent_again")'), (told.END_C, 'put_count("retries"', 'put_count("repeats"'),
                            (told.END_C, "frames sent again", "frames again"), (told.ASKING_C, '"NSC", ', "")):
         yield refuses(f"what {path} alone tells of a call's end", told.end_faults, texts, changed_in(path, old=old, new=new), told.END_SPECS)
     for name, path, old, new, said in TOUCHED:
