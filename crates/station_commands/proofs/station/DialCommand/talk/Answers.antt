@@ -1,0 +1,33 @@
+-- What the check asks of `talk`.
+use Rattle.std.proofs.Common.{rules}
+use Rattle.station_commands.proofs.station.DialCommand.talk.Goals as goal
+
+pub returns-clause-talks : goal.returns-clause-talks
+returns-clause-talks c document sends new =
+    let talks = c.in_ok-halted.ensures.talks in
+    record {
+      document = document;
+      sends = sends;
+      first = c.conversation-conversation.result;
+      begins = c.conversation-conversation.ensures document new;
+      none = record { streams = _; records = _; told = 0 };
+      none_told = search rules;
+      last = c.talk_out.new.conversation;
+      kept = c.talk_out.new.keeper;
+      ended = talks.0;
+      talks = talks.2.0;
+      halted = talks.3;
+      end = λ t stands. search rules;
+      answers = search rules;
+      follower = c.new-notes.result;
+      is_new = record {
+        noted = c.new-notes.ensures.noted;
+        ear = c.new-notes.ensures.deframers.0;
+        mouth = c.new-notes.ensures.deframers.1;
+        most_is = search rules;
+        first = search rules;
+      };
+      notes = talks.1;
+      follows = talks.2.1;
+      pages = λ t stands. search rules;
+    }
