@@ -91,13 +91,14 @@ def struct_faults(old, new):
 
 
 def shape_faults(text):
-    """The structs of a header that can't grow: they have neither a size of their own nor spare words at their end; or octets of padding, in
-    which a new member would change no size."""
+    """The structs of a header that can't grow: they have neither a size of their own nor spare words at their end, and end no struct with a
+    size, in which new members follow them; or octets of padding, in which a new member would change no size."""
     header = Header(text)
+    last = {header.structs[name][-1][0] for name in header.sized}
     for name in [name for name in header.structs if name not in header.handles]:
         if sum(room(header.structs, *member)[0] for member in header.structs[name]) != laid(header.structs, name)[""][0]:
             yield f"{name} has octets of padding"
-        if name not in header.sized and header.structs[name][-1][1] != "spare":
+        if name not in {*header.sized, *last} and header.structs[name][-1][1] != "spare":
             yield f"{name} can't grow: it has no size and no spare words"
 
 
