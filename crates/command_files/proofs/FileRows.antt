@@ -8,7 +8,7 @@ use Rattle.raster.specs.PbmText.{header_text}
 use Rattle.command_files.specs.Bounds.{image_octets}
 use Rattle.command_files.specs.FileRows.{FilesAreOne, NumbersAreFound, SizesByNumber, WordsAreOfFiles}
 
--- the octets of the image of a page of this width with so many rows
+-- how many octets an image has, by its page's width and number of rows
 image_is : (page : PagePixels) (width rows : ℕ) → page.width ≡ width → length page.rows ≡ rows →
     image_octets page ≡ length (header_text width rows) + stride width * rows
 image_is page width rows wide high =

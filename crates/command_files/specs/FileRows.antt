@@ -22,7 +22,7 @@ pub record FilesAreOne : Type 0 where
       ≡ record { role = codes "--diagram"; name = codes "a"; is_written = true } ∷ []
   pub print : printed ≡ record { role = codes "what is printed"; name = codes "-"; is_written = true }
 
--- an image of a page of this width with so many rows has so many octets
+-- an image has this number of octets (the last), by its page's width and number of rows
 abbrev HasOctets : ℕ → ℕ → ℕ → Type 0
 HasOctets width rows octets = (page : PagePixels) → page.width ≡ width → length page.rows ≡ rows → image_octets page ≡ octets
 
@@ -53,7 +53,7 @@ pub record NumbersAreFound : Type 0 where
   pub no_number : number_after (codes "pos:") 10 (codes "pos: unlimited") ≡ None
   pub largest : number_after (codes "pos:") 10 (codes "pos: 18446744073709551616") ≡ Some (2 ^ 64 - 1)
 
--- law: which file a fault is about, and what `-` stands for
+-- law: which file a fault is about, and what `-` is called
 pub record WordsAreOfFiles : Type 0 where
   pub of_line : part_of (AtLine 3) None None ≡ Script
   pub of_bit : part_of (AtBit 10 3) None (Some Trace) ≡ Input

@@ -44,7 +44,7 @@ pub record LinesByEnd : Type 0 where
   pub nothing : IsLine file.Nothing (codes "a: not read: identify may tell what it is\n")
   pub failed : IsLine (file.Failed (fault.No 32)) (codes "a: fault 32\n")
 
--- law: what stands under a file's line, in its order: what is told of its pages, what of its name is left out, and its fault's words
+-- law: the lines under a file's own, in their order: those of its pages, what its images' names leave out, and its fault's words
 pub record LinesBelow : Type 0 where
   pub told : each_text (codes "b") (file.NoEnd 1) (codes "page 1: the page ends without its RTC after 23 rows\n") true None
       ≡ codes "b: 1 pages, and one or more has no end\n    page 1: the page ends without its RTC after 23 rows\n"
@@ -98,7 +98,8 @@ pub record NamesByOctets : Type 0 where
 
 -- ---- ends
 
--- law: the end of a file of three pages by that of the last one: whether one is damaged, whether nothing is told, and what follows
+-- law: the end of a file of three pages by that of the last one: whether one is damaged, whether no line is written of any, and what
+-- follows
 pub record EndsByPage : Type 0 where
   pub whole : file_end 3 false true page.Read next.Nothing ≡ file.Whole 3
   pub told : file_end 3 false false page.Read next.Nothing ≡ file.NoEnd 3
