@@ -20,10 +20,8 @@ ghost use Rattle.station_commands.specs.declared.station.Halted.{Halted as Halte
 ghost use Rattle.conversations.specs.Conversations.{behaviour};
 ghost use Rattle.conversations.specs.Talking.{keeping};
 ghost use Rattle.stations.specs.CallerFields.{NewCaller};
-ghost use Rattle.std.specs.Prelude.{◌≡◌, ◌<◌, ◌-◌, IfErr, IfOk, IfSome, List, Ok, Result, drop, length, map, unwrap_or};
-ghost use Rattle.raster.specs.Pages.{IsDocument, PagePixels};
-ghost use Rattle.raster.specs.Pbm.{AreImages};
-ghost use Rattle.raster.specs.PbmText.{with_fine};
+ghost use Rattle.std.specs.Prelude.{◌≡◌, ◌-◌, IfErr, IfOk, IfSome, List, Ok, Result, unwrap_or};
+ghost use Rattle.raster.specs.Pages.{PagePixels};
 ghost use Rattle.stations.specs.declared.waiting.Wait.{Wait as AnyWait};
 ghost use Rattle.terminals.specs.Clocks.{duration};
 ghost use Rattle.terminals.specs.Timing.{wait_millis};
@@ -53,8 +51,7 @@ use command_files::streams::Streams;
 use conversations::{Conversation, ConverseFault, Ending, Keeper, Refusal, Said, Says, converse};
 use faults::{FAILED, NO_MEMORY, ToolFault};
 use page_files::PageForm;
-use raster::laws::pbm_round_trip;
-use raster::{Document, Page, RasterFault, read_pbm, write_pbm};
+use raster::Document;
 use signals::{Caps, Reason, Wish};
 use stations::{CallEnd, Caller, CallerFault, End, LimitedAnswerer, Limits, StoppableCaller, Turn};
 use std::alloc::{AllocError, Global};
@@ -495,53 +492,6 @@ impl AnswerCommand {
     }
 }
 
-/// Reads images that were written. Errors: `Io` (8), `NoMemory` (9).
-fn read_written(alloc: Global, images: &[u8], fine: bool) -> Result<Document, ToolFault>
-    ensures read { IfOk result (λ document. (pages : List PagePixels) → AreImages fine images.now pages → document ≡ pages) }
-    ensures fault { IfErr result IsOutside }
-{
-    let mut images = images;
-    match read_pbm(alloc, &mut images, fine) {
-        Ok(document) => Ok(document),
-        Err(RasterFault::NoMemory) => Err(NO_MEMORY),
-        Err(_) => Err(FAILED),
-    }
-}
-
-/// Returns some pages as a document, by images that are written of them and read. Errors: `Io` (8), `NoMemory` (9).
-fn document_of(alloc: Global, pages: &[Page], fine: bool) -> Result<Document, ToolFault>
-    requires document { IsDocument pages.now }
-    requires lines { map (with_fine fine) pages.now ≡ pages.now }
-    ensures same { IfOk result (λ document. document ≡ pages.now) }
-    ensures fault { IfErr result IsOutside }
-{
-    pbm_round_trip();
-    let mut octets = Vec::new(alloc);
-    match write_pbm(pages, &mut octets) {
-        Ok(()) => read_written(alloc, octets.as_slice(), fine),
-        Err(_) => Err(FAILED),
-    }
-}
-
-/// The pages of a document after so many, with the same lines. Errors: `Io` (8), `NoMemory` (9).
-fn pages_after(
-    alloc: Global,
-    document: Document,
-    before: usize,
-    fine: bool,
-) -> Result<Document, ToolFault>
-    requires some { before < length document }
-    requires lines { map (with_fine fine) document ≡ document }
-    ensures rest { IfOk result (λ rest. rest ≡ drop before document) }
-    ensures fault { IfErr result IsOutside }
-{
-    if before == 0 {
-        return Ok(document);
-    }
-    // a document can't drop its first pages
-    document_of(alloc, &document.pages()[before..], fine)
-}
-
 /// Runs a caller by lines of text.
 #[derive(Debug, PartialEq, Eq, Drop)]
 pub struct DialCommand {
@@ -607,7 +557,7 @@ impl DialCommand {
         let count = document.pages().len();
         let before = self.pages_before();
         if before < count {
-            return pages_after(context.alloc(), document, before, fine);
+            return Ok(document.drop_first(before));
         }
         let from = self.from;
         context.note_cause(Cause::FewerPages { count, from });
