@@ -187,6 +187,37 @@ end stopped pages 0" --limit 1 --most-octets "$((first - 1))"
     is_same "$work/error" "$work/wanted" "what is told at --most-seconds"
     [ "$status $(tail -n 1 "$work/output")" = "1 done" ] && [ "$(wc -l < "$work/output")" -lt "$before" ] || fails "--most-seconds: status $status"
     count=$((count + 3))
+    try_carriers
+}
+
+# A call of 60 s at most is stopped where a carrier has just ended, and on one that doesn't end ten seconds later: an answerer's and a caller's.
+# Four hours are the most if nothing is said, and 0 is no limit.
+try_carriers() {
+    { echo "quiet 1000"; for at in $(seq 2000 5000 200000); do echo "rx $at v21 hdlc 74 7E7EDF47A85AD6FAF901"; done; } > "$work/lines"
+    is_stopped_at 62 60 --answer --out "$work/stored"
+    is_stopped_at 62 60 --call "$top/.ci/conversations/reference_no_line_at_all.pbm"
+    { echo "quiet 1000"; for at in $(seq 2000 1000 200000); do echo "busy $at"; done; } > "$work/lines"
+    is_stopped_at 70 60 --answer --out "$work/stored"
+    is_stopped_at 70 60 --call "$top/.ci/conversations/reference_no_line_at_all.pbm"
+    { echo "quiet 1000"; for at in $(seq 10000 300000 14710000); do echo "busy $at"; done; } > "$work/lines"
+    is_stopped_at 14410 '' --answer --out "$work/stored"
+    is_stopped_at 14410 '' --call "$top/.ci/conversations/reference_no_line_at_all.pbm"
+    for side in "--answer --out $work/stored" "--call $top/.ci/conversations/reference_no_line_at_all.pbm"; do
+        ends 1 station --most-seconds 0 $side < "$work/lines"
+        grep -q '^end line-lost' "$work/error" || fails "--most-seconds 0 stops a call"
+    done
+    count=$((count + 8))
+}
+
+# A station stops its call at this second, and says DCN, then done. Arguments: the second, the limit or nothing, the words of the station.
+is_stopped_at() {
+    second=$1 most=$2
+    shift 2
+    ends 1 station ${most:+--most-seconds "$most"} "$@" < "$work/lines"
+    grep -qx "the call is stopped: --most-seconds" "$work/error" || fails "--most-seconds: $*: no word of it"
+    grep -q "^$second s; " "$work/error" || fails "--most-seconds: $*: stopped at $(grep -o '^[0-9]* s; ' "$work/error"), not $second s"
+    grep -q '^end stopped pages 0' "$work/error" || fails "--most-seconds: $*: $(tail -n 1 "$work/error")"
+    [ "$(tail -n 1 "$work/output")" = "done" ] && tail -n 2 "$work/output" | grep -q '^tx ' || fails "--most-seconds: $*: no DCN"
 }
 
 # A folder that can't be written, as root can't write /proc, is found before a line is read; and nothing is left of looking.
@@ -570,24 +601,23 @@ IN|a station answers or calls: either --answer or --call is needed
 --answer --out DIR --limit 0|
 --answer --out DIR --t1 0|
 --call -|IN can't be standard input, where the lines come
---call --out DIR IN|--out, --standard, --widest, --limit, --mode, --most-.., --refuse and --hold are for a station with --answer
---call --most-pages 1 IN|--out, --standard, --widest, --limit, --mode, --most-.., --refuse and --hold are for a station with --answer
---call --most-octets 1 IN|--out, --standard, --widest, --limit, --mode, --most-.., --refuse and --hold are for a station with --answer
---call --most-seconds 1 IN|--out, --standard, --widest, --limit, --mode, --most-.., --refuse and --hold are for a station with --answer
+--call --out DIR IN|--out, --standard, --widest, --limit, --mode, --most-pages, --most-octets, --refuse and --hold are for a station with --answer
+--call --most-pages 1 IN|--out, --standard, --widest, --limit, --mode, --most-pages, --most-octets, --refuse and --hold are for a station with --answer
+--call --most-octets 1 IN|--out, --standard, --widest, --limit, --mode, --most-pages, --most-octets, --refuse and --hold are for a station with --answer
 --answer --out DIR --most-pages 0|
---call --refuse IN|--out, --standard, --widest, --limit, --mode, --most-.., --refuse and --hold are for a station with --answer
---call --no-refuse IN|--out, --standard, --widest, --limit, --mode, --most-.., --refuse and --hold are for a station with --answer
+--call --refuse IN|--out, --standard, --widest, --limit, --mode, --most-pages, --most-octets, --refuse and --hold are for a station with --answer
+--call --no-refuse IN|--out, --standard, --widest, --limit, --mode, --most-pages, --most-octets, --refuse and --hold are for a station with --answer
 --answer --out DIR --refuse --no-refuse|--refuse and --no-refuse can't be used together
---call --mode 600 IN|--out, --standard, --widest, --limit, --mode, --most-.., --refuse and --hold are for a station with --answer
+--call --mode 600 IN|--out, --standard, --widest, --limit, --mode, --most-pages, --most-octets, --refuse and --hold are for a station with --answer
 --answer --out DIR --hold --limit 1|--hold takes one page at a time, and can't be used with --limit
---call --hold IN|--out, --standard, --widest, --limit, --mode, --most-.., --refuse and --hold are for a station with --answer
+--call --hold IN|--out, --standard, --widest, --limit, --mode, --most-pages, --most-octets, --refuse and --hold are for a station with --answer
 --answer --out DIR --mode 64|a mode is three octal digits, perhaps after a 0, as 0640
 --answer --out DIR --mode 1640|a mode is three octal digits, perhaps after a 0, as 0640
 --answer --out DIR --mode 06400|a mode is three octal digits, perhaps after a 0, as 0640
 --answer --out DIR --mode 0680|a mode is three octal digits, perhaps after a 0, as 0640
 --answer --out DIR --mode rwx|a mode is three octal digits, perhaps after a 0, as 0640
---call --limit 1 IN|--out, --standard, --widest, --limit, --mode, --most-.., --refuse and --hold are for a station with --answer
---call --widest 1728 IN|--out, --standard, --widest, --limit, --mode, --most-.., --refuse and --hold are for a station with --answer
+--call --limit 1 IN|--out, --standard, --widest, --limit, --mode, --most-pages, --most-octets, --refuse and --hold are for a station with --answer
+--call --widest 1728 IN|--out, --standard, --widest, --limit, --mode, --most-pages, --most-octets, --refuse and --hold are for a station with --answer
 --call --t4 x IN|
 --answer --out DIR --late 0|--late is 1 to 3600000 milliseconds, or off
 --answer --out DIR --late +5|--late is 1 to 3600000 milliseconds, or off

@@ -86,6 +86,9 @@ def random_waits(rand):
     values = {"--t1": [1, 500, 20000, 60000], "--t2": [1, 700, 5000], "--t4": [1, 100, 2550, 3450], "--t5": [1, 3000, 10000, 65000]}
     for wait, times in (("--t1", 25), ("--t2", 25), ("--t4", 25), ("--t5", 6)):
         words += [wait, str(rand.choice(values[wait]))] if rand.random() * times < 1 else []
+    # a chance of its own, so that the conversations of a seed stay
+    chance = random.Random(repr(rand.getstate()))
+    words += ["--most-seconds", str(chance.choice([1, 10, 30, 60, 120, 600]))] if chance.random() < 0.1 else []
     return words
 
 

@@ -293,6 +293,8 @@ class Ending:
         self.station, self.waits, self.ear = station, waits, Ear()
         self.turn, self.cut, self.number, self.at = SILENT, None, 0, 0
         self.quiet_from, self.heard_from, self.spoken = None, 0, None
+        # how many milliseconds the call lasts at most, 0 for any; and whether it has lasted as long
+        self.most, self.late = 0, False
 
     def take(self, raw):
         """The lines that answer a line, and whether the process ends after them."""
@@ -302,6 +304,7 @@ class Ending:
             raise Fault(f"fault 31 at line {self.number}")
         self.at, self.turn = said.at, SILENT
         getattr(self, "on_" + said.word.replace("-", "_"))(said)
+        self.end_late(said.word)
         self.settle()
         bursts = self.station.bursts(self.turn)
         if bursts:
@@ -333,6 +336,19 @@ class Ending:
     def stop(self):
         if not self.name():
             self.cut, self.turn = "stopped", ("DCN",)
+
+    def end_late(self, word):
+        """A call that has lasted as long as it may is stopped where the other side hears that, or ten seconds later."""
+        more = 0 if word in ("quiet", "rx") else 10000
+        if self.most and not self.name() and self.at >= self.most + more:
+            self.late = True
+            self.stop()
+            # an answerer that hasn't begun says nothing
+            self.turn = self.turn if getattr(self, "has_begun", True) else SILENT
+
+    def reason(self):
+        """The line that says why the call was stopped, if it lasted too long."""
+        return "the call is stopped: --most-seconds\n" if self.late else ""
 
     def on_quiet(self, said):
         if self.quiet_from is None:
@@ -402,7 +418,7 @@ class Calling(Ending):
         return self.station.confirmed() == len(self.station.document)
 
     def last_line(self):
-        return f"end {self.name() or 'line-lost'} confirmed {self.station.confirmed()}"
+        return f"{self.reason()}end {self.name() or 'line-lost'} confirmed {self.station.confirmed()}"
 
 
 class Answering(Ending):
@@ -481,7 +497,7 @@ class Answering(Ending):
             self.stored += 1
 
     def last_line(self):
-        name, why = self.name() or "line-lost", ""
+        name, why = self.name() or "line-lost", self.reason()
         if name == "refused":
             why = f"the call is refused: {self.reasons[1]}\n"
         if name == "normal" and self.spoken != "MCF":
@@ -593,6 +609,7 @@ def arguments(words):
     refuses.add_argument("--no-refuse", action="store_true")
     for wait, millis in WAITS.items():
         parser.add_argument("--" + wait, type=int, default=millis, choices=range(1, 3600001), metavar="MS")
+    parser.add_argument("--most-seconds", type=int, default=14400, choices=range(2**32), metavar="S")
     parser.add_argument("--explain", action="store_true")
     parser.add_argument("input", nargs="?")
     asked = parser.parse_args(words)
@@ -609,9 +626,12 @@ def end_of(asked, store):
     waits, t6 = {wait: getattr(asked, wait) for wait in WAITS}, asked.code == "mmr"
     if asked.answer:
         caps = Caps(asked.modems, not asked.standard, int(asked.widest or 2432), t6, True, True)
-        return Answering(caps, asked.limit or 2, waits, store, not asked.no_refuse)
-    pages = document_of(Path(asked.input).read_bytes())
-    return Calling(pages, Wish(asked.modems, int(asked.frame or 256), asked.fine, t6), waits)
+        end = Answering(caps, asked.limit or 2, waits, store, not asked.no_refuse)
+    else:
+        pages = document_of(Path(asked.input).read_bytes())
+        end = Calling(pages, Wish(asked.modems, int(asked.frame or 256), asked.fine, t6), waits)
+    end.most = 1000 * asked.most_seconds
+    return end
 
 
 def lines_of(file):

@@ -12,7 +12,7 @@ use Rattle.conversations.specs.Holding.{can_come}
 use Rattle.conversations.specs.LineEffects.{BeginsWhenNamedOf, BlocksAreInTimeOf, FramesAreWatched, FramesStartT1}
 use Rattle.conversations.specs.LineEffects.{LinesSayCarriers, LinesTellOf, NamedBegins, NamesWhatIsHeld, is_received, is_v21}
 use Rattle.conversations.specs.LineEffects.{told_file}
-use Rattle.conversations.specs.Refusing.{new_watch, refusal_seen}
+use Rattle.conversations.specs.Refusing.{new_watch, refusal_seen, stop_for}
 use Rattle.conversations.specs.StoredLines.{received_octets}
 use Rattle.conversations.specs.Writing.{hear_lines, on_lines, rest_lines, wait_line}
 use Rattle.conversations.specs.declared.carrier.Channel.TheVariants.{V21 as ByV21, Message}
@@ -206,12 +206,12 @@ refused_again : {S : Type 0} (b : Behaviour S) (new : ConversationFields S) (w :
     w.used.again ≡ again → new.watch.watched ≡ Some w → new.watch.refuses ≡ true → second_refusal w.refused ≡ Some why →
     (refused_so b new).terminal.speaking ≡ stopped b.cut_off b.stop_says new.terminal.speaking
 refused_again b new w why false again watched refuses second =
-    ap (λ (it : Option Refusal). (stopped_for b it new).terminal.speaking)
+    ap (λ (it : Option Refusal). (stopped_for b (stop_for it new.watch.late) new).terminal.speaking)
     (ap (λ (so : Bool). refusal_seen so new.watch.watched) refuses ∙
     (ap (λ (seen : Option Watched). refusal_seen true seen) watched ∙
     (ap (λ (so : Bool). refusal_for (second_refusal w.refused) so) again ∙ second)))
 refused_again b new w why true again watched refuses second =
-    ap (λ (it : Option Refusal). (stopped_for b it new).terminal.speaking)
+    ap (λ (it : Option Refusal). (stopped_for b (stop_for it new.watch.late) new).terminal.speaking)
     (ap (λ (so : Bool). refusal_seen so new.watch.watched) refuses ∙
     (ap (λ (seen : Option Watched). refusal_seen true seen) watched ∙
     ap (λ (so : Bool). refusal_for (second_refusal w.refused) so) again))

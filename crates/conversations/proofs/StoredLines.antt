@@ -8,8 +8,8 @@ use Rattle.conversations.proofs.ServedLines.{serves_more, step_serves, taken_ser
 use Rattle.conversations.specs.Answering.{StoreStep, StoresEach, limited_behaviour, pages_of}
 use Rattle.conversations.specs.Conversations.{ConversationFields, Gives, PlainGiven, SendsIfBegun, TakesLine, gives, heard_given, line_gives}
 use Rattle.conversations.specs.Conversations.{missed_given, refused_so, state_of, stopped_for}
-use Rattle.conversations.specs.Refusing.{refusal_in}
-use Rattle.terminals.specs.declared.watching.Refusal.{Refusal}
+use Rattle.conversations.specs.Refusing.{stop_in}
+use Rattle.conversations.specs.declared.refusing.StopCause.{StopCause}
 use Rattle.conversations.specs.Conversations.{over_given, nothing, stopping, losing, frames, input}
 use Rattle.conversations.specs.Conversing.{AnswersAll, AnswersNext, TalkState}
 use Rattle.conversations.specs.Lines.{Says}
@@ -250,7 +250,7 @@ record HeardLine (caps : Caps) (params : Params) (line octets : List ℕ) (new :
   stands : Stands caps params new (octets ++ here)
 
 -- a call that is stopped since a DCS was refused has heard the same, and its answerer has come to the same
-stopped_stands : (caps : Caps) (params : Params) (c : ConversationFields LimitedFields) (octets : List ℕ) (why : Option Refusal) →
+stopped_stands : (caps : Caps) (params : Params) (c : ConversationFields LimitedFields) (octets : List ℕ) (why : Option StopCause) →
     Stands caps params c.terminal octets → Stands caps params (stopped_for limited_behaviour why c).terminal octets
 stopped_stands caps params c octets None h = h
 stopped_stands caps params c octets (Some why) h = record {
@@ -273,7 +273,7 @@ heard_line cuts caps params line octets timed old new h says is =
       here = octets_given g;
       of_it = of_line line timed (octets_given g) says of.octets;
       stands =
-          stopped_stands caps params new (octets ++ octets_given g) (refusal_in new.watch)
+          stopped_stands caps params new (octets ++ octets_given g) (stop_in new.watch)
           (given_serves cuts caps params old.terminal new.terminal g is.brought octets of.none h is.given);
     }
 

@@ -1,6 +1,7 @@
 -- A line that was taken, from what each step of the code leaves.
 use Rattle.std.proofs.Common.{◌≡◌, ◌⊎◌, ◌∙◌, Bool, true, ap, refl, subst}
-use Rattle.std.specs.Prelude.{Option, cond}
+use Rattle.std.specs.Prelude.{◌||◌, Option, cond}
+use Rattle.conversations.specs.Refusing.{ends_by}
 use Rattle.conversations.specs.Conversations.{Behaviour, ConversationFields, Gives, IsInTime, IsRefused, PlainGiven, RefusesLine, SeesGiven, TakesLine}
 use Rattle.conversations.specs.Conversations.{begins, line_gives, state_of}
 use Rattle.conversations.specs.declared.line.TimedLine.{TimedLine}
@@ -8,21 +9,31 @@ use Rattle.signals.specs.declared.signal.Side.{Side}
 use Rattle.terminals.specs.Clocks.{asked_since, clock_at, heard_now}
 use Rattle.terminals.specs.Runs.{TerminalFields}
 use Rattle.terminals.specs.declared.clock.Clock.{Clock}
+use Rattle.terminals.specs.Timeouts.{timeout}
 use Rattle.terminals.specs.declared.stopping.Shown.{Shown}
+use Rattle.terminals.specs.declared.timeout.Timeout.{Timeout}
 use Rattle.terminals.specs.Watching.{noted}
 use Rattle.terminals.specs.declared.watching.Watched.{Watched}
 
 pub line_taken :
     {S : Type 0} (b : Behaviour S) (old : ConversationFields S) (line : TimedLine) (terminal : TerminalFields S) (clock heard asked : Clock)
-    (begun brought : Bool) (given : PlainGiven) (shown later : Shown) (side : Side) (watched : Option Watched) →
+    (begun brought : Bool) (given : PlainGiven) (shown later : Shown) (side : Side) (watched : Option Watched) (done : Option Timeout) (late : Bool) →
     IsInTime old line → b.shows old.terminal.speaking.station shown → side ≡ b.side → clock ≡ clock_at old.clock (state_of line.said) line.at →
     given ≡ line_gives old.begun side shown clock old.durations line.said → Gives b old.terminal given terminal brought →
     b.shows terminal.speaking.station later → heard ≡ heard_now brought clock → asked ≡ asked_since later.longer heard →
     begun ≡ cond old.begun true (begins line.said line.at) → SeesGiven old.terminal.framing given (noted shown.accepted old.watch.watched) watched →
+    done ≡ timeout (state_of line.said) side later asked old.durations old.watch.limit → late ≡ (old.watch.late || ends_by done) →
     TakesLine S b old line
-    (record { terminal = terminal; clock = asked; durations = old.durations; begun = begun; says = old.says; watch = record old.watch { watched = watched } })
-line_taken b old line terminal clock heard asked begun brought given shown later side watched in_time shows side_is clock_is given_is gave
-    shows_later heard_is asked_is begun_is seen =
+    (record {
+      terminal = terminal;
+      clock = asked;
+      durations = old.durations;
+      begun = begun;
+      says = old.says;
+      watch = record old.watch { watched = watched; late = late };
+    })
+line_taken b old line terminal clock heard asked begun brought given shown later side watched done late in_time shows side_is clock_is given_is
+    gave shows_later heard_is asked_is begun_is seen done_is late_is =
     record {
       shown = shown;
       later = later;
@@ -47,6 +58,9 @@ line_taken b old line terminal clock heard asked begun brought given shown later
           (ap (λ s. line_gives old.begun s shown clock old.durations line.said) side_is ∙
           ap (λ c. line_gives old.begun b.side shown c old.durations line.said) clock_is))
           seen;
+      limit = refl;
+      late = late_is ∙ ap (λ d. old.watch.late || ends_by d)
+          (done_is ∙ ap (λ s. timeout (state_of line.said) s later asked old.durations old.watch.limit) side_is);
     }
 
 -- a line for which memory was refused, from what each step of the code leaves
@@ -74,5 +88,6 @@ line_refused b old line terminal clock given shown side watched in_time shows si
       (ap (λ s. line_gives old.begun s shown clock old.durations line.said) side_is ∙
       ap (λ c. line_gives old.begun b.side shown c old.durations line.said) clock_is))
       seen;
+  lasts = (refl, refl);
   rest = refl;
 }

@@ -1,7 +1,7 @@
 -- The conversation of a station as a process: what each line gives the station, and when its waits are over.
-use Rattle.std.specs.Prelude.{ℕ, ◌≡◌, ◌⊎◌, ◌<◌, ◌≤◌, ◌+◌, ◌++◌, [], ◌∷◌, Bool, true, false, cond, nat_le, nat_lt, List, Option, Some, None, Result, Ok, Err}
+use Rattle.std.specs.Prelude.{ℕ, ◌≡◌, ◌⊎◌, ◌||◌, ◌<◌, ◌≤◌, ◌+◌, ◌++◌, [], ◌∷◌, Bool, true, false, cond, nat_le, nat_lt, List, Option, Some, None, Result, Ok, Err}
 use Rattle.conversations.specs.Hearing.{heard_as}
-use Rattle.conversations.specs.Refusing.{no_watch, refusal_in}
+use Rattle.conversations.specs.Refusing.{ends_by, no_watch, stop_in}
 use Rattle.conversations.specs.declared.conversation.TakeFault.{TakeFault}
 use Rattle.conversations.specs.declared.conversation.TakeFault.TheVariants.{OutOfTime, NoMemory}
 use Rattle.conversations.specs.declared.giving.Given.{Given}
@@ -13,8 +13,8 @@ use Rattle.conversations.specs.declared.hearing.Heard.TheVariants.{Frames, Check
 use Rattle.conversations.specs.declared.line.Said.{Said}
 use Rattle.conversations.specs.declared.line.Said.TheVariants.{Quiet, Busy, Received, NotReady, Ready, Missed, Told, Stop, End}
 use Rattle.conversations.specs.declared.line.TimedLine.{TimedLine}
-use Rattle.terminals.specs.declared.watching.Refusal.{Refusal}
 use Rattle.conversations.specs.declared.refusing.CallerWatch.{CallerWatch}
+use Rattle.conversations.specs.declared.refusing.StopCause.{StopCause}
 use Rattle.conversations.specs.declared.writing.Says.{Says}
 use Rattle.hdlc.specs.DeframerState.{DeframerState}
 use Rattle.signals.specs.declared.signal.Side.{Side}
@@ -31,6 +31,7 @@ use Rattle.terminals.specs.Speaking.{BurstsOf, StepOf, Takes}
 use Rattle.stations.specs.Limiting.{LimitedFields}
 use Rattle.terminals.specs.Stopping.{hung_up, silenced, stopped}
 use Rattle.terminals.specs.Stopping.{with_pages_taken as without_its_pages}
+use Rattle.terminals.specs.Timeouts.{timeout}
 use Rattle.terminals.specs.Watching.{Sees, noted}
 use Rattle.terminals.specs.declared.clock.Clock.{Clock}
 use Rattle.terminals.specs.declared.clock.Durations.{Durations}
@@ -220,6 +221,9 @@ pub record TakesLine (S : Type 0) (b : Behaviour S) (old : ConversationFields S)
   pub says : new.says ≡ old.says
   pub refuses : new.watch.refuses ≡ old.watch.refuses
   pub sees : SeesGiven old.terminal.framing (gives b old shown line) (noted shown.accepted old.watch.watched) new.watch.watched
+  pub limit : new.watch.limit ≡ old.watch.limit
+  pub late : new.watch.late ≡ (old.watch.late
+      || ends_by (timeout (state_of line.said) b.side later new.clock old.durations old.watch.limit))
 
 -- memory was refused at a line: all but the terminal and what is watched is as it was; what is watched has noted the last accepted block, and
 -- seen nothing, unless it heard the line
@@ -232,6 +236,7 @@ pub record RefusesLine (S : Type 0) (b : Behaviour S) (old : ConversationFields 
   pub refuses : new.watch.refuses ≡ old.watch.refuses
   pub sees : (new.watch.watched ≡ noted shown.accepted old.watch.watched) ⊎
       SeesGiven old.terminal.framing (gives b old shown line) (noted shown.accepted old.watch.watched) new.watch.watched
+  pub lasts : (new.watch.limit ≡ old.watch.limit) × (new.watch.late ≡ old.watch.late)
   pub rest : new ≡ record old { terminal = new.terminal; watch = new.watch }
 
 -- a line was taken; or its time can't follow that of the line before it, and nothing has changed; or memory was refused
@@ -269,10 +274,10 @@ abbrev pub stopped_so : {S : Type 0} → Behaviour S → ConversationFields S �
 stopped_so b old = record old { terminal = record old.terminal { speaking = stopped b.cut_off b.stop_says old.terminal.speaking } }
 
 -- a conversation whose call is stopped for a reason, if there is one
-abbrev pub stopped_for : {S : Type 0} → Behaviour S → Option Refusal → ConversationFields S → ConversationFields S
+abbrev pub stopped_for : {S : Type 0} → Behaviour S → Option StopCause → ConversationFields S → ConversationFields S
 stopped_for b None old = old
 stopped_for b (Some why) old = stopped_so b old
 
--- a conversation whose call is stopped if it is refused
+-- a conversation whose call is stopped if it is refused, or has lasted as long as it may
 abbrev pub refused_so : {S : Type 0} → Behaviour S → ConversationFields S → ConversationFields S
-refused_so b old = stopped_for b (refusal_in old.watch) old
+refused_so b old = stopped_for b (stop_in old.watch) old

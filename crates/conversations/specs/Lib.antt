@@ -7,6 +7,7 @@ pub mod Given
 pub mod Hearing
 pub mod Holding
 pub mod Led
+pub mod LimitRows
 pub mod LineEffects
 pub mod LineLaws
 pub mod LineRows

@@ -1,19 +1,39 @@
--- What a conversation watches its caller for: the second DCS that the answerer doesn't allow ends the call, and so does a page under the number
--- of the last one.
+-- What a conversation is watched for: the second DCS that the answerer doesn't allow ends the call, and so do a page under the number of the
+-- last one, and the time that a call may last.
 use Rattle.std.specs.Prelude.{ℕ, Bool, true, false, Option, Some, None}
 use Rattle.conversations.specs.declared.refusing.CallerWatch.{CallerWatch}
+use Rattle.conversations.specs.declared.refusing.StopCause.{StopCause}
+use Rattle.conversations.specs.declared.refusing.StopCause.TheVariants.{Refused, TooLong}
 use Rattle.signals.specs.declared.params.Caps.{Caps}
 use Rattle.terminals.specs.Watching.{nothing_watched, refusal_for, refusal_of_seen}
+use Rattle.terminals.specs.declared.timeout.Limit.{Limit}
+use Rattle.terminals.specs.declared.timeout.Timeout.{Timeout}
+use Rattle.terminals.specs.declared.timeout.Timeout.TheVariants.{Over, Stop, GiveUp}
 use Rattle.terminals.specs.declared.watching.Refusal.{Refusal}
 use Rattle.terminals.specs.declared.watching.Watched.{Watched}
 
+-- how long a call lasts at most; after that DCN is said at the first line at which the other side can hear it, or else ten seconds later
+abbrev pub limit_of : Option ℕ → Limit
+limit_of most = record { most = most; more = 10000 }
+
+-- a call lasts as long as it wants
+abbrev pub no_limit : Limit
+no_limit = limit_of None
+
 -- nothing is watched
 abbrev pub no_watch : CallerWatch
-no_watch = record { watched = None; refuses = false }
+no_watch = record { watched = None; refuses = false; limit = no_limit; late = false }
 
 -- a watch of an answerer with these capabilities that has seen nothing
 abbrev pub new_watch : Caps → Bool → CallerWatch
-new_watch caps refuses = record { watched = Some (nothing_watched caps); refuses = refuses }
+new_watch caps refuses = record { watched = Some (nothing_watched caps); refuses = refuses; limit = no_limit; late = false }
+
+-- what is to be done is the end of a call that has lasted as long as it may
+abbrev pub ends_by : Option Timeout → Bool
+ends_by None = false
+ends_by (Some (Over wait)) = false
+ends_by (Some Stop) = true
+ends_by (Some GiveUp) = true
 
 -- why a call is refused by what was seen, where DCSs are refused or aren't
 abbrev pub refusal_seen : Bool → Option Watched → Option Refusal
@@ -24,6 +44,16 @@ refusal_seen false (Some w) = refusal_for None w.used.again
 -- why a call is refused, if it is
 abbrev pub refusal_in : CallerWatch → Option Refusal
 refusal_in watch = refusal_seen watch.refuses watch.watched
+
+-- why a call is stopped: it is refused, or has lasted as long as it may
+abbrev pub stop_for : Option Refusal → Bool → Option StopCause
+stop_for (Some why) late = Some (Refused why)
+stop_for None true = Some TooLong
+stop_for None false = None
+
+-- why a call is stopped, if it is
+abbrev pub stop_in : CallerWatch → Option StopCause
+stop_in watch = stop_for (refusal_in watch) watch.late
 
 -- the first page number that jumped, of those that were seen
 abbrev pub gap_seen : Option Watched → Option ℕ

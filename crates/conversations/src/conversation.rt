@@ -2,20 +2,22 @@
 
 ghost use Rattle.conversations.specs.Conversations.{IsInTime, IsNew, IsOutOfTime, SendsIfBegun, TakesOrRefuses, behaviour, with_pages_taken, hung_up_so};
 ghost use Rattle.conversations.specs.Conversations.{next_quiet, refused_so, stopped_so};
-ghost use Rattle.conversations.specs.Refusing.{gap_in, new_watch, refusal_in};
+ghost use Rattle.conversations.specs.Refusing.{gap_in, limit_of, new_watch, refusal_in, stop_in};
 ghost use Rattle.std.specs.Prelude.{◌≡◌, ◌↔◌, IsTrue, IsSome, true, false};
 ghost use Rattle.terminals.specs.declared.stopping.Shown.{Shown as AnyShown};
 
-use crate::giving::{clock_at, give, has_begun, line_gives, most_step};
+use crate::giving::{clock_at, give, has_begun, line_gives, most_step, state_of};
 use crate::line::TimedLine;
-use crate::refusing::CallerWatch;
+use crate::refusing::{CallerWatch, MORE, StopCause, is_late};
 use crate::writing::Says;
 use raster::Page;
 use signals::Caps;
 use stations::{CallEnd, LimitedAnswerer, StoppableCaller};
 use std::alloc::AllocError;
 use std::marker::Model;
-use terminals::{Clock, Durations, Refusal, SentBurst, Shown, Station, Stoppable, Terminal, note};
+use terminals::{
+    Clock, Durations, Limit, Refusal, SentBurst, Shown, Station, Stoppable, Terminal, note,
+};
 use thiserror::Error;
 
 /// Why a line wasn't taken.
@@ -134,7 +136,17 @@ impl<S: Stoppable> Conversation<S> {
         conversation
     }
 
-    /// Takes a line: gives the station what the line says, and sets the clock. Errs with `OutOfTime` if its time is before that of the line
+    /// The conversation, whose call is stopped once it has lasted so many milliseconds and DCN can be said, on a quiet line or where a carrier
+    /// has just ended; else ten seconds later.
+    pub fn lasting(self, most: Option<u64>) -> Conversation<S>
+        ensures { result ≡ record self { watch = record self.watch { limit = limit_of most } } }
+    {
+        let mut conversation = self;
+        conversation.watch.limit = Limit { most, more: MORE };
+        conversation
+    }
+
+    /// Takes a line: gives the station what the line says, sets the clock, and notes whether the call has lasted as long as it may. Errs with `OutOfTime` if its time is before that of the line
     /// before it; if it is a quiet line after a quiet one, and later by more than T1 and 35 s; or if it is later by more than T1 and ten
     /// minutes: nothing has changed. Errs with `NoMemory`: nothing has changed but the note of the last accepted block, or
     /// frames that the line brought are lost.
@@ -150,8 +162,13 @@ impl<S: Stoppable> Conversation<S> {
         let given = line_gives(self.begun, side, shown, clock, self.durations, &line.said);
         note(&mut self.watch.watched, shown.accepted);
         let brought = give(&mut self.terminal, &mut self.watch.watched, given)?;
-        self.clock = clock.heard(brought).asked(self.terminal.shown().longer);
+        let later = self.terminal.shown();
+        let now = clock.heard(brought).asked(later.longer);
+        let state = state_of(&line.said);
+        let done = now.timeout(state, side, later, self.durations, self.watch.limit);
+        self.clock = now;
         self.begun = has_begun(self.begun, &line.said, line.at);
+        self.watch.late = is_late(self.watch.late, done);
         Ok(())
     }
 
@@ -186,13 +203,27 @@ impl<S: Stoppable> Conversation<S> {
         self.terminal.stop();
     }
 
-    /// Stops the call, as a line `stop` does, if it is refused.
+    /// Stops the call, as a line `stop` does, if it is refused, or has lasted as long as it may.
     pub fn refuse(&mut self)
         ensures { self.new ≡ refused_so (behaviour S.sends S.steps S.lends S.shows S.cut_off S.stop_says) self.old }
     {
-        if self.refusal().is_some() {
+        if self.stop_cause().is_some() {
             self.stop();
         }
+    }
+
+    /// Returns why the call is stopped; None if it isn't.
+    fn stop_cause(&self) -> Option<StopCause>
+        ensures { result ≡ stop_in self.now.watch }
+    {
+        self.watch.stop_cause()
+    }
+
+    /// Returns true if the call has lasted as long as it may.
+    pub fn is_late(&self) -> bool
+        ensures { result ≡ self.now.watch.late }
+    {
+        self.watch.late
     }
 
     /// Returns why the call is refused: a second DCS wasn't allowed, and such a call is refused, or a page came under the number of the last

@@ -94,7 +94,7 @@ fn missed_given<'a>(begun: bool, listens: Listening) -> Given<'a>
 }
 
 /// What a line says of the line of the call.
-fn state_of(said: &Said) -> LineState
+pub(crate) fn state_of(said: &Said) -> LineState
     ensures { result ≡ state_of said.now }
 {
     match said {

@@ -1,18 +1,51 @@
-//! What is watched of a caller, and why its call is refused.
+//! What is watched of a call: its caller, and how long it lasts; and why it is stopped.
 
-ghost use Rattle.conversations.specs.Refusing.{gap_in, new_watch, no_watch, refusal_in};
-ghost use Rattle.std.specs.Prelude.{◌≡◌};
+ghost use Rattle.conversations.specs.Refusing.{ends_by, gap_in, new_watch, no_watch, refusal_in, stop_in};
+ghost use Rattle.std.specs.Prelude.{◌≡◌, ◌||◌};
 
 use signals::Caps;
-use terminals::{Refusal, Watched};
+use terminals::{Limit, Refusal, Timeout, Watched};
 
-/// What is watched of a caller in the frames that its answerer's terminal hears.
+/// How much longer than it may a call lasts if DCN can't be said, in milliseconds.
+pub(crate) const MORE: u32 = 10_000;
+
+/// Why a call is stopped.
+#[derive(Clone, Copy, Debug, PartialEq, Eq)]
+pub enum StopCause {
+    /// It is refused.
+    Refused(Refusal),
+    /// It has lasted as long as it may.
+    TooLong,
+}
+
+/// What is watched of a call: its caller, in the frames that its answerer's terminal hears, and how long it lasts.
 #[derive(Clone, Copy, Debug, PartialEq, Eq)]
 pub struct CallerWatch {
-    /// What was seen; None if nothing is watched.
+    /// What was seen; None if no caller is watched.
     pub watched: Option<Watched>,
     /// Whether a second DCS that isn't allowed ends the call.
     pub refuses: bool,
+    /// How long the call lasts at most.
+    pub limit: Limit,
+    /// Whether it has lasted as long.
+    pub late: bool,
+}
+
+/// Returns true if a call has lasted as long as it may, by what is to be done at a line, or had before.
+pub(crate) fn is_late(was: bool, done: Option<Timeout>) -> bool
+    ensures { result ≡ (was || ends_by done) }
+{
+    was || ends_by(done)
+}
+
+/// Returns true if what is to be done is the end of a call that has lasted as long as it may.
+fn ends_by(done: Option<Timeout>) -> bool
+    ensures { result ≡ ends_by done }
+{
+    match done {
+        Some(Timeout::Stop | Timeout::GiveUp) => true,
+        Some(Timeout::Over(_)) | None => false,
+    }
 }
 
 impl CallerWatch {
@@ -20,15 +53,21 @@ impl CallerWatch {
     pub(crate) const NONE: CallerWatch = CallerWatch {
         watched: None,
         refuses: false,
+        limit: Limit {
+            most: None,
+            more: MORE,
+        },
+        late: false,
     };
 
-    /// A watch that has seen nothing, for which a call is refused or not.
+    /// A watch of a caller that has seen nothing, for which a call is refused or not; it lasts as long as it wants.
     pub(crate) fn new(caps: Caps, refuses: bool) -> CallerWatch
         ensures { result ≡ new_watch caps refuses }
     {
         CallerWatch {
             watched: Some(Watched::new(caps)),
             refuses,
+            ..CallerWatch::NONE
         }
     }
 
@@ -41,6 +80,17 @@ impl CallerWatch {
             None => None,
             Some(watched) if self.refuses => watched.refusal(),
             Some(watched) => watched.reuse(),
+        }
+    }
+
+    /// Why the call is stopped, if it is: it is refused, or has lasted as long as it may.
+    pub(crate) fn stop_cause(self) -> Option<StopCause>
+        ensures { result ≡ stop_in self }
+    {
+        match self.refusal() {
+            Some(why) => Some(StopCause::Refused(why)),
+            None if self.late => Some(StopCause::TooLong),
+            None => None,
         }
     }
 

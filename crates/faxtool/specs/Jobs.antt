@@ -1,6 +1,6 @@
 -- The commands of the program, what each command is of the values that clap reads, and why words are refused.
 use Rattle.std.specs.Prelude.{◌≡◌, ◌≢◌, ◌≤◌, ◌<◌, ◌^◌, ◌⊎◌, ℕ, Bool, true, false, List, [], ◌∷◌, Option, Some, None}
-use Rattle.std.specs.Prelude.{IfSome, ◌++◌, find, length, nat_lt, unwrap_or, codes, map, pos, if◌then◌else◌, is_some, nat_eq, nat_le, option_map, string_bytes, not, ◌&&◌, ◌||◌, ◌+◌, ◌*◌, ◌-◌}
+use Rattle.std.specs.Prelude.{zero, suc, IfSome, ◌++◌, find, length, nat_lt, unwrap_or, codes, map, pos, if◌then◌else◌, is_some, nat_eq, nat_le, option_map, string_bytes, not, ◌&&◌, ◌||◌, ◌+◌, ◌*◌, ◌-◌}
 use Rattle.std.specs.Str.{bytes_eq}
 use Rattle.std.specs.Str.Parse.{IsNumeral, digits_value, without_leading_plus}
 use Rattle.clap.specs.Words.{App, IsAmong, Row, Rule, Text, all_of, fault_of, first_of, kind_of, new_app}
@@ -206,7 +206,7 @@ with_station app codings modems = with_rule (with_rule (with_rule (with_rule (wi
 -- the command with the limits of a call
 abbrev pub with_limits : App → App
 with_limits app = with_rule (with_rule (with_rule app (number_rule (codes "most-pages") 1 4294967295))
-    (number_rule (codes "most-octets") 1 4294967295)) (number_rule (codes "most-seconds") 1 4294967295)
+    (number_rule (codes "most-octets") 1 4294967295)) (number_rule (codes "most-seconds") 0 4294967295)
 
 -- the command with whether a call is stopped at the second DCS that isn't allowed
 abbrev pub with_refusing : App → App
@@ -677,7 +677,6 @@ rights_named (Some text) = option_map Mode (mode_named text)
 pub record AreLimitsIn (rows : List Row) (limits : GivenLimits) : Type 0 where
   pub pages_are : ReadsNumber (codes "most-pages") rows limits.pages
   pub octets_are : ReadsNumber (codes "most-octets") rows limits.octets
-  pub seconds_are : ReadsNumber (codes "most-seconds") rows limits.seconds
 
 -- it was said whether a call is stopped at the second DCS that isn't allowed
 abbrev pub has_refusing : List Row → Bool
@@ -685,8 +684,7 @@ has_refusing rows = is_named (codes "true") (first_of (codes "refuse") rows) || 
 
 -- it was said when the call is stopped: a limit, or what a DCS that isn't allowed does
 abbrev pub has_stops : List Row → Bool
-has_stops rows = is_some (first_of (codes "most-pages") rows) || (is_some (first_of (codes "most-octets") rows)
-    || (is_some (first_of (codes "most-seconds") rows) || has_refusing rows))
+has_stops rows = is_some (first_of (codes "most-pages") rows) || (is_some (first_of (codes "most-octets") rows) || has_refusing rows)
 
 -- a call is stopped at the second DCS that isn't allowed, unless that is said otherwise
 abbrev pub refuses_in : List Row → Bool
@@ -730,8 +728,14 @@ IsLateNamed None late = late ≡ Some 2000
 IsLateNamed (Some text) None = bytes_eq text (codes "off") ≡ true
 IsLateNamed (Some text) (Some late) = AreMillis text late
 
--- the lengths of the waits, if given, whether what is heard, and until when, is said, whether frames are said as contents, and how late an
--- answer may come
+-- the seconds of a call at most, by the number that is given: four hours if none is, and no limit if it is 0
+abbrev pub seconds_of : Option ℕ → Option ℕ
+seconds_of None = Some 14400
+seconds_of (Some zero) = None
+seconds_of (Some (suc n)) = Some (suc n)
+
+-- the lengths of the waits, if given, whether what is heard, and until when, is said, whether frames are said as contents, how late an
+-- answer may come, and how long the call lasts at most
 pub record AreWaitsIn (rows : List Row) (waits : GivenWaits) : Type 0 where
   pub t1_is : ReadsNumber (codes "t1") rows waits.t1
   pub t2_is : ReadsNumber (codes "t2") rows waits.t2
@@ -740,6 +744,9 @@ pub record AreWaitsIn (rows : List Row) (waits : GivenWaits) : Type 0 where
   pub hears_is : waits.hears ≡ is_named (codes "true") (first_of (codes "hear") rows)
   pub frames_is : waits.frames ≡ is_named (codes "true") (first_of (codes "frames") rows)
   pub late_is : IsLateNamed (first_of (codes "late") rows) waits.late
+  pub seconds : Option ℕ
+  pub seconds_given : ReadsNumber (codes "most-seconds") rows seconds
+  pub seconds_are : waits.seconds ≡ seconds_of seconds
 
 -- what an answerer can do, as the values say: it takes each code up to the one named, and fine lines unless it takes standard ones alone
 abbrev pub caps_in : List Row → Coding → Caps

@@ -5,7 +5,7 @@ use Rattle.std.specs.Prelude.{◌&&◌}
 use Rattle.conversations.specs.Answering.{limited_behaviour, pages_of}
 use Rattle.conversations.specs.Conversations.{ConversationFields, Gives, LosesFrames, PlainGiven, gives, hung_up_so, stopped_for, stopped_so}
 use Rattle.conversations.specs.Conversations.{nothing, stopping, losing, frames, input}
-use Rattle.conversations.specs.Refusing.{refusal_in}
+use Rattle.conversations.specs.Refusing.{stop_in}
 use Rattle.conversations.specs.declared.line.TimedLine.{TimedLine}
 use Rattle.hdlc.specs.DeframerState.{DeframerState}
 use Rattle.raster.specs.Pages.{PagePixels}
@@ -20,7 +20,7 @@ use Rattle.terminals.specs.Stopping.{hung_up, limited_cut_off, limited_stop_says
 use Rattle.terminals.specs.Stopping.{with_pages_taken as without_its_pages}
 use Rattle.terminals.specs.declared.fault.HearFault.TheVariants.{FrameLost}
 use Rattle.terminals.specs.declared.sending.SentBurst.{SentBurst}
-use Rattle.terminals.specs.declared.watching.Refusal.{Refusal}
+use Rattle.conversations.specs.declared.refusing.StopCause.{StopCause}
 use Rattle.joined_terminals.specs.Happening.Happening.{answerer_hangs_up, answerer_lost, answerer_sends, answerer_stops, answerer_waits}
 use Rattle.joined_terminals.specs.Happening.Happening.{comes_to_answerer, lines_lose, pages_taken, program_says}
 use Rattle.joined_terminals.specs.Joining.{AnswererMakes, answerer_begins, if_clear}
@@ -231,7 +231,7 @@ module _ (d : Driven) where
       (after_answerer d d.answerer.terminal.framing (stopped limited_cut_off limited_stop_says d.answerer.terminal.speaking) d.to_answerer silent)
       (refl, refl, refl))
 
-  watched_so : (why : Option Refusal) → Way (terminals d)
+  watched_so : (why : Option StopCause) → Way (terminals d)
       (terminals
       (answerer_speaks (silent_unless why (is_silent (limited_behaviour.stop_says d.answerer.terminal.speaking.station)))
       (record d { answerer = stopped_for limited_behaviour why d.answerer })))
@@ -240,9 +240,9 @@ module _ (d : Driven) where
 
   pub watches : (new : Driven) →
       new ≡
-      answerer_speaks (silent_unless (refusal_in d.answerer.watch) (is_silent (limited_behaviour.stop_says d.answerer.terminal.speaking.station)))
-      (record d { answerer = stopped_for limited_behaviour (refusal_in d.answerer.watch) d.answerer }) → Way (terminals d) (terminals new)
-  watches new e = subst (λ (x : Driven). Way (terminals d) (terminals x)) (sym e) (watched_so (refusal_in d.answerer.watch))
+      answerer_speaks (silent_unless (stop_in d.answerer.watch) (is_silent (limited_behaviour.stop_says d.answerer.terminal.speaking.station)))
+      (record d { answerer = stopped_for limited_behaviour (stop_in d.answerer.watch) d.answerer }) → Way (terminals d) (terminals new)
+  watches new e = subst (λ (x : Driven). Way (terminals d) (terminals x)) (sym e) (watched_so (stop_in d.answerer.watch))
 
   -- a page is lost
   pub page_lost : (new : Driven) →

@@ -5,7 +5,7 @@ use Rattle.conversations.specs.Answering.{StoresAll, StoresEach, limited_behavio
 use Rattle.conversations.specs.Conversations.{ConversationFields, Gives, LosesFrames, PlainGiven, SendsIfBegun, gives, hung_up_so, refused_so}
 use Rattle.conversations.specs.Conversations.{with_pages_taken}
 use Rattle.conversations.specs.Conversations.{nothing, stopping, losing, frames, input}
-use Rattle.conversations.specs.Refusing.{refusal_in}
+use Rattle.conversations.specs.Refusing.{stop_in}
 use Rattle.conversations.specs.Talking.{GivesAll, GivesNext, GivesSome, Withholds}
 use Rattle.hdlc.specs.DeframerState.{DeframerState}
 use Rattle.raster.specs.Pages.{PagePixels}
@@ -156,7 +156,7 @@ watch_goes : (d : Driven) (heard : ConversationFields LimitedFields) (s : List P
     d.unkept ≡ [] → Goes (answerer_watches ∷ []) d (refused_so limited_behaviour heard) s []
 watch_goes d heard s e f none =
     let silent : Bool =
-    silent_unless (refusal_in d.answerer.watch) (is_silent (limited_behaviour.stop_says d.answerer.terminal.speaking.station)) in
+    silent_unless (stop_in d.answerer.watch) (is_silent (limited_behaviour.stop_says d.answerer.terminal.speaking.station)) in
     subst (λ x. Goes (answerer_watches ∷ []) d (refused_so limited_behaviour x) s []) e
     (subst (λ x. Goes (answerer_watches ∷ []) d (refused_so limited_behaviour d.answerer) x []) f
     (subst (λ x. Goes (answerer_watches ∷ []) d (refused_so limited_behaviour d.answerer) d.stored x) none

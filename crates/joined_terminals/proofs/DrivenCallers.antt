@@ -4,7 +4,7 @@ use Rattle.std.specs.Prelude.{◌&&◌}
 use Rattle.conversations.specs.Conversations.{ConversationFields, Gives, LosesFrames, PlainGiven, SendsIfBegun, gives, stopped_for}
 use Rattle.conversations.specs.Conversations.{nothing, stopping, losing, frames, input}
 use Rattle.conversations.specs.Led.{caller_behaviour}
-use Rattle.conversations.specs.Refusing.{refusal_in}
+use Rattle.conversations.specs.Refusing.{stop_in}
 use Rattle.conversations.specs.declared.line.TimedLine.{TimedLine}
 use Rattle.hdlc.specs.DeframerState.{DeframerState}
 use Rattle.signals.specs.declared.signal.Side.{Side}
@@ -24,7 +24,7 @@ use Rattle.terminals.specs.Stations.{CallerLends, caller_takes, caller_answers}
 use Rattle.terminals.specs.Stopping.{CallerStepsUnlessCut, caller_cut_off, caller_stop_says, silenced, stopped}
 use Rattle.terminals.specs.declared.fault.HearFault.TheVariants.{FrameLost}
 use Rattle.terminals.specs.declared.sending.SentBurst.{SentBurst}
-use Rattle.terminals.specs.declared.watching.Refusal.{Refusal}
+use Rattle.conversations.specs.declared.refusing.StopCause.{StopCause}
 use Rattle.joined_terminals.specs.Happening.Happening.{comes_to_caller, caller_lost, caller_stops, caller_waits, lines_lose}
 use Rattle.joined_terminals.specs.Happening.Happening.{caller_sends}
 use Rattle.joined_terminals.specs.Joining.{CallerMakes, caller_begins, if_clear}
@@ -258,7 +258,7 @@ module _ (d : Driven) where
           (lost_so h.caller.terminal (gives caller_behaviour d.caller h.refuses.shown line) p.1.others p.1.silent p.0 p.1.comes p.1.turns))
 
   -- the call is stopped if it is refused
-  watched_so : (why : Option Refusal) → Way (terminals d)
+  watched_so : (why : Option StopCause) → Way (terminals d)
       (terminals
       (caller_speaks (silent_unless why (is_silent (caller_behaviour.stop_says d.caller.terminal.speaking.station)))
       (record d { caller = stopped_for caller_behaviour why d.caller })))
@@ -272,9 +272,9 @@ module _ (d : Driven) where
 
   pub watches : (new : Driven) →
       new ≡
-      caller_speaks (silent_unless (refusal_in d.caller.watch) (is_silent (caller_behaviour.stop_says d.caller.terminal.speaking.station)))
-      (record d { caller = stopped_for caller_behaviour (refusal_in d.caller.watch) d.caller }) → Way (terminals d) (terminals new)
-  watches new e = subst (λ (x : Driven). Way (terminals d) (terminals x)) (sym e) (watched_so (refusal_in d.caller.watch))
+      caller_speaks (silent_unless (stop_in d.caller.watch) (is_silent (caller_behaviour.stop_says d.caller.terminal.speaking.station)))
+      (record d { caller = stopped_for caller_behaviour (stop_in d.caller.watch) d.caller }) → Way (terminals d) (terminals new)
+  watches new e = subst (λ (x : Driven). Way (terminals d) (terminals x)) (sym e) (watched_so (stop_in d.caller.watch))
 
   -- a burst is given, and what of it goes onto the line
   pub gives_burst : (new : Driven) (sent : SentBurst) (sends : Bool) → CallerGives sent sends d new → Way (terminals d) (terminals new)

@@ -3,7 +3,7 @@ use Rattle.std.proofs.Common.{◌≡◌, ◌++◌, ◌∷◌, [], List, Bool, tr
 use Rattle.conversations.specs.Conversations.{ConversationFields, Gives, LosesFrames, PlainGiven, gives, refused_so}
 use Rattle.conversations.specs.Conversations.{nothing, stopping, losing, frames, input}
 use Rattle.conversations.specs.Led.{caller_behaviour}
-use Rattle.conversations.specs.Refusing.{refusal_in}
+use Rattle.conversations.specs.Refusing.{stop_in}
 use Rattle.conversations.specs.Talking.{GivesAll, GivesNext, GivesSome, Withholds}
 use Rattle.conversations.specs.declared.line.TimedLine.{TimedLine}
 use Rattle.signals.specs.declared.signal.Side.TheVariants.{Caller as CallerSide}
@@ -125,7 +125,7 @@ watch_goes : (d : Driven) (heard : ConversationFields StoppableCallerFields) →
     Goes (caller_watches ∷ []) d (refused_so caller_behaviour heard)
 watch_goes d heard e =
     let silent : Bool =
-    silent_unless (refusal_in d.caller.watch) (is_silent (caller_behaviour.stop_says d.caller.terminal.speaking.station)) in
+    silent_unless (stop_in d.caller.watch) (is_silent (caller_behaviour.stop_says d.caller.terminal.speaking.station)) in
     subst (λ x. Goes (caller_watches ∷ []) d (refused_so caller_behaviour x)) e
     (spoken_goes caller_watches silent d (record d { caller = refused_so caller_behaviour d.caller }) tt refl
     (record { answerer = refl; stored = refl; unkept = refl }))

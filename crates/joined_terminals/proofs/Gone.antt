@@ -19,7 +19,7 @@ use Rattle.terminals.specs.Runs.{TerminalFields}
 use Rattle.terminals.specs.Speaking.{Speaking, Takes, is_silent, spoken}
 use Rattle.terminals.specs.Stations.{answerer_takes}
 use Rattle.terminals.specs.Stopping.{LimitedStepsUnlessCut, hung_up, limited_answers, limited_cut_off, limited_stop_says, stopped}
-use Rattle.terminals.specs.declared.watching.Refusal.{Refusal}
+use Rattle.conversations.specs.declared.refusing.StopCause.{StopCause}
 use Rattle.joined_terminals.specs.Joining.{AnswererMakes}
 use Rattle.joined_terminals.specs.Octets.{IsPiece, TakesSo}
 use Rattle.joined_terminals.specs.Steps.{Comes, TurnsSo}
@@ -103,7 +103,7 @@ gone_stopped old gone =
     gone_spoken old (limited_cut_off Stop old.station) (limited_stop_says old.station) (over_silent old.station gone.1) gone
     (over_cut old.station)
 
-pub gone_for : (c : ConversationFields LimitedFields) (why : Option Refusal) → IsGone c.terminal.speaking →
+pub gone_for : (c : ConversationFields LimitedFields) (why : Option StopCause) → IsGone c.terminal.speaking →
     IsGone (stopped_for limited_behaviour why c).terminal.speaking
 gone_for c None gone = gone
 gone_for c (Some why) gone = gone_stopped c.terminal.speaking gone

@@ -8,7 +8,7 @@ use Rattle.conversations.specs.Answering.{StoresEach, limited_behaviour, pages_o
 use Rattle.conversations.specs.Conversations.{ConversationFields, LosesFrames, PlainGiven, gives, hung_up_so, refused_so, stopped_for, stopped_so}
 use Rattle.conversations.specs.Conversations.{with_pages_taken}
 use Rattle.conversations.specs.Holding.{CountsFirst, HandsNext, HoldsPages}
-use Rattle.conversations.specs.Refusing.{refusal_in}
+use Rattle.conversations.specs.Refusing.{stop_in}
 use Rattle.conversations.specs.Talking.{GivesAll, GivesNext, GivesSome, Withholds}
 use Rattle.conversations.specs.declared.line.Fate.TheVariants.{Kept, Lost}
 use Rattle.conversations.specs.declared.line.Said.{Said}
@@ -25,7 +25,7 @@ use Rattle.terminals.specs.Runs.{TerminalFields}
 use Rattle.terminals.specs.Speaking.{Speaking, is_silent}
 use Rattle.terminals.specs.Stopping.{limited_cut_off}
 use Rattle.terminals.specs.declared.sending.SentBurst.{SentBurst}
-use Rattle.terminals.specs.declared.watching.Refusal.{Refusal}
+use Rattle.conversations.specs.declared.refusing.StopCause.{StopCause}
 use Rattle.joined_terminals.specs.Answered.{AnswererHasNoMemory, GivesPart, answerer_lends, bursts_in, each_with, hangs_by, hung_up_if, leaves, part_of, turn_of, withheld}
 use Rattle.joined_terminals.specs.Driven.{Driven, answerer_speaks, joined}
 use Rattle.joined_terminals.specs.Held.{DrivesHeld, IsHeld}
@@ -102,7 +102,7 @@ spoken_goes step true old new may h e none one = goes_by step old new may h e no
 spoken_goes step false old new may h e none one = goes_by step old (answerer_speaks false new) may h e none one
 
 -- a conversation whose call is stopped for a reason, if there is one
-pub watched : HoldersKnown → (c : ConversationFields LimitedFields) → HoldsOne c.terminal.speaking → (why : Option Refusal) →
+pub watched : HoldersKnown → (c : ConversationFields LimitedFields) → HoldsOne c.terminal.speaking → (why : Option StopCause) →
     HoldsOne (stopped_for limited_behaviour why c).terminal.speaking
 watched known c one None = one
 watched known c one (Some why) = stopped_holds known c.terminal.speaking one
@@ -155,13 +155,13 @@ module _ (law : HearingTakes) (known : HoldersKnown) where
       d.unkept ≡ [] → HoldsOne heard.terminal.speaking → Goes (answerer_watches ∷ []) d (refused_so limited_behaviour heard) s
   watch_goes d heard s e f none one =
       let silent : Bool =
-      silent_unless (refusal_in d.answerer.watch) (is_silent (limited_behaviour.stop_says d.answerer.terminal.speaking.station)) in
+      silent_unless (stop_in d.answerer.watch) (is_silent (limited_behaviour.stop_says d.answerer.terminal.speaking.station)) in
       let here : HoldsOne d.answerer.terminal.speaking =
       subst (λ (c : ConversationFields LimitedFields). HoldsOne c.terminal.speaking) (sym e) one in
       subst (λ x. Goes (answerer_watches ∷ []) d (refused_so limited_behaviour x) s) e
       (subst (λ x. Goes (answerer_watches ∷ []) d (refused_so limited_behaviour d.answerer) x) f
       (spoken_goes answerer_watches silent d (record d { answerer = refused_so limited_behaviour d.answerer }) tt refl refl none
-      (watched known d.answerer here (refusal_in d.answerer.watch))))
+      (watched known d.answerer here (stop_in d.answerer.watch))))
 
   -- ---- what is done of the page
 
@@ -380,7 +380,7 @@ module _ (law : HearingTakes) (known : HoldersKnown) where
       let r : HolderIsReady line kept old h.ready stored = h.is_ready in
       let first : Goes (answerer_line line ∷ []) old r.heard old.stored = line_goes law known line kept old h.ready stored none one r in
       let stopped : HoldsOne (refused_so limited_behaviour r.heard).terminal.speaking =
-      watched known r.heard first.one (refusal_in r.heard.watch) in
+      watched known r.heard first.one (stop_in r.heard.watch) in
       let all : Goes (holder_steps line kept h.is_ready.hangs (part_of h.part given)) old new stored =
       goes_on old first (λ d is same n. goes_on d (watch_goes law known d r.heard old.stored is same n first.one)
       (λ x f g m. kept_goes line kept old new stored h given e stopped x f g m)) in

@@ -9,7 +9,7 @@ use Rattle.conversations.specs.Answering.{limited_behaviour, pages_of}
 use Rattle.conversations.specs.Conversations.{ConversationFields, LosesFrames, gives, hung_up_so, refused_so, stopped_for, stopped_so}
 use Rattle.conversations.specs.Conversations.{with_pages_taken}
 use Rattle.conversations.specs.Led.{caller_behaviour}
-use Rattle.conversations.specs.Refusing.{refusal_in}
+use Rattle.conversations.specs.Refusing.{stop_in}
 use Rattle.conversations.specs.declared.line.TimedLine.{TimedLine}
 use Rattle.raster.specs.Pages.{PagePixels}
 use Rattle.signals.specs.Signals.{mcf}
@@ -31,7 +31,7 @@ use Rattle.terminals.specs.Runs.{TerminalFields}
 use Rattle.terminals.specs.Speaking.{Speaking, is_silent}
 use Rattle.terminals.specs.Stopping.{limited_cut_off}
 use Rattle.terminals.specs.declared.sending.SentBurst.{SentBurst}
-use Rattle.terminals.specs.declared.watching.Refusal.{Refusal}
+use Rattle.conversations.specs.declared.refusing.StopCause.{StopCause}
 use Rattle.line_sim.proofs.CallerKeeps.{each_drop}
 use Rattle.line_sim.proofs.Lists.{each_append}
 use Rattle.joined_terminals.specs.Answered.{answerer_lends, caller_lends}
@@ -220,7 +220,7 @@ module _ (document : Document) (first : Driven) (safe : (steps : List Step) (d :
           caller_goes (caller_refuses line) d new s h p.1.silent h.caller p.1.others (λ t r. lost_counts d.caller.terminal h.caller.terminal
           d.to_caller p.1.others p.1.silent t r (gives caller_behaviour d.caller h.refuses.shown line) p.0 p.1.comes p.1.turns) p.1.is
 
-  watched : (d : Driven) (why : Option Refusal) (t : Caller) → Represents (counted d.caller.terminal.speaking) t →
+  watched : (d : Driven) (why : Option StopCause) (t : Caller) → Represents (counted d.caller.terminal.speaking) t →
       CountsLine d.caller.terminal.speaking (stopped_for caller_behaviour why d.caller).terminal.speaking d.to_caller d.to_caller
   watched d None t r = same_caller d d.caller refl t r
   watched d (Some why) t r =
@@ -416,7 +416,7 @@ module _ (document : Document) (first : Driven) (safe : (steps : List Step) (d :
         quiet = λ e. inl (stopped_quiet d.answerer.terminal.speaking e);
       }
 
-  stops_for : (d : Driven) (why : Option Refusal) →
+  stops_for : (d : Driven) (why : Option StopCause) →
       Hears d.answerer.terminal.speaking (stopped_for limited_behaviour why d.answerer).terminal.speaking d.to_answerer d.to_answerer
       (silent_unless why (is_silent (limited_behaviour.stop_says d.answerer.terminal.speaking.station)))
   stops_for d None = same_answerer d d.answerer refl
@@ -571,14 +571,14 @@ module _ (document : Document) (first : Driven) (safe : (steps : List Step) (d :
     goes (answerer_refuses line) d new s may h = answerer_refused keeps d new line s h
     goes caller_watches d new s may h =
         caller_goes caller_watches d new s h
-        (silent_unless (refusal_in d.caller.watch) (is_silent (caller_behaviour.stop_says d.caller.terminal.speaking.station)))
-        (refused_so caller_behaviour d.caller) d.to_caller (watched d (refusal_in d.caller.watch)) h
+        (silent_unless (stop_in d.caller.watch) (is_silent (caller_behaviour.stop_says d.caller.terminal.speaking.station)))
+        (refused_so caller_behaviour d.caller) d.to_caller (watched d (stop_in d.caller.watch)) h
     goes answerer_watches d new s may h =
         answerer_goes answerer_watches d new s h
-        (silent_unless (refusal_in d.answerer.watch) (is_silent (limited_behaviour.stop_says d.answerer.terminal.speaking.station)))
+        (silent_unless (stop_in d.answerer.watch) (is_silent (limited_behaviour.stop_says d.answerer.terminal.speaking.station)))
         (refused_so limited_behaviour d.answerer) d.to_answerer
-        (still_leaving d (refused_so limited_behaviour d.answerer) s.leaving (gone_for d.answerer (refusal_in d.answerer.watch)))
-        (stops_for d (refusal_in d.answerer.watch)) h
+        (still_leaving d (refused_so limited_behaviour d.answerer) s.leaving (gone_for d.answerer (stop_in d.answerer.watch)))
+        (stops_for d (stop_in d.answerer.watch)) h
     goes pages_stored d new s may h = stores_on d new s h
     goes page_refused d new s may h = refuses_on d new s h
     goes page_lost d new s may h =

@@ -3,7 +3,7 @@ use Rattle.std.proofs.Common.{◌≡◌, ◌∷◌, [], List, Bool, true, false,
 use Rattle.conversations.specs.Answering.{limited_behaviour}
 use Rattle.conversations.specs.Conversations.{ConversationFields, LosesFrames, gives, hung_up_so, refused_so, stopped_so, with_pages_taken}
 use Rattle.conversations.specs.Led.{caller_behaviour}
-use Rattle.conversations.specs.Refusing.{refusal_in}
+use Rattle.conversations.specs.Refusing.{stop_in}
 use Rattle.conversations.specs.declared.line.TimedLine.{TimedLine}
 use Rattle.signals.specs.declared.signal.Side.TheVariants.{Answerer as AnswererSide}
 use Rattle.stations.specs.Inputs.{PlainItem}
@@ -77,12 +77,12 @@ module _ (known : HoldersKnown) where
   stays_well (caller_refuses line) d new well h = caller_refused d new line well h
   stays_well (answerer_refuses line) d new well h = answerer_refused d new line well h
   stays_well caller_watches d new well h =
-      caller_so (silent_unless (refusal_in d.caller.watch) (is_silent (caller_behaviour.stop_says d.caller.terminal.speaking.station)))
+      caller_so (silent_unless (stop_in d.caller.watch) (is_silent (caller_behaviour.stop_says d.caller.terminal.speaking.station)))
       d new (refused_so caller_behaviour d.caller) d.to_caller well h
   stays_well answerer_watches d new well h =
       answerer_so
-      (silent_unless (refusal_in d.answerer.watch) (is_silent (limited_behaviour.stop_says d.answerer.terminal.speaking.station))) d new
-      (refused_so limited_behaviour d.answerer) d.to_answerer well (watched known d.answerer well (refusal_in d.answerer.watch)) h
+      (silent_unless (stop_in d.answerer.watch) (is_silent (limited_behaviour.stop_says d.answerer.terminal.speaking.station))) d new
+      (refused_so limited_behaviour d.answerer) d.to_answerer well (watched known d.answerer well (stop_in d.answerer.watch)) h
   stays_well pages_stored d new well h =
       subst IsWell (sym h.is) (taken_holds known d.answerer.terminal.speaking well)
   stays_well page_refused d new well h =

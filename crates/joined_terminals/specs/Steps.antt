@@ -11,7 +11,7 @@ use Rattle.conversations.specs.Conversations.{Behaviour, ConversationFields, Los
 use Rattle.conversations.specs.Conversations.{hung_up_so, refused_so, stopped_so, with_pages_taken}
 use Rattle.conversations.specs.Conversations.{nothing, stopping, losing, frames, input}
 use Rattle.conversations.specs.Led.{caller_behaviour}
-use Rattle.conversations.specs.Refusing.{refusal_in}
+use Rattle.conversations.specs.Refusing.{stop_in}
 use Rattle.conversations.specs.Talking.{GivesNext}
 use Rattle.conversations.specs.declared.line.TimedLine.{TimedLine}
 use Rattle.hdlc.specs.DeframerState.{DeframerState}
@@ -29,7 +29,7 @@ use Rattle.terminals.specs.Speaking.{Takes, is_silent}
 use Rattle.terminals.specs.Stations.{AnswererLends, CallerLends}
 use Rattle.terminals.specs.Stopping.{limited_cut_off}
 use Rattle.terminals.specs.declared.sending.SentBurst.{SentBurst}
-use Rattle.terminals.specs.declared.watching.Refusal.{Refusal}
+use Rattle.conversations.specs.declared.refusing.StopCause.{StopCause}
 use Rattle.joined_terminals.specs.Happening.{AreLeft, FirstComes}
 use Rattle.joined_terminals.specs.Joining.{if_clear}
 use Rattle.joined_terminals.specs.Octets.{IsPiece, PieceComes, TakesSo}
@@ -115,7 +115,7 @@ pub record AnswererRefusesLine (line : TimedLine) (old new : Driven) : Type 0 wh
       AnswererIsGiven (gives limited_behaviour old.answerer refuses.shown line) old answerer new)
 
 -- whether a call that is stopped for a reason, if there is one, says nothing
-abbrev pub silent_unless : Option Refusal → Bool → Bool
+abbrev pub silent_unless : Option StopCause → Bool → Bool
 silent_unless None silent = true
 silent_unless (Some why) silent = silent
 
@@ -221,12 +221,12 @@ Does (answerer_refuses line) old new = AnswererRefusesLine line old new
 Does caller_watches old new =
     new ≡
     caller_speaks
-    (silent_unless (refusal_in old.caller.watch) (is_silent (caller_behaviour.stop_says old.caller.terminal.speaking.station)))
+    (silent_unless (stop_in old.caller.watch) (is_silent (caller_behaviour.stop_says old.caller.terminal.speaking.station)))
     (record old { caller = refused_so caller_behaviour old.caller })
 Does answerer_watches old new =
     new ≡
     answerer_speaks
-    (silent_unless (refusal_in old.answerer.watch) (is_silent (limited_behaviour.stop_says old.answerer.terminal.speaking.station)))
+    (silent_unless (stop_in old.answerer.watch) (is_silent (limited_behaviour.stop_says old.answerer.terminal.speaking.station)))
     (record old { answerer = refused_so limited_behaviour old.answerer })
 Does pages_stored old new = StoresPages old new
 Does page_refused old new = RefusesPage old new

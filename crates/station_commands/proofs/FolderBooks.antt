@@ -1,7 +1,8 @@
 -- What the folder of an answerer has of the pages of a call.
 use Rattle.std.proofs.Common.{◌≡◌, ◌≤◌, ◌+◌, ◌++◌, ◌∷◌, ◌∙◌, [], ℕ, List, Bool, true, false, Option, length, arith, ap, refl, sym, subst, inl, inr, append_assoc}
+use Rattle.std.proofs.lemmas.Bool.{false≢true}
 use Rattle.std.proofs.lemmas.List.{append-nil}
-use Rattle.std.specs.Prelude.{◌⊎◌, ◌&&◌, ◌||◌, not}
+use Rattle.std.specs.Prelude.{◌⊎◌}
 use Rattle.conversations.specs.Answering.{StoresAll, StoresEach, limited_behaviour, pages_of}
 use Rattle.conversations.specs.Conversations.{ConversationFields, gives, hung_up_so, refused_so, with_pages_taken}
 use Rattle.conversations.specs.Talking.{Answers, GivesAll, GivesSoFar, GivesSome, KeepsLine as BreaksLine, TellsAll, TellsPart}
@@ -19,7 +20,7 @@ use Rattle.signals.specs.declared.params.Wish.{Wish}
 use Rattle.station_commands.specs.FolderBooks.{AnswersAreFolders, BreaksAreFolders, ConfirmedAreFiled, Event, FolderAnswers, FolderBook, FolderKeeps, FolderKeepsAll}
 use Rattle.station_commands.specs.FolderBooks.{HappenAll, Happens, HasConfirmed, StoredBetween, StoresSo}
 use Rattle.station_commands.specs.FolderBooks.Event.{answered, other}
-use Rattle.station_commands.specs.Folders.{FolderRefuses, FolderStores, KeepsLine, KeepsPages, ended_late, is_full, is_late}
+use Rattle.station_commands.specs.Folders.{FolderRefuses, FolderStores, KeepsLine, KeepsPages}
 use Rattle.station_commands.specs.declared.station.folder.CallLimits.{CallLimits}
 use Rattle.station_commands.specs.declared.station.folder.Folder.{Folder}
 use Rattle.station_commands.specs.declared.station.folder.Tally.{Tally}
@@ -100,17 +101,6 @@ kept_pages c mid first last false h =
       so = (s.1, s.2, s.4, h.1);
     }
 
-pub same_hung : (late : Bool) (c : ConversationFields LimitedFields) → ended_late late c ≡ hung_up_if late c
-same_hung true c = refl
-same_hung false c = refl
-
--- a call that has had its time is hung up only once all pages are stored
-only_all : (kept full all late : Bool) → kept ≡ (full || all) → (kept && (not full && late)) ≡ true → all ≡ true
-only_all kept full true late e h = refl
-only_all false full false late e h = absurd (cc)
-only_all true true false late e h = absurd (cc)
-only_all true false false late e h = absurd (cc)
-
 pub folder_keeps_all : FolderKeepsAll
 folder_keeps_all said old c new after kept itself h =
     let holds : h.first.holds ≡ false = ap (λ (f : Folder). f.holds) h.begins.0 ∙ itself in
@@ -131,9 +121,9 @@ folder_keeps_all said old c new after kept itself h =
       mid = h.mid;
       all = h.all;
       stores = k.so;
-      hangs = kept && (not (is_full h.last.stopped) && is_late h.last.limits.millis h.mid);
-      only = only_all kept (is_full h.last.stopped) h.all (is_late h.last.limits.millis h.mid) h.kept_is;
-      is = h.hangs_up ∙ same_hung (kept && (not (is_full h.last.stopped) && is_late h.last.limits.millis h.mid)) h.mid;
+      hangs = false;
+      only = λ e. absurd (false≢true e);
+      is = h.same;
       itself = ap (λ (f : Folder). f.holds) h.stops ∙ (k.booked.holds ∙ holds);
     }
 

@@ -1,6 +1,6 @@
 -- The folder of an answerer whose pages are handed over; and how the calls of both commands begin.
 use Rattle.std.proofs.Common.{arith, ◌≡◌, ◌≤◌, ◌<◌, ◌++◌, ◌∷◌, ◌∙◌, [], ℕ, List, Bool, true, false, Option, Some, None, length, ap, refl, sym, subst}
-use Rattle.std.specs.Prelude.{◌&&◌, ◌-◌, ◌^◌, not}
+use Rattle.std.specs.Prelude.{◌-◌, ◌^◌}
 use Rattle.conversations.specs.Answering.{StoreStep, limited_behaviour, pages_of}
 use Rattle.conversations.specs.Conversations.{ConversationFields, refused_so}
 use Rattle.conversations.specs.Holding.{CountsFirst, HandsNext, HoldsPages}
@@ -14,14 +14,13 @@ use Rattle.joined_terminals.specs.HeldAnswers.{HeldAnswersAreSteps, HolderAnswer
 use Rattle.joined_terminals.specs.Joining.{Joined}
 use Rattle.joined_terminals.specs.Steps.{appends}
 use Rattle.raster.specs.Pages.{PagePixels}
-use Rattle.station_commands.proofs.FolderBooks.{same_hung}
 use Rattle.station_commands.proofs.FolderLemmas.{folder_is_store}
 use Rattle.station_commands.specs.FolderBooks.{AnswersAreHeld, CommandsBegin, CommandsHoldOne, ConfirmedAreKept, Event, HappenAllHeld, HappensHeld}
 use Rattle.station_commands.specs.FolderBooks.{at_begin}
 use Rattle.station_commands.specs.FolderBooks.Event.{answered, other}
 use Rattle.joined_terminals.specs.Held.{DrivesHeld, HeldAreStored}
 use Rattle.joined_terminals.specs.Steps.{Step}
-use Rattle.station_commands.specs.Folders.{FolderCounts, FolderHands, FolderRefuses, KeepsPages, held_name, is_full, is_late, stock_of}
+use Rattle.station_commands.specs.Folders.{FolderCounts, FolderHands, FolderRefuses, KeepsPages, held_name, stock_of}
 use Rattle.station_commands.specs.Stations.{page_limit}
 use Rattle.station_commands.specs.Talks.{receiving, wish_of}
 use Rattle.stations.specs.AnswererStep.{new_answerer}
@@ -108,7 +107,6 @@ answers_are_held law text old new folder kept_in before after kept over others n
     let r = holds_told FolderHands FolderRefuses counts_so stock_of folder_is_store.holds (held_name h.first.held) a.timed.said heard h.mid
     h.first h.last h.all pages old.stored
     (subst (λ (t : Tally). t.pages ≤ length old.stored) (sym (ap (λ (f : Folder). f.tally) h.begins.0)) counted) in
-    let hangs : Bool = kept && (not (is_full h.last.stopped) && is_late h.last.limits.millis h.mid) in
     let answers : HolderAnswers a.timed h.all a.late old new r.0 = record {
       ready = a.ready;
       is_ready = record {
@@ -119,8 +117,8 @@ answers_are_held law text old new folder kept_in before after kept over others n
         held = held_name h.first.held;
         mid = h.mid;
         holds = r.2;
-        hangs = hangs;
-        is = h.hangs_up ∙ same_hung hangs h.mid;
+        hangs = false;
+        is = h.same;
       };
       turn = record { left = a.left; withholds = a.withholds; bursts = a.writes.bursts; gives = a.writes.gives };
     } in
@@ -128,7 +126,7 @@ answers_are_held law text old new folder kept_in before after kept over others n
       l.0,
       record {
         kept = h.all;
-        hangs = hangs;
+        hangs = false;
         given = turn_of answers.turn;
         drives = l.1;
         counts = subst (λ (s : List PagePixels). kept_in.tally.pages ≤ length s) (sym l.3)

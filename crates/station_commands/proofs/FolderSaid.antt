@@ -1,6 +1,6 @@
 -- What is in the folder of an answerer was said on the line.
 use Rattle.std.proofs.Common.{arith, ◌≡◌, ◌⊎◌, ◌+◌, ◌++◌, ◌∷◌, ◌∙◌, [], ℕ, suc, zero, List, Bool, true, false, Option, Some, None, inl, inr, length, ap, refl, sym, subst, append_assoc}
-use Rattle.std.specs.Prelude.{◌≢◌, ◌&&◌, ◌||◌, not, IsSome, IsTrue, Ok, Err, Result, string_bytes}
+use Rattle.std.specs.Prelude.{◌≢◌, IsSome, IsTrue, Ok, Err, Result, string_bytes}
 use Rattle.std.proofs.lemmas.Bool.{false≢true}
 use Rattle.std.proofs.lemmas.List.{append-nil}
 use Rattle.std.specs.Io.KnownBytes.{Appends}
@@ -24,7 +24,7 @@ use Rattle.signals.specs.declared.params.Caps.{Caps}
 use Rattle.signals.specs.declared.signal.Side.{Side}
 use Rattle.station_commands.proofs.FolderBooks.{between_both, between_each, books_both, counts, folder_keeps_all}
 use Rattle.station_commands.specs.FolderBooks.{AcceptedAreFiled, AnswerersAreNew, StoredBetween, accepted_in, FilesWhatIsSaid, FolderBook, FolderIsSaid, FolderKeeps, StationFiles, StationsFileWhatIsSaid, StoresSo}
-use Rattle.station_commands.specs.Folders.{StoresPage, FolderRefuses, FolderStores, KeepsLine, KeepsPages, ended_late, held_name, is_full, is_late}
+use Rattle.station_commands.specs.Folders.{StoresPage, FolderRefuses, FolderStores, KeepsLine, KeepsPages, held_name}
 use Rattle.station_commands.specs.Talks.{AfterLosses, AnswerTalks, EndsTalk, LedTo, StoppedAt, folder_talker, receiving}
 use Rattle.station_commands.specs.declared.station.AnswerCommand.{AnswerCommand}
 use Rattle.station_commands.specs.declared.station.Halted.{Halted}
@@ -116,8 +116,7 @@ record Kept (first old new : Folder) (c after : ConversationFields LimitedFields
 kept_so : (first old new : Folder) (said : Said) (c after : ConversationFields LimitedFields) (kept : Bool) → Stays first old →
     (h : KeepsLine said old c new after kept) → ((mid : ConversationFields LimitedFields) → after ≢ hung_up_so limited_cut_off mid) →
     Kept first old new c after
-kept_so first old new said c after kept stays h goes_on = at h.all (kept && (not (is_full h.last.stopped) && is_late h.last.limits.millis h.mid))
-    pages h.hangs_up
+kept_so first old new said c after kept stays h goes_on = at h.all pages
   where
     begun_holds : h.first.holds ≡ false
     begun_holds = ap (λ (f : Folder). f.holds) h.begins.0 ∙ stays.holds
@@ -125,11 +124,9 @@ kept_so first old new said c after kept stays h goes_on = at h.all (kept && (not
     pages : StoresAll FolderStores FolderRefuses c h.mid h.first h.last h.all
     pages = subst (λ by. KeepsPages by said c h.mid h.first h.last h.all) begun_holds h.keeps
 
-    at : (all hangs : Bool) → StoresAll FolderStores FolderRefuses c h.mid h.first h.last all → after ≡ ended_late hangs h.mid →
-        Kept first old new c after
-    at all true k e = absurd (goes_on h.mid e)
-    at false false k e = absurd (goes_on (with_pages_taken c) (e ∙ k.1))
-    at true false k e =
+    at : (all : Bool) → StoresAll FolderStores FolderRefuses c h.mid h.first h.last all → Kept first old new c after
+    at false k = absurd (goes_on (with_pages_taken c) (h.same ∙ k.1))
+    at true k =
         let rest : h.last ≡ record h.first { tally = h.last.tally } = each_rest (pages_of c) h.first h.last k.0 in
         let limits : h.first.limits ≡ first.limits = ap (λ (f : Folder). f.limits) h.begins.0 ∙ stays.limits in
         let before : now_of first h.first ≡ now_of first old =
@@ -141,7 +138,7 @@ kept_so first old new said c after kept stays h goes_on = at h.all (kept && (not
             subst (λ f. StoresEach FolderStores (now_of first old) (pages_of c) f) (sym later)
                 (subst (λ f. StoresEach FolderStores f (pages_of c) (now_of first h.last)) before
                 (now_each first (pages_of c) h.first h.last limits k.0)),
-            e ∙ k.1,
+            h.same ∙ k.1,
           );
           stays = record {
             limits = ap (λ (f : Folder). f.limits) h.stops ∙ (ap (λ (f : Folder). f.limits) rest ∙ limits);

@@ -30,7 +30,7 @@ use Rattle.joined_terminals.specs.Held.{DrivesHeld, IsHeld}
 use Rattle.joined_terminals.specs.HeldAnswers.{HolderStays, HoldsOne, holder_steps}
 use Rattle.stations.specs.Stopping.{StoppableCallerFields}
 use Rattle.station_commands.specs.declared.station.AnswerCommand.{AnswerCommand}
-use Rattle.station_commands.specs.declared.station.Confirmed.{Confirmed}
+use Rattle.station_commands.specs.declared.station.confirmations.Confirmed.{Confirmed}
 use Rattle.station_commands.specs.declared.station.Talked.{Talked}
 use Rattle.station_commands.specs.declared.station.folder.CallLimits.{CallLimits}
 use Rattle.station_commands.specs.declared.station.folder.Folder.{Folder}

@@ -1,10 +1,10 @@
 -- What is noted while the pages of a call are written into a folder.
-use Rattle.std.specs.Prelude.{◌≡◌, ◌≤◌, ◌&&◌, ◌||◌, ◌+◌, ◌*◌, ◌-◌, ◌^◌, ℕ, Bool, false, true, Option, Some, None, is_some, length, min}
-use Rattle.std.specs.Prelude.{◌<◌, ◌++◌, ◌∷◌, [], List, codes, nat_le, nat_lt, not, option_map, string_bytes, if◌then◌else◌}
+use Rattle.std.specs.Prelude.{◌≡◌, ◌≤◌, ◌&&◌, ◌||◌, ◌+◌, ◌-◌, ◌^◌, ℕ, Bool, false, true, Option, Some, None, is_some, length, min}
+use Rattle.std.specs.Prelude.{◌<◌, ◌++◌, ◌∷◌, [], List, codes, nat_le, nat_lt, option_map, string_bytes, if◌then◌else◌}
 use Rattle.captures.specs.PageNumbers.{after}
 use Rattle.command_files.specs.Bounds.{image_octets}
 use Rattle.conversations.specs.Answering.{StoresAll}
-use Rattle.conversations.specs.Conversations.{ConversationFields, hung_up_so}
+use Rattle.conversations.specs.Conversations.{ConversationFields}
 use Rattle.conversations.specs.Holding.{HoldsPages}
 use Rattle.conversations.specs.Refusing.{gap_in}
 use Rattle.conversations.specs.Stores.{IsHolder, IsStore, Stock}
@@ -31,21 +31,15 @@ use Rattle.stations.specs.Limiting.{LimitedFields}
 use Rattle.stations.specs.Listening.{answerer_peer}
 use Rattle.stations.specs.Stopping.{call_end}
 use Rattle.stations.specs.declared.stopping.CallEnd.{CallEnd}
-use Rattle.terminals.specs.Stopping.{limited_cut_off}
 
 -- a limit, or 2^64 - 1 if none is given
 abbrev pub most_of : Option ℕ → ℕ
 most_of None = 2 ^ 64 - 1
 most_of (Some most) = most
 
--- seconds in milliseconds, or 2^64 - 1
-abbrev pub millis_of : Option ℕ → ℕ
-millis_of None = 2 ^ 64 - 1
-millis_of (Some seconds) = 1000 * seconds
-
 -- what a call may have at most
 abbrev pub limits_of : GivenLimits → CallLimits
-limits_of given = record { pages = most_of given.pages; octets = most_of given.octets; millis = millis_of given.seconds }
+limits_of given = record { pages = most_of given.pages; octets = most_of given.octets }
 
 -- the limit that a page of so many octets would exceed, of a call of which so much is stored; none if there is room for it
 abbrev pub limit_met : CallLimits → Tally → ℕ → Option StoppedBy
@@ -182,15 +176,6 @@ params_of c = let answerer = c.terminal.speaking.station.station in answerer_pee
 abbrev pub end_of : ConversationFields LimitedFields → Option CallEnd
 end_of c = call_end c.terminal.speaking.station.station.ending c.terminal.speaking.station.cut
 
--- the time of a call that goes on is over, after so many milliseconds, and the line is quiet
-abbrev pub is_late : ℕ → ConversationFields LimitedFields → Bool
-is_late most c = nat_le most c.clock.now && (is_some c.clock.calm && not (is_some (end_of c)))
-
--- a conversation that hangs up, if its time is over
-abbrev pub ended_late : Bool → ConversationFields LimitedFields → ConversationFields LimitedFields
-ended_late true c = hung_up_so limited_cut_off c
-ended_late false c = c
-
 -- Why a call is stopped, if it is, after a line that says this: as it was if the call has all that it may have (first Bool); since its
 -- time is over (second); since a page is lost; or as it was.
 abbrev pub stopped_after : Bool → Bool → Said → Option StoppedBy → Option StoppedBy
@@ -208,7 +193,7 @@ stopped_after false false Stop before = before
 stopped_after false false End before = before
 
 -- What a folder keeps after a line: the pages of the answerer are kept, or one is refused, after which it hangs up. If that one is refused
--- since the call has all that it may have, all is well; and if none is refused, and only then, the answerer hangs up once its time is over.
+-- since the call has all that it may have, all is well; and if none is refused, it notes that the call has lasted as long as it may.
 pub record KeepsLine (said : Said) (old : Folder) (c : ConversationFields LimitedFields) (new : Folder)
     (after : ConversationFields LimitedFields) (kept : Bool) : Type 0 where
   pub first : Folder
@@ -219,5 +204,5 @@ pub record KeepsLine (said : Said) (old : Folder) (c : ConversationFields Limite
   pub keeps : KeepsPages first.holds said c mid first last all
   pub kept_is : kept ≡ (is_full last.stopped || all)
   pub stops :
-      new ≡ record last { stopped = stopped_after (is_full last.stopped) (all && is_late last.limits.millis mid) said last.stopped }
-  pub hangs_up : after ≡ ended_late (kept && (not (is_full last.stopped) && is_late last.limits.millis mid)) mid
+      new ≡ record last { stopped = stopped_after (is_full last.stopped) (all && mid.watch.late) said last.stopped }
+  pub same : after ≡ mid

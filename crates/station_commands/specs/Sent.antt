@@ -3,7 +3,7 @@ use Rattle.std.specs.Prelude.{◌≡◌, ◌∷◌, [], ℕ, false, List, None}
 use Rattle.conversations.specs.Conversing.{FollowedAll, TalkState, Talker}
 use Rattle.station_commands.specs.Following.{station_follower}
 use Rattle.station_commands.specs.Talks.{confirmed_talker, folder_talker}
-use Rattle.station_commands.specs.declared.station.Confirmed.{Confirmed}
+use Rattle.station_commands.specs.declared.station.confirmations.Confirmed.{Confirmed}
 use Rattle.station_commands.specs.declared.station.folder.Folder.{Folder}
 use Rattle.station_commands.specs.declared.station.notes.Notes.{Notes}
 use Rattle.stations.specs.Limiting.{LimitedFields}

@@ -1,5 +1,5 @@
 -- What can come of `dial` and `answer`: the words of an end, how far a line led, and which pages are sent.
-use Rattle.std.specs.Prelude.{◌≡◌, ◌⊎◌, ◌<◌, ◌&&◌, ◌-◌, ℕ, Bool, List, Option, Some, None, Result, Ok, Err, false, true, codes, cond, drop, length}
+use Rattle.std.specs.Prelude.{◌≡◌, ◌⊎◌, ◌<◌, ◌&&◌, ◌-◌, ◌*◌, ℕ, Bool, List, Option, Some, None, Result, Ok, Err, false, true, codes, cond, drop, length}
 use Rattle.std.specs.Prelude.{max, nat_eq}
 use Rattle.calls.specs.Transcripts.{end_text}
 use Rattle.command_files.specs.Runs.{completeness_of}
@@ -49,6 +49,11 @@ end_word (Some (By end)) unconfirmed refused = table_word end unconfirmed
 end_word (Some Stopped) unconfirmed refused = stopped_word refused
 end_word (Some LineLost) unconfirmed refused = codes "line-lost"
 end_word None unconfirmed refused = end_text None
+
+-- seconds in milliseconds, if they are given
+abbrev pub millis_of : Option ℕ → Option ℕ
+millis_of None = None
+millis_of (Some seconds) = Some (1000 * seconds)
 
 -- how long a wait is to run, if that is given
 abbrev pub given_wait : GivenWaits → Wait → Option ℕ

@@ -3,19 +3,21 @@
 -- No clause says what standard input holds. So the lines that were read are some lines of which the definition holds, and what was written
 -- isn't said.
 use Rattle.std.specs.Prelude.{ℕ, zero, suc, ◌≡◌, ◌⊎◌, ◌-◌, ◌^◌, [], Bool, true, false, List, Option, Some, None, Result, Ok, Err, length}
-use Rattle.std.specs.Prelude.{nat_eq, not, option_map, string_bytes, unwrap_or}
+use Rattle.std.specs.Prelude.{◌||◌, nat_eq, not, option_map, string_bytes, unwrap_or}
 use Rattle.calls.specs.declared.options.CallOptions.{CallOptions}
 use Rattle.station_commands.specs.CallNotes.{is_whole}
 use Rattle.station_commands.specs.Folders.{KeepsLine, end_of, held_name, limits_of}
-use Rattle.station_commands.specs.Stations.{HaltsBy, IsFailure, IsNoDocument, SendsFrom, as_outside, ended_of, given_wait, page_limit}
+use Rattle.station_commands.specs.Stations.{HaltsBy, IsFailure, IsNoDocument, SendsFrom, as_outside, ended_of, given_wait, millis_of, page_limit}
 use Rattle.command_files.specs.declared.command.Completeness.{Completeness}
 use Rattle.station_commands.specs.declared.station.AnswerCommand.{AnswerCommand}
-use Rattle.station_commands.specs.declared.station.Confirmed.{Confirmed}
+use Rattle.station_commands.specs.declared.station.confirmations.Confirmed.{Confirmed}
 use Rattle.station_commands.specs.declared.station.DialCommand.{DialCommand}
 use Rattle.station_commands.specs.declared.station.Halted.{Halted}
 use Rattle.station_commands.specs.declared.station.Halted.TheVariants.{Fault}
 use Rattle.station_commands.specs.declared.station.Talked.{Talked}
 use Rattle.station_commands.specs.declared.station.folder.Folder.{Folder}
+use Rattle.station_commands.specs.declared.station.folder.StoppedBy.{StoppedBy}
+use Rattle.station_commands.specs.declared.station.folder.StoppedBy.TheVariants.{Seconds}
 use Rattle.station_commands.specs.declared.station.given.GivenWaits.{GivenWaits}
 use Rattle.station_commands.specs.declared.station.notes.Notes.{Notes}
 use Rattle.station_commands.specs.Following.{IsNewFollower, station_follower}
@@ -24,7 +26,7 @@ use Rattle.conversations.specs.Conversations.{Behaviour, ConversationFields}
 use Rattle.conversations.specs.Conversing.{Converses, ConversesFollowed, StopsSo, Talker, talk_state, talker}
 use Rattle.conversations.specs.Holding.{can_come}
 use Rattle.conversations.specs.Led.{caller_behaviour}
-use Rattle.conversations.specs.Refusing.{new_watch, no_watch, refusal_in}
+use Rattle.conversations.specs.Refusing.{limit_of, new_watch, no_watch, refusal_in}
 use Rattle.conversations.specs.Talking.{Keeping, keeping}
 use Rattle.conversations.specs.declared.conversing.ConverseFault.{ConverseFault}
 use Rattle.conversations.specs.declared.conversing.ConverseFault.TheVariants.{NoMemory}
@@ -149,7 +151,7 @@ pub record NewAnswering (command : AnswerCommand) (c : ConversationFields Limite
     cut = None;
   }
   pub turn : c.terminal.speaking.turn ≡ Dis
-  pub watch : c.watch ≡ new_watch (receiving command.caps) command.refuses
+  pub watch : c.watch ≡ record (new_watch (receiving command.caps) command.refuses) { limit = limit_of (millis_of command.waits.seconds) }
 
 -- the folder of an answerer as its command asks for it, into which nothing was stored
 pub record IsNewFolder (command : AnswerCommand) (folder : Folder) : Type 0 where
@@ -211,13 +213,19 @@ pub record NewDialling (command : DialCommand) (document : List PagePixels) (c :
   pub caller : NewCaller document (wish_of command.options) (Ok c.terminal.speaking.station.station)
   pub uncut : c.terminal.speaking.station.cut ≡ None
   pub turn : c.terminal.speaking.turn ≡ Silent
-  pub watch : c.watch ≡ no_watch
+  pub watch : c.watch ≡ record no_watch { limit = limit_of (millis_of command.waits.seconds) }
 
--- after a line a caller keeps nothing: it tells which pages are confirmed
+-- why a call was stopped, if it was late
+abbrev pub late_stop : Bool → Option StoppedBy
+late_stop true = Some Seconds
+late_stop false = None
+
+-- after a line a caller keeps nothing: it tells which pages are confirmed, and notes that the call has lasted as long as it may
 abbrev pub TellsConfirmed :
     Confirmed → ConversationFields StoppableCallerFields → Confirmed → ConversationFields StoppableCallerFields → Bool → Type 0
 TellsConfirmed old c new after kept = (after ≡ c) × (kept ≡ true)
-    × ((t : Caller) → Represents c.terminal.speaking.station.station t → new ≡ record old { told = confirmed t })
+    × ((t : Caller) → Represents c.terminal.speaking.station.station t
+    → new ≡ record old { told = confirmed t; late = old.late || c.watch.late })
 
 -- a caller and what it tells as they talk
 abbrev pub confirmed_talker : Talker StoppableCallerFields Confirmed
@@ -234,6 +242,7 @@ pub record DialTalks (command : DialCommand) (talked : Talked) : Type 0 where
   pub begins : NewDialling command document first
   pub none : Confirmed
   pub none_told : none.told ≡ 0
+  pub none_late : none.late ≡ false
   pub last : ConversationFields StoppableCallerFields
   pub kept : Confirmed
   pub ended : Result (Unit {0}) Halted
@@ -241,6 +250,7 @@ pub record DialTalks (command : DialCommand) (talked : Talked) : Type 0 where
   pub halted : talked.halted ≡ halt_of ended
   pub end : (t : Caller) → Represents last.terminal.speaking.station.station t
       → talked.end ≡ call_end t.ending last.terminal.speaking.station.cut
+  pub stopped : talked.stopped ≡ late_stop kept.late
   pub answers : talked.unconfirmed ≡ false
   pub follower : Notes
   pub is_new : IsNewFollower command.waits.late follower

@@ -7,7 +7,7 @@ ghost use Rattle.station_commands.specs.FolderBooks.{DialledAnswer, FolderIsSaid
 ghost use Rattle.station_commands.specs.Folders.{FolderIsStore};
 ghost use Rattle.station_commands.specs.Sent.{NoneIsWithheld};
 
-use crate::station::Confirmed;
+use crate::station::confirmations::Confirmed;
 use crate::station::folder::Folder;
 
 /// The folder of `answer` is a store, and a holder, of the kind that `joined_terminals::laws` speak of: it has as many pages as it counts.

@@ -1,5 +1,6 @@
 //! One end of a call, by lines of text on standard input and output.
 
+pub(crate) mod confirmations;
 pub(crate) mod end_records;
 pub(crate) mod ending;
 pub(crate) mod folder;
@@ -12,7 +13,7 @@ pub(crate) mod trace;
 
 ghost use Rattle.faults.specs.Faults.{IsOutside};
 ghost use Rattle.station_commands.specs.Stations.{HaltsBy, IsHalt, IsNoDocument, SendsFrom, as_outside, end_word, ends_normal, given_wait, page_limit};
-ghost use Rattle.station_commands.specs.Stations.{stopped_word, table_word};
+ghost use Rattle.station_commands.specs.Stations.{millis_of, stopped_word, table_word};
 ghost use Rattle.station_commands.specs.Talks.{AnswerTalks, DialTalks, NewAnswering, NewDialling, TalksSo, halt_of, says_of};
 ghost use Rattle.station_commands.specs.Talks.{wish_of};
 ghost use Rattle.station_commands.specs.declared.station.notes.Notes.{Notes as NotesValue};
@@ -26,18 +27,17 @@ ghost use Rattle.stations.specs.declared.waiting.Wait.{Wait as AnyWait};
 ghost use Rattle.terminals.specs.Clocks.{duration};
 ghost use Rattle.terminals.specs.Timing.{wait_millis};
 
+use crate::station::confirmations::Confirmed;
 use crate::station::ending::end_station;
 use crate::station::folder::{CallLimits, Folder, StoppedBy};
 use crate::station::given::{GivenLimits, GivenWaits};
 use crate::station::lateness::Lateness;
 use crate::station::no_line::{LastLine, NoLine, no_line};
 use crate::station::notes::Notes;
-use crate::station::records::{write_confirmed, write_confirmed_words};
 use crate::station::trace::Trace;
 use calls::{CallOptions, end_word};
 use command_files::command::{Completeness, NO_NAMES, Names, Runs};
 use command_files::context::{Cause, Context, Part, first_not_callable};
-use command_files::error_line::ErrorLine;
 use command_files::files::STANDARD;
 use command_files::files::apart::CommandFiles;
 use command_files::files::input::read_document;
@@ -47,8 +47,7 @@ use command_files::files::printed::{self, Printed};
 use command_files::files::progress::Watch;
 use command_files::files::trial::check_stores;
 use command_files::notices::notice;
-use command_files::streams::Streams;
-use conversations::{Conversation, ConverseFault, Ending, Keeper, Refusal, Said, Says, converse};
+use conversations::{Conversation, ConverseFault, Ending, Keeper, Refusal, Says, converse};
 use faults::{FAILED, NO_MEMORY, ToolFault};
 use page_files::PageForm;
 use raster::Document;
@@ -101,7 +100,7 @@ pub(crate) struct Talked {
     pub(crate) end: Option<CallEnd>,
     /// Why the call is refused, if it is.
     pub(crate) refused: Option<Refusal>,
-    /// Why the answerer's program stopped it, if it did.
+    /// Why the program stopped it, if it did.
     pub(crate) stopped: Option<StoppedBy>,
     /// Why a page's file couldn't be written, if that is so.
     pub(crate) failed: Option<ErrorKind>,
@@ -191,64 +190,13 @@ fn says(given: GivenWaits) -> Says
     }
 }
 
-/// A caller keeps no pages: it tells which are confirmed.
-#[derive(Drop)]
-pub(crate) struct Confirmed<'a> {
-    streams: &'a Streams<'a>,
-    records: bool,
-    told: u64,
-}
-
-impl Keeper<StoppableCaller> for Confirmed<'_> {
-    ghost use Rattle.conversations.specs.Holding.{can_come};
-    ghost use Rattle.station_commands.specs.Talks.{TellsConfirmed};
-    ghost use Rattle.std.specs.Prelude.{[], None};
-
-    ghost keeps = { λ old c said new after kept. TellsConfirmed old c new after kept };
-
-    ghost takes = { λ confirmed said. can_come None said };
-
-    ghost tells = { λ confirmed. [] };
-
-    type Refused = ToolFault;
-
-    fn can_take(&self, said: &Said) -> bool {
-        !matches!(said, Said::Told { .. })
-    }
-
-    fn told(&self) -> &[u8] {
-        b""
-    }
-
-    fn keep(
-        &mut self,
-        conversation: &mut Conversation<StoppableCaller>,
-        _said: &Said,
-    ) -> Option<ToolFault> {
-        let confirmed = conversation.terminal().station().station().confirmed();
-        self.tell(conversation.clock().now, confirmed);
-        self.told = confirmed;
-        None
-    }
-}
-
-impl Confirmed<'_> {
-    /// Tells of each page that is confirmed and wasn't told, at a time.
-    fn tell(&self, at: u64, confirmed: u64) {
-        for before in self.told..confirmed {
-            self.tell_page(at, before.saturating_add(1));
-        }
-    }
-
-    /// Tells that the page of this number is confirmed.
-    fn tell_page(&self, at: u64, number: u64) {
-        let mut line = ErrorLine::new(self.streams);
-        let made = if self.records {
-            write_confirmed(self.streams.rt().alloc(), at, number, &mut line)
-        } else {
-            write_confirmed_words(at, number, &mut line)
-        };
-        line.end(made);
+/// Seconds in milliseconds, if they are given.
+fn millis_of(seconds: Option<u32>) -> Option<u64>
+    ensures { result ≡ millis_of seconds }
+{
+    match seconds {
+        Some(seconds) => Some(1000 * u64::from(seconds)),
+        None => None,
     }
 }
 
@@ -454,6 +402,7 @@ impl AnswerCommand {
         conversation
             .saying(says(self.waits))
             .watching(caps, self.refuses)
+            .lasting(millis_of(self.waits.seconds))
     }
 
     /// Takes the lines. Errors: `Io` (8) if a file can't be opened, and that is noted; `NoMemory` (9).
@@ -605,7 +554,9 @@ impl DialCommand {
     {
         let station = StoppableCaller::new(caller);
         let terminal = Terminal::new(alloc, station, Turn::Silent);
-        Conversation::new_caller(terminal, durations(self.waits)).saying(says(self.waits))
+        Conversation::new_caller(terminal, durations(self.waits))
+            .saying(says(self.waits))
+            .lasting(millis_of(self.waits.seconds))
     }
 
     /// Takes the lines. Errors: `Io` (8) if the trace can't be opened, and that is noted; `NoMemory` (9).
@@ -624,18 +575,14 @@ impl DialCommand {
             trace,
             Lateness::new(streams.rt(), self.waits.late),
         );
-        let mut confirmed = Confirmed {
-            streams,
-            records,
-            told: 0,
-        };
+        let mut confirmed = Confirmed::new(streams, records);
         let halted = talk_out(context, &mut conversation, &mut confirmed, &mut notes)?;
         let progress = conversation.terminal().station().station().progress();
         let noted = notes.noted();
         Ok(Talked {
             end: conversation.end(),
             refused: None,
-            stopped: None,
+            stopped: confirmed.stopped(),
             failed: None,
             missing: noted.missing(self.wish(), self.options.fine),
             pages: progress.confirmed,

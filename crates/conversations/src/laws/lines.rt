@@ -1,9 +1,14 @@
 //! Laws of one line. Nothing runs.
 
 ghost use Rattle.conversations.specs.FrameLineLaws.{ContentsAreHeard, FramesByOctets, ReadsFramesSent, SaysItsFrames};
+ghost use Rattle.conversations.specs.LimitRows.{LimitsByLines};
 ghost use Rattle.conversations.specs.LineLaws.{AnswerersFitLines, CallersFitLines, ChannelsHaveNames, KindsHaveNames, ReadsWhatIsSent};
 ghost use Rattle.conversations.specs.LineLaws.{SaysOneThing, SentFitsALine};
 ghost use Rattle.conversations.specs.LineRows.{CarriersByOctets, EndsByOctets, WordsByOctets};
+ghost use Rattle.signals.specs.declared.signal.Side.{Side};
+ghost use Rattle.terminals.specs.declared.clock.Clock.{Clock};
+ghost use Rattle.terminals.specs.declared.clock.Durations.{Durations};
+ghost use Rattle.terminals.specs.declared.stopping.Shown.{Shown};
 
 /// Two carriers have two names, and so do the two kinds of bits.
 pub fn names_differ()
@@ -16,6 +21,11 @@ pub fn words_by_octets()
     ensures carriers { CarriersByOctets }
     ensures words { WordsByOctets }
     ensures ends { EndsByOctets }
+{}
+
+/// When a line finds that a call has lasted as long as it may, worked by hand.
+pub fn limits_by_lines()
+    ensures { (side : Side) (shown : Shown) (c : Clock) (d : Durations) → LimitsByLines side shown c d }
 {}
 
 /// A line says at most one thing, at one time.

@@ -6,7 +6,7 @@ ghost use Rattle.std.specs.Str.{bytes_eq};
 ghost use Rattle.clap.specs.Words.{first_of, found_of, rows_of};
 ghost use Rattle.faxtool.specs.Jobs.{AreWaitsIn, HasNoCommand, IsCommandOf, caps_in, has_answerer, has_caller, limit_of, is_named, takes_t6};
 ghost use Rattle.faxtool.specs.Jobs.{AreLimitsIn, has_refusing, has_stops, is_octal, mode_named, mode_of, refuses_and_not};
-ghost use Rattle.faxtool.specs.Jobs.{has_storing, holds_and_limits, refuses_in, rights_named, widest_named};
+ghost use Rattle.faxtool.specs.Jobs.{has_storing, holds_and_limits, refuses_in, rights_named, seconds_of, widest_named};
 
 use crate::args::unfit::Unfit;
 use crate::args::words::{
@@ -156,7 +156,6 @@ fn has_stops(matches: &ArgMatches<'_>) -> bool
 {
     text_in(matches, "most-pages").is_some()
         || text_in(matches, "most-octets").is_some()
-        || text_in(matches, "most-seconds").is_some()
         || has_refusing(matches)
 }
 
@@ -246,14 +245,27 @@ fn limit_of(given: Option<u32>) -> u32
     }
 }
 
-// The limits of the call.
+// What the call may have.
 fn limits_in(matches: &ArgMatches<'_>) -> GivenLimits
     ensures { AreLimitsIn (rows_of (found_of matches.now)) result }
 {
     GivenLimits {
         pages: number_in(matches, "most-pages"),
         octets: number_in(matches, "most-octets"),
-        seconds: number_in(matches, "most-seconds"),
+    }
+}
+
+// The seconds of a call at most, if that isn't said: four hours.
+const FOUR_HOURS: u32 = 14_400;
+
+// The seconds of a call at most, by the number that is given; 0 is none.
+fn seconds_of(given: Option<u32>) -> Option<u32>
+    ensures { result ≡ seconds_of given }
+{
+    match given {
+        None => Some(FOUR_HOURS),
+        Some(0) => None,
+        Some(seconds) => Some(seconds),
     }
 }
 
@@ -290,7 +302,7 @@ fn late_named(text: Option<&str>) -> Option<Option<u32>>
     }
 }
 
-// How long the waits run, and how late an answer may come.
+// How long the waits and the call last, and how late an answer may come.
 fn waits_in(matches: &ArgMatches<'_>) -> Option<GivenWaits>
     ensures { let rows = rows_of (found_of matches.now) in
         MatchOption result ((waits : GivenWaitsValue) → AreWaitsIn rows waits → ⊥) (AreWaitsIn rows) }
@@ -306,6 +318,7 @@ fn waits_in(matches: &ArgMatches<'_>) -> Option<GivenWaits>
         hears: is_named(text_in(matches, "hear"), "true"),
         frames: is_named(text_in(matches, "frames"), "true"),
         late,
+        seconds: seconds_of(number_in(matches, "most-seconds")),
     })
 }
 

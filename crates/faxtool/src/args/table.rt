@@ -497,8 +497,9 @@ const STATION_ARGUMENTS: &[Argument<'static>] = &[
     Argument {
         id: "most-seconds",
         shown: &["S"],
-        help: "The seconds after which the call is stopped, at the next quiet line; the page under way is dropped (with --answer)",
-        ..MOST
+        help: "The seconds after which the call is stopped, 14400 if not said, 0 for no limit; a page under way is dropped",
+        parser: Some(ValueParser::Signed(0, 4_294_967_295)),
+        ..FILE_OPTION
     },
     Argument {
         id: "refuse",

@@ -166,7 +166,7 @@ impl Unfit {
             Unfit::HoldAndLimit =>
                 "--hold takes one page at a time, and can't be used with --limit",
             Unfit::CallerAsAnswerer =>
-                "--out, --standard, --widest, --limit, --mode, --most-.., --refuse and --hold are for a station with --answer",
+                "--out, --standard, --widest, --limit, --mode, --most-pages, --most-octets, --refuse and --hold are for a station with --answer",
             Unfit::NoDocument => "--call needs IN, the file of the document",
             Unfit::DocumentStandard => "IN can't be standard input, where the lines come",
             _ => return None,

@@ -1,7 +1,7 @@
 //! The folder that the pages of an answerer go to, by its own hand or another's, and the limits of its call.
 
 ghost use Rattle.station_commands.specs.CallNotes.{stopped_words};
-ghost use Rattle.station_commands.specs.Folders.{HasRoom, IsNoRoom, KeepsPages, fault_of, gap_told, is_full, is_late, limit_met, limits_of, most_of};
+ghost use Rattle.station_commands.specs.Folders.{HasRoom, IsNoRoom, KeepsPages, fault_of, gap_told, is_full, limit_met, limits_of, most_of};
 ghost use Rattle.station_commands.specs.Folders.{stopped_after, stopped_for};
 ghost use Rattle.std.specs.Prelude.{◌≡◌, IfErr, IfOk, None, Some, false, is_none};
 
@@ -30,8 +30,6 @@ pub(crate) struct CallLimits {
     pub(crate) pages: u64,
     /// Octets of their files.
     pub(crate) octets: u64,
-    /// Milliseconds.
-    pub(crate) millis: u64,
 }
 
 impl CallLimits {
@@ -42,10 +40,6 @@ impl CallLimits {
         CallLimits {
             pages: most_of(given.pages),
             octets: most_of(given.octets),
-            millis: match given.seconds {
-                Some(seconds) => 1000 * u64::from(seconds),
-                None => u64::MAX,
-            },
         }
     }
 }
@@ -444,15 +438,6 @@ impl<'a> Folder<'a> {
         line.end(made);
     }
 
-    /// Whether the time of a call that goes on is over, and the line is quiet, so that the other side can hear it hang up.
-    fn is_late(&self, conversation: &Conversation<LimitedAnswerer>) -> bool
-        ensures { result ≡ is_late self.now.limits.millis conversation.now }
-    {
-        let clock = conversation.clock();
-        let end = conversation.terminal().station().end();
-        clock.now >= self.limits.millis && clock.calm.is_some() && end.is_none()
-    }
-
     /// Stores the pages of the answerer, or does what a line says of the page that is held, or hands the next one over. Returns why a page is
     /// refused, if one is.
     fn keep_by(
@@ -504,9 +489,8 @@ impl Keeper<LimitedAnswerer> for Folder<'_> {
             self.tell_stopped();
             return None;
         }
-        if refused.is_none() && self.is_late(conversation) {
+        if refused.is_none() && conversation.is_late() {
             self.stop_for(StoppedBy::Seconds);
-            conversation.hang_up();
             return None;
         }
         self.note_lost(said);

@@ -1,6 +1,6 @@
-//! What the words of a station give: how long its waits run, and the limits of its call.
+//! What the words of a station give: how long its waits and its call last, and what a call may have.
 
-/// The lengths of the waits in milliseconds, if given, and whether a station says what it hears and until when it waits.
+/// The lengths of the waits in milliseconds, if given, and of the call; and whether a station says what it hears and until when it waits.
 #[derive(Clone, Copy, Debug, PartialEq, Eq)]
 pub struct GivenWaits {
     /// T1.
@@ -17,15 +17,15 @@ pub struct GivenWaits {
     pub frames: bool,
     /// How late an answer may come in milliseconds, if given.
     pub late: Option<u32>,
+    /// The seconds after which the call is stopped, if given.
+    pub seconds: Option<u32>,
 }
 
-/// The limits of an answerer's call, if given.
+/// What an answerer's call may have, if given.
 #[derive(Clone, Copy, Debug, PartialEq, Eq)]
 pub struct GivenLimits {
     /// The most pages that are stored.
     pub pages: Option<u32>,
     /// The most octets of their files.
     pub octets: Option<u32>,
-    /// The seconds after which the call is stopped.
-    pub seconds: Option<u32>,
 }

@@ -3,7 +3,7 @@ use Rattle.std.proofs.Common.{◌∙◌, ap, false, refl, subst, sym, ℕ}
 use Rattle.std.specs.Prelude.{None}
 use Rattle.station_commands.specs.Talks.{NewAnswering}
 use Rattle.conversations.specs.Conversations.{ConversationFields}
-use Rattle.conversations.specs.Refusing.{new_watch}
+use Rattle.conversations.specs.Refusing.{limit_of, new_watch}
 use Rattle.stations.specs.AnswererStep.{new_answerer}
 use Rattle.stations.specs.CallerStep.{no_params}
 use Rattle.stations.specs.Limiting.{LimitedFields}
@@ -16,9 +16,11 @@ pub returns : goal.returns
 returns c =
     let begun = c.new_answerer-conversation.ensures in
     let said = c.saying.ensures ∙ ap (λ (s : ConversationFields LimitedFields). record s { says = c.says.result }) begun in
-    let is = c.watching.ensures
+    let watched = c.watching.ensures
     ∙ ap (λ (s : ConversationFields LimitedFields). record s { watch = new_watch (receiving c.args.self.now.caps) c.args.self.now.refuses })
     said in
+    let is = c.lasting.ensures
+    ∙ ap (λ (s : ConversationFields LimitedFields). record s { watch = record s.watch { limit = limit_of c.millis_of.result } }) watched in
     let spoken = c.new-terminal.ensures.speaking in
     let caps = receiving c.args.self.now.caps in
     subst (λ (s : ConversationFields LimitedFields). NewAnswering c.args.self.now s) (sym is) record {
@@ -39,5 +41,5 @@ returns c =
             cut = None;
           }) c.page_limit.ensures;
       turn = ap (λ (s : Speaking LimitedFields). s.turn) spoken ∙ c.new-station.ensures.turn;
-      watch = refl;
+      watch = rw c.millis_of.ensures refl;
     }

@@ -10,14 +10,16 @@ returns-clause-talks c document sends new =
       sends = sends;
       first = c.conversation-conversation.result;
       begins = c.conversation-conversation.ensures document new;
-      none = record { streams = _; records = _; told = 0 };
+      none = c.new-confirmed.result;
       none_told = search rules;
+      none_late = search rules;
       last = c.talk_out.new.conversation;
       kept = c.talk_out.new.keeper;
       ended = talks.0;
       talks = talks.2.0;
       halted = talks.3;
       end = λ t stands. search rules;
+      stopped = search rules;
       answers = search rules;
       follower = c.new-notes.result;
       is_new = record {

@@ -1,7 +1,7 @@
 -- What the check asks of `keep`.
 use Rattle.std.proofs.Common.{rules, true, false, ◌≡◌, ◌∙◌, refl, subst, sym}
 use Rattle.std.specs.Prelude.{◌&&◌, is_none}
-use Rattle.station_commands.specs.Folders.{BeginsLine, is_full, is_late, params_of}
+use Rattle.station_commands.specs.Folders.{BeginsLine, is_full, params_of}
 use Rattle.conversations.specs.Refusing.{gap_in}
 use Rattle.station_commands.specs.declared.station.folder.Folder.{Folder}
 use Rattle.station_commands.proofs.station.folder.FolderKeeperLimitedAnswerer.keep.Goals as goal
@@ -24,7 +24,7 @@ returns-then-is_full c =
       keeps = c.keep_by-refused.ensures;
       kept_is = rw full refl;
       stops = rw full refl;
-      hangs_up = rw full refl;
+      same = refl;
     }
 
 pub returns-then-is_late : goal.returns-then-is_late
@@ -35,7 +35,7 @@ returns-then-is_late c =
     let mid = c.keep_by-refused.new.conversation in
     let room : is_full last.stopped ≡ false = sym c.is_full.ensures ∙ c.if-is_full.false in
     let kept : is_none c.keep_by-refused.result ≡ true = search rules in
-    let late : is_late last.limits.millis mid ≡ true = search rules in
+    let late : mid.watch.late ≡ true = search rules in
     record {
       first = c.tell_gap.new.self;
       begins = subst (λ (f : Folder). BeginsLine c.args.conversation.now.clock.now (params_of c.args.conversation.now)
@@ -46,7 +46,7 @@ returns-then-is_late c =
       keeps = c.keep_by-refused.ensures;
       kept_is = rw (room, kept) refl;
       stops = rw (room, kept, late) c.stop_for.ensures;
-      hangs_up = rw (room, late) c.hang_up.ensures;
+      same = refl;
     }
 
 pub returns : goal.returns
@@ -56,9 +56,9 @@ returns c =
     let last = c.keep_by-refused.new.self in
     let mid = c.keep_by-refused.new.conversation in
     let room : is_full last.stopped ≡ false = sym c.is_full.ensures ∙ c.if-is_full.false in
-    let late : (is_none c.keep_by-refused.result && is_late last.limits.millis mid) ≡ false = elim c.else-is_none.branch [
+    let late : (is_none c.keep_by-refused.result && mid.watch.late) ≡ false = elim c.else-is_none.branch [
       | else-is_none-via-then-is_none+else-is_late w ↦
-          let early : is_late last.limits.millis mid ≡ false = search rules in
+          let early : mid.watch.late ≡ false = search rules in
           rw early search rules
       | else-is_none-via-else-is_none w ↦
           let none : is_none c.keep_by-refused.result ≡ false = search rules in
@@ -74,13 +74,5 @@ returns c =
       keeps = c.keep_by-refused.ensures;
       kept_is = rw room refl;
       stops = rw (room, late) c.note_lost.ensures;
-      hangs_up = elim c.else-is_none.branch [
-        | else-is_none-via-then-is_none+else-is_late w ↦
-            let kept : is_none c.keep_by-refused.result ≡ true = search rules in
-            let early : is_late last.limits.millis mid ≡ false = search rules in
-            rw (room, kept, early) refl
-        | else-is_none-via-else-is_none w ↦
-            let none : is_none c.keep_by-refused.result ≡ false = search rules in
-            rw none refl
-      ];
+      same = refl;
     }
