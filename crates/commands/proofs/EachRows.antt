@@ -99,11 +99,6 @@ rows_are_enough = record {
   one = refl;
   by_chance = refl;
   beyond = refl;
-  no_rows = refl;
-  one_row = refl;
-  few = refl;
-  many = refl;
-  asked = refl;
 }
 
 pub pages_by_records : PagesByRecords

@@ -24,13 +24,13 @@ reads_end octets form rows fine (Ok bits) reads = (reads.0, reads.1)
 reads_end octets form rows fine (Err fault) reads = tt
 
 -- octets begin with a page's code of as many bits as are known
-pub found_begins : (octets : List ℕ) (asked fine : Bool) (two_dims : Option TwoDim) (what : Found) (form : PageForm)
-    → ReadsSo octets what → form_by asked fine two_dims what ≡ Ok form → IfSome (used_in what) (BeginsWith form octets)
-found_begins octets asked fine None (found.Page way) form reads is =
+pub found_begins : (octets : List ℕ) (fine : Bool) (two_dims : Option TwoDim) (what : Found) (form : PageForm)
+    → ReadsSo octets what → form_by fine two_dims what ≡ Ok form → IfSome (used_in what) (BeginsWith form octets)
+found_begins octets fine None (found.Page way) form reads is =
     subst (λ (f : PageForm). IfSome (bits_in way.end) (BeginsWith f octets)) (ap (form_or form) is)
     (reads_end octets way.form way.rows fine way.end reads)
-found_begins octets asked fine (Some said) (found.Page way) form reads is = cc
-found_begins octets asked fine two_dims (found.Begun way) form reads is = tt
-found_begins octets asked fine two_dims (found.Format name) form reads is = tt
-found_begins octets asked fine two_dims found.Several form reads is = tt
-found_begins octets asked fine two_dims found.Nothing form reads is = tt
+found_begins octets fine (Some said) (found.Page way) form reads is = cc
+found_begins octets fine two_dims (found.Begun way) form reads is = tt
+found_begins octets fine two_dims (found.Format name) form reads is = tt
+found_begins octets fine two_dims found.Several form reads is = tt
+found_begins octets fine two_dims found.Nothing form reads is = tt

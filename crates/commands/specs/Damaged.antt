@@ -1,5 +1,5 @@
 -- Octets that read to no page's end, but begin with rows.
-use Rattle.std.specs.Prelude.{ℕ, ◌≡◌, Bool, ◌||◌, List, Option, None, nat_lt}
+use Rattle.std.specs.Prelude.{ℕ, ◌≡◌, Bool, List, Option, None, nat_lt}
 use Rattle.page_code.specs.declared.Coding.{Coding}
 use Rattle.page_code.specs.declared.Coding.TheVariants.{OneDim, T6}
 use Rattle.page_files.specs.TwoDims.{SaysTwoDims}
@@ -21,15 +21,6 @@ is_page_in T6 rows = nat_lt chance_rows rows
 -- octets that begin with rows in this way are a damaged page
 abbrev pub is_damaged_page : Tried → Bool
 is_damaged_page way = is_page_in way.form.coding way.rows
-
--- octets with so many rows in this code are decoded: if they are a damaged page, and if such pages are asked for, also as T.6 with few rows
-abbrev pub is_taken_in : Coding → Bool → ℕ → Bool
-is_taken_in OneDim asked rows = nat_lt 0 rows
-is_taken_in T6 asked rows = asked || nat_lt chance_rows rows
-
--- octets that read furthest in this way are decoded
-abbrev pub is_taken : Bool → Tried → Bool
-is_taken asked way = is_taken_in way.form.coding asked way.rows
 
 -- what octets that begin with rows of this code say of themselves in T.4 in two dimensions, if that is taken for true
 abbrev pub two_dim_beside : Coding → Option TwoDim → Option TwoDim

@@ -90,7 +90,7 @@ EndsBy command octets (Err end) report = IsSaid end report
 
 -- the report of a file of these octets: all pages have the form that is given, or that which `identify` says
 abbrev pub EndsIn : EachCommand → List ℕ → FileReport → Type 0
-EndsIn command octets report = (form : Result PageForm FileEnd) × IsFormOf command.form command.likely command.options command.fine octets form
+EndsIn command octets report = (form : Result PageForm FileEnd) × IsFormOf command.form command.likely command.fine octets form
     × EndsBy command octets form report
 
 -- the report of a file: it was read, and its pages decoded and written; or its name isn't UTF-8, or it can't be read

@@ -7,7 +7,7 @@ use Rattle.faults.specs.declared.fault.ToolFault.TheVariants as fault
 use Rattle.page_code.specs.declared.Coding.TheVariants.{OneDim, T6}
 use Rattle.page_files.specs.declared.options.PageForm.{PageForm}
 use Rattle.raster.specs.declared.packed.Order.TheVariants.{LsbFirst, MsbFirst}
-use Rattle.commands.specs.Damaged.{is_page_in, is_taken_in}
+use Rattle.commands.specs.Damaged.{is_page_in}
 use Rattle.commands.specs.Each.{each_text, file_record}
 use Rattle.commands.specs.Listed.{end_octet, without_end}
 use Rattle.commands.specs.Names.{shown_name, untold_name}
@@ -118,18 +118,12 @@ pub record EndsByPage : Type 0 where
   pub after_lost : may_go_on true (page.Lost (fault.AtBit 18 3)) ≡ true
   pub after_unwritten : may_go_on true (page.NotWritten (fault.No 8)) ≡ false
 
--- law: how many rows make octets a damaged page, and let them be decoded: one of T.4; of T.6, which come by chance, 16, or one if damaged
--- pages are asked for
+-- law: how many rows make octets a damaged page, which is decoded: one of T.4; of T.6, which come by chance, 16
 pub record RowsAreEnough : Type 0 where
   pub none : is_page_in OneDim 0 ≡ false
   pub one : is_page_in OneDim 1 ≡ true
   pub by_chance : is_page_in T6 15 ≡ false
   pub beyond : is_page_in T6 16 ≡ true
-  pub no_rows : is_taken_in OneDim true 0 ≡ false
-  pub one_row : is_taken_in OneDim false 1 ≡ true
-  pub few : is_taken_in T6 false 15 ≡ false
-  pub many : is_taken_in T6 false 16 ≡ true
-  pub asked : is_taken_in T6 true 1 ≡ true
 
 -- ---- records
 

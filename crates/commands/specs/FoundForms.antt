@@ -1,14 +1,13 @@
 -- How octets are decoded: as is given, or else as `identify` says it.
 use Rattle.std.specs.Prelude.{ℕ, ◌≡◌, Bool, IfSome, List, Option, Some, None, Result, Ok, Err, if◌then◌else◌}
 use Rattle.page_files.specs.Found.{FindsBy}
-use Rattle.page_files.specs.LaterPages.{BeginsWith, asks_damaged}
+use Rattle.page_files.specs.LaterPages.{BeginsWith}
 use Rattle.page_files.specs.Sources.{IsPageIn}
 use Rattle.page_files.specs.declared.found.Found.{Found}
 use Rattle.page_files.specs.declared.found.Found.TheVariants as found
-use Rattle.page_files.specs.declared.options.DecodeOptions.{DecodeOptions}
 use Rattle.page_files.specs.declared.options.PageForm.{PageForm}
 use Rattle.page_files.specs.declared.two_dim.TwoDim.{TwoDim}
-use Rattle.commands.specs.Damaged.{AreTwoDims, is_taken}
+use Rattle.commands.specs.Damaged.{AreTwoDims, is_damaged_page}
 use Rattle.commands.specs.Several.{bits_in}
 use Rattle.commands.specs.declared.decode.found_form.Way.{Way}
 use Rattle.commands.specs.declared.decode.ends.FileEnd.{FileEnd}
@@ -19,18 +18,18 @@ abbrev pub lined : Bool → PageForm → PageForm
 lined fine form = record form { fine = fine }
 
 -- The form in which octets are decoded that are this, and T.4 in two dimensions or not, or what is said of octets that aren't decoded.
-abbrev pub form_by : Bool → Bool → Option TwoDim → Found → Result PageForm FileEnd
-form_by asked fine (Some said) what = Err file.TwoDims
-form_by asked fine None (found.Page way) = Ok (lined fine way.form)
-form_by asked fine None (found.Begun way) = if is_taken asked way then Ok (lined fine way.form) else Err file.Nothing
-form_by asked fine None (found.Format name) = Err (file.NoFax name)
-form_by asked fine None found.Several = Err file.NoWidth
-form_by asked fine None found.Nothing = Err file.Nothing
+abbrev pub form_by : Bool → Option TwoDim → Found → Result PageForm FileEnd
+form_by fine (Some said) what = Err file.TwoDims
+form_by fine None (found.Page way) = Ok (lined fine way.form)
+form_by fine None (found.Begun way) = if is_damaged_page way then Ok (lined fine way.form) else Err file.Nothing
+form_by fine None (found.Format name) = Err (file.NoFax name)
+form_by fine None found.Several = Err file.NoWidth
+form_by fine None found.Nothing = Err file.Nothing
 
 -- octets are identified, by a likely width if one is given, and this is how they are decoded then
-abbrev pub IsFoundForm : Option ℕ → Bool → Bool → List ℕ → Result PageForm FileEnd → Type 0
-IsFoundForm likely asked fine octets form = (what : Found) × (two_dims : Option TwoDim) × FindsBy likely octets what
-    × AreTwoDims octets what two_dims × (form ≡ form_by asked fine two_dims what)
+abbrev pub IsFoundForm : Option ℕ → Bool → List ℕ → Result PageForm FileEnd → Type 0
+IsFoundForm likely fine octets form = (what : Found) × (two_dims : Option TwoDim) × FindsBy likely octets what
+    × AreTwoDims octets what two_dims × (form ≡ form_by fine two_dims what)
 
 -- the bits of the first page's code, if octets are a page that is read to its end
 abbrev pub used_in : Found → Option ℕ
@@ -50,9 +49,9 @@ abbrev pub BeginsSo : List ℕ → Way → Type 0
 BeginsSo octets way = IfSome way.used (BeginsWith way.form octets) × IfSome way.page (IsPageIn octets)
 
 -- how octets are decoded: in the form that is given, or else as they are identified
-abbrev pub IsFormOf : Option PageForm → Option ℕ → DecodeOptions → Bool → List ℕ → Result PageForm FileEnd → Type 0
-IsFormOf (Some given) likely options fine octets form = form ≡ Ok given
-IsFormOf None likely options fine octets form = IsFoundForm likely (asks_damaged options) fine octets form
+abbrev pub IsFormOf : Option PageForm → Option ℕ → Bool → List ℕ → Result PageForm FileEnd → Type 0
+IsFormOf (Some given) likely fine octets form = form ≡ Ok given
+IsFormOf None likely fine octets form = IsFoundForm likely fine octets form
 
 -- the width that is given: that of the form, or else the likely one
 abbrev pub given_width : Option PageForm → Option ℕ → Option ℕ

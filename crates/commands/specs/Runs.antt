@@ -73,12 +73,12 @@ AnswersIn command form octets end = (later : List ℕ) × (page : PagePixels) ×
 
 -- the page with the number that is asked for was decoded in the form that is given, or in which `identify` reads the file, with this end
 abbrev pub IsAnswered : DecodeCommand → Result Bool ToolFault → Type 0
-IsAnswered command end = (octets : List ℕ) × (form : PageForm) × IsFormOf command.form command.likely command.options command.fine octets (Ok form)
+IsAnswered command end = (octets : List ℕ) × (form : PageForm) × IsFormOf command.form command.likely command.fine octets (Ok form)
     × AnswersIn command form octets end
 
 -- nothing was decoded, since `identify` reads the file in no form, and this was said of it
 abbrev pub IsUndecoded : DecodeCommand → Type 0
-IsUndecoded command = (octets : List ℕ) × (end : FileEnd) × IsFormOf command.form command.likely command.options command.fine octets (Err end)
+IsUndecoded command = (octets : List ℕ) × (end : FileEnd) × IsFormOf command.form command.likely command.fine octets (Err end)
 
 -- the page was decoded, with the end that the engine says, or none is; or reading, writing or memory failed
 abbrev pub DecodeGives : DecodeCommand → Result Completeness ToolFault → Type 0

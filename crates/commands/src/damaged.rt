@@ -1,6 +1,6 @@
 //! Octets that read to no page's end, but begin with rows.
 
-ghost use Rattle.commands.specs.Damaged.{AreTwoDims, is_damaged_page, is_taken, two_dim_among};
+ghost use Rattle.commands.specs.Damaged.{AreTwoDims, is_damaged_page, two_dim_among};
 ghost use Rattle.std.specs.Prelude.{◌≡◌};
 
 use page_code::Coding;
@@ -17,17 +17,6 @@ pub(crate) fn is_damaged_page(way: &Tried) -> bool
     match way.form.coding {
         Coding::OneDim => way.rows > 0,
         Coding::T6 => way.rows > CHANCE_ROWS as usize,
-    }
-}
-
-/// Returns whether damaged octets are decoded in the way in which they read furthest: if they are a page, and if damaged pages are asked for,
-/// also as T.6 with few rows.
-pub(crate) fn is_taken(asked: bool, way: &Tried) -> bool
-    ensures { result ≡ is_taken asked way.now }
-{
-    match way.form.coding {
-        Coding::OneDim => way.rows > 0,
-        Coding::T6 => asked || way.rows > CHANCE_ROWS as usize,
     }
 }
 

@@ -96,13 +96,11 @@ impl DecodeCommand {
     fn asked(&self) -> FormAsked
         ensures form { result.form ≡ self.now.form }
         ensures likely { result.likely ≡ self.now.likely }
-        ensures options { result.options ≡ self.now.options }
         ensures fine { result.fine ≡ self.now.fine }
     {
         FormAsked {
             form: self.form,
             likely: self.likely,
-            options: self.options,
             fine: self.fine,
         }
     }

@@ -347,13 +347,11 @@ impl EachCommand {
     fn asked(&self) -> FormAsked
         ensures form { result.form ≡ self.now.form }
         ensures likely { result.likely ≡ self.now.likely }
-        ensures options { result.options ≡ self.now.options }
         ensures fine { result.fine ≡ self.now.fine }
     {
         FormAsked {
             form: self.form,
             likely: self.likely,
-            options: self.options,
             fine: self.fine,
         }
     }

@@ -6,11 +6,11 @@ ghost use Rattle.page_files.specs.Found.{HasItsWidth};
 ghost use Rattle.raster.specs.Pixels.{IsWidth};
 ghost use Rattle.std.specs.Prelude.{◌≡◌, IfErr, IfOk, IfSome};
 
-use crate::damaged::{is_taken, two_dims_of};
+use crate::damaged::{is_damaged_page, two_dims_of};
 use crate::decode::ends::FileEnd;
 use crate::identify::several::bits_in;
 use faults::ToolFault;
-use page_files::{DecodeOptions, Found, FoundPage, PageForm, TwoDim, asks_damaged, find_way_by};
+use page_files::{Found, FoundPage, PageForm, TwoDim, find_way_by};
 use std::alloc::Global;
 
 /// Returns a way to read pages, with the lines that are asked for.
@@ -22,14 +22,9 @@ fn lined(fine: bool, form: PageForm) -> PageForm
 
 /// Returns the form in which octets are decoded that are this, and T.4 in two dimensions or not; or what is said of octets that aren't
 /// decoded.
-fn form_by(
-    asked: bool,
-    fine: bool,
-    two_dims: Option<TwoDim>,
-    found: Found,
-) -> Result<PageForm, FileEnd>
+fn form_by(fine: bool, two_dims: Option<TwoDim>, found: Found) -> Result<PageForm, FileEnd>
     requires { HasItsWidth found }
-    ensures form { result ≡ form_by asked fine two_dims found }
+    ensures form { result ≡ form_by fine two_dims found }
     ensures width { IfOk result (λ form. IsWidth form.width) }
 {
     if two_dims.is_some() {
@@ -38,7 +33,7 @@ fn form_by(
     match found {
         Found::Page(way) => Ok(lined(fine, way.form)),
         Found::Begun(way) => {
-            if is_taken(asked, &way) {
+            if is_damaged_page(&way) {
                 Ok(lined(fine, way.form))
             } else {
                 Err(FileEnd::Nothing)
@@ -68,8 +63,6 @@ pub(crate) struct FormAsked {
     pub(crate) form: Option<PageForm>,
     /// Otherwise the width that they are likely to have, if one is given.
     pub(crate) likely: Option<u32>,
-    /// What is asked for of each page.
-    pub(crate) options: DecodeOptions,
     /// Whether the lines of a page whose form isn't given are fine.
     pub(crate) fine: bool,
 }
@@ -85,24 +78,23 @@ fn used_in(found: &Found) -> Option<u128>
 }
 
 /// Identifies octets, by a likely width if one is given, and returns how they are decoded then, with fine lines or standard ones; or what is
-/// said of them if they aren't. Those of a damaged page are decoded if such pages are asked for. Errors: `NoMemory` (9).
+/// said of them if they aren't. Errors: `NoMemory` (9).
 #[tactic(auto, using(crate::proofs::WaysFound::found_begins))]
 fn found_form(
     alloc: Global,
     octets: &[u8],
     likely: Option<u32>,
-    asked: bool,
     fine: bool,
 ) -> Result<Result<Way, FileEnd>, ToolFault>
     requires { IfSome likely IsWidth }
-    ensures form { IfOk result (λ way. IsFoundForm likely asked fine octets.now (form_in way)) }
+    ensures form { IfOk result (λ way. IsFoundForm likely fine octets.now (form_in way)) }
     ensures width { IfOk result (λ way. IfOk way (λ way. IsWidth way.form.width)) }
     ensures used { IfOk result (λ way. IfOk way (BeginsSo octets.now)) }
     ensures fault { IfErr result IsOutside }
 {
     let (found, page) = find_way_by(alloc, octets, likely)?;
     let two_dims = two_dims_of(octets, &found);
-    match form_by(asked, fine, two_dims, found) {
+    match form_by(fine, two_dims, found) {
         Ok(form) => {
             let used = used_in(&found);
             Ok(Ok(Way { form, used, page }))
@@ -119,7 +111,7 @@ pub(crate) fn form_of(
 ) -> Result<Result<Way, FileEnd>, ToolFault>
     requires { IfSome (given_width asked.form asked.likely) IsWidth }
     ensures form { IfOk result (λ way.
-        IsFormOf asked.form asked.likely asked.options asked.fine octets.now (form_in way)) }
+        IsFormOf asked.form asked.likely asked.fine octets.now (form_in way)) }
     ensures width { IfOk result (λ way. IfOk way (λ way. IsWidth way.form.width)) }
     ensures used { IfOk result (λ way. IfOk way (BeginsSo octets.now)) }
     ensures fault { IfErr result IsOutside }
@@ -130,12 +122,6 @@ pub(crate) fn form_of(
             used: None,
             page: None,
         })),
-        None => found_form(
-            alloc,
-            octets,
-            asked.likely,
-            asks_damaged(asked.options),
-            asked.fine,
-        ),
+        None => found_form(alloc, octets, asked.likely, asked.fine),
     }
 }
