@@ -5,7 +5,8 @@
 Netpbm, tiffcp, gs and pbm2g3 make forty files of ten kinds, as far as they are installed; of each kind one is cut, and one has three bits
 turned. Each whole file of a kind that is read must give the pages that were coded, pixel for pixel; a damaged one of these must give rows,
 and must not be called a page of T.4 in two dimensions. A TIFF, and such a page, must be called that. The names have spaces, line ends and
-dashes. Prints the number of files on the last line, or what is wrong with status 1. It needs Python's standard library alone."""
+dashes. Runs by wrong words, which leave damaged pages and second pages out, or take all for T.4, must be seen to be wrong. Prints the number
+of files on the last line, or what is wrong with status 1. It needs Python's standard library alone."""
 
 import json
 import random
@@ -38,6 +39,9 @@ from pathlib import Path
 tiff = strips.Tiff(Path(sys.argv[2]).read_bytes())
 sys.stdout.buffer.write(b"".join(tiff.strips(next(tiff.pages()))))
 """
+RIGHT = "--repair", "--salvage"
+# Words by which a run is wrong, and how the check must begin to say so of one file at least.
+WRONG = {(): "no row of", (*RIGHT, "--most-pages", "1"): "other pages of", (*RIGHT, "--code", "mh", "--width", "1728"): "a TIFF is read"}
 NAMES = "{}.fax", "with space {}.fax", "new\nline {}.fax", "-{}.fax"
 PS = "%!PS\n/Courier findfont 60 scalefont setfont 60 40 moveto (a page of a fax) show showpage\n"
 
@@ -79,23 +83,32 @@ def made(folder, command):
     return done.stdout
 
 
-def check(record, kind, how, page, folder):
-    """That a file is said and written as its kind and damage want it."""
+def wrong(record, kind, how, page, folder):
+    """What is wrong with how a file is said and written, by its kind and damage; None if nothing is."""
     _command, is_not_read, count = KINDS[kind]
     outs = [(folder / one["out"]).read_bytes() for one in record["pages"] if one["out"]]
-    said = f"{kind} {how}: {record}"
-    if is_not_read == "TIFF" and how != "cut" and (record["not_read"] != "TIFF" or outs):
-        fails(f"a TIFF is read: {said}")
-    if is_not_read == "MR" and (record["not_read"] != "MR" or outs):
-        fails(f"not called MR: {said}")
-    if is_not_read is None and not outs:
-        fails(f"no row of {said}")
-    if is_not_read is None and "two dimensions" in record["is"]:
-        fails(f"called otherwise: {said}")
-    if count and how == "whole" and outs != [page] * count:
-        fails(f"other pages of {said}")
-    if count and how != "turned" and record["whole"] != (how == "whole"):
-        fails(f"wrongly whole or not: {said}")
+    rules = {
+        "a TIFF is read": is_not_read == "TIFF" and how != "cut" and (record["not_read"] != "TIFF" or outs),
+        "not called MR": is_not_read == "MR" and (record["not_read"] != "MR" or outs),
+        "no row of": is_not_read is None and not outs,
+        "called otherwise": is_not_read is None and "two dimensions" in record["is"],
+        "other pages of": count and how == "whole" and outs != [page] * count,
+        "wrongly whole or not": count and how != "turned" and record["whole"] != (how == "whole"),
+    }
+    return next((f"{rule}: {kind} {how}: {record}" for rule, is_broken in rules.items() if is_broken), None)
+
+
+def faults(program, asked, wanted, folder):
+    """What is wrong with a run over these files by these words, in a new folder of pages."""
+    pages = Path(tempfile.mkdtemp(dir=folder)).name
+    done = subprocess.run(
+        [program, "decode", "--json", *asked, "--each", pages, "--null", "--from", "-"],
+        cwd=folder, input="\0".join(wanted).encode(), capture_output=True, check=False,
+    )  # fmt: skip
+    records = [json.loads(line) for line in done.stdout.decode().splitlines()]
+    if [record["file"] for record in records] != list(wanted) or done.stderr or done.returncode != (1 if wanted else 0):
+        return [f"status {done.returncode}, {done.stderr.decode()}, or other files: {len(records)} of {len(wanted)}"]
+    return list(filter(None, (wrong(record, *wanted[record["file"]], folder) for record in records)))
 
 
 def main(words):
@@ -107,7 +120,6 @@ def main(words):
     with tempfile.TemporaryDirectory() as name:
         folder = Path(name)
         (folder / "in").mkdir()
-        (folder / "pages").mkdir()
         (folder / "page.ps").write_text(PS)
         (folder / "strip.py").write_text(STRIP)
         wanted, lacking = {}, []
@@ -122,16 +134,11 @@ def main(words):
             file = f"in/{NAMES[number // 10].format(number)}"
             (folder / file).write_bytes(damaged(rand, octets, how))
             wanted[file] = kind, how, page
-        listed = "\0".join(wanted).encode()
-        done = subprocess.run(
-            [program, "decode", "--json", "--repair", "--salvage", "--each", "pages", "--null", "--from", "-"],
-            cwd=folder, input=listed, capture_output=True, check=False,
-        )  # fmt: skip
-        records = [json.loads(line) for line in done.stdout.decode().splitlines()]
-        if [record["file"] for record in records] != list(wanted) or done.stderr or done.returncode != (1 if wanted else 0):
-            fails(f"status {done.returncode}, {done.stderr.decode()}, or other files: {len(records)} of {len(wanted)}")
-        for record in records:
-            check(record, *wanted[record["file"]], folder)
+        for found in faults(program, RIGHT, wanted, folder):
+            fails(found)
+        for asked, rule in WRONG.items():
+            if not lacking and not any(found.startswith(rule) for found in faults(program, asked, wanted, folder)):
+                fails(f"a run by {' '.join(asked) or 'no words'} isn't seen to be wrong")
         if lacking:
             print(f"archive: what makes {', '.join(sorted(set(lacking)))} isn't installed")
         print(len(wanted))

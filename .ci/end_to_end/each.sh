@@ -187,6 +187,9 @@ try_each_mended() {
     { head -c $((size - 1)) each/bad; printf '\377'; cat "$data/wide.mmr.lsb"; } > each/later
     unsought 1 --salvage "$way"
     rm -rf each/out/*
+    # text is no fax, though its first octets are some rows of T.6
+    cp "$top/README.md" each/text
+    tells_each 1 "each/text: not read: identify may tell what it is\n" decode --each each/out --repair --salvage each/text
 }
 
 # turned BIT: the octets of standard input, with this bit turned.
@@ -525,6 +528,10 @@ each/other/mh: whole 1 pages\neach/early: 1 pages, and one or more has no end\n 
     try_each_listed
     try_each_most
     try_each_tally
+    works decode "$top/docs/examples/a4.mmr" each/new.pbm
+    python3 -B "$top/.ci/end_to_end/archive_runs.py" "$program" "$top/docs/examples/a4.mmr" each/new.pbm > "$work/output" ||
+        fails "long runs of decode --each: $(cat "$work/output")"
+    rm each/new.pbm
     rm -rf each/out each/x-* each/x && mkdir each/out
 }
 
