@@ -132,13 +132,13 @@ static g3_status becomes(size_t length, uint32_t width, uint32_t from, uint32_t 
     *count = length / from * to;
     return *count > room ? G3_NO_ROOM : G3_OK;
 }
-/* Eight pixels at once: the first octet, the lowest one, gives the highest bit. */
+/* Eight pixels at once: the first octet, the lowest one, gives the highest bit. The plain name would be a call: the file is freestanding. */
 static void pack_row(const uint8_t *pixels, uint32_t width, uint8_t *row)
 {
     uint32_t at = 0;
     for (; at + 8 <= width; at += 8) {
         uint64_t eight;
-        memcpy(&eight, pixels + at, 8);
+        __builtin_memcpy(&eight, pixels + at, 8);
         row[at / 8] = (uint8_t)(eight * 0x8040201008040201u >> 56);
     }
     if (at < width) row[at / 8] = 0;
@@ -163,7 +163,7 @@ static void unpack_row(const uint8_t *row, uint32_t width, uint8_t *pixels)
     for (; at + 8 <= width; at += 8) {
         const uint64_t bits = row[at / 8] * 0x0101010101010101u & 0x0102040810204080u, sevens = 0x7F7F7F7F7F7F7F7Fu;
         const uint64_t eight = (bits | ((bits & sevens) + sevens)) >> 7 & 0x0101010101010101u;
-        memcpy(pixels + at, &eight, 8);
+        __builtin_memcpy(pixels + at, &eight, 8);
     }
     for (; at < width; at++) pixels[at] = row[at / 8] >> (7 - at % 8) & 1;
 }

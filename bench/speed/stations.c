@@ -158,6 +158,9 @@ static void open_calls(const g3_caps *caps, unsigned open)
     for (unsigned at = 0; at < open; at++) {
         check(g3_answerer_new(answerers + at, caps), "an answerer");
         has(answerers + at, last_page);
+        /* its own burst is said first: until then it hears no page */
+        g3_burst burst = G3_INIT(g3_burst);
+        for (uint64_t length; says(answerers + at, &burst, &length);) continue;
         heard page = bursts[last_page];
         page.length -= page.length / 16; /* the frames after the last data aren't there yet */
         hears(answerers + at, &page);
