@@ -21,6 +21,7 @@ mod next_pages;
 mod numbers;
 mod octets;
 mod pages;
+mod pixels;
 mod progress;
 mod rasters;
 mod redials;
@@ -32,6 +33,7 @@ mod signalling;
 mod states;
 mod status;
 mod taking;
+mod texts;
 mod ticking;
 mod wrong;
 
