@@ -15,6 +15,7 @@ mod handle;
 mod hearing;
 mod identifying;
 mod images;
+mod kinds;
 pub mod laws;
 mod loose;
 mod next_pages;
