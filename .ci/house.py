@@ -287,6 +287,11 @@ def doc_above(code, place):
     return " ".join(reversed(said))
 
 
+def status_texts(text):
+    """The text of each status of the library for C, by the source that has them."""
+    return dict(re.findall(r'Text\(\s*(\d+),\s*b"([^"]*)\\0"', text.partition("const STATUSES")[2].partition("\n];")[0]))
+
+
 def fault_wordings(house):
     """wordings of a fault: in how many ways each number is told by the crates, the help, FAULTS and the library for C"""
     wordings = collections.defaultdict(set)
@@ -305,10 +310,9 @@ def fault_wordings(house):
         for numbers, words in re.findall(r"^\| ([\d, ]+?)(?: at a \w+)? *\| [^|]+ \| (.*?) \|$", text, re.M):
             for number in numbers.split(", "):
                 wordings[number].add(words.partition(". ")[0])
-    codes = dict(pair for _, text in house.matching(r"bindings/g3fax\.h") for pair in re.findall(r"\b(G3_[A-Z_]+) = (\d+)", text))
-    for _, text in house.matching(r"bindings/g3fax\.c"):
-        for name, words in re.findall(r'case (G3_[A-Z_]+): return "([^"]*)"', text.partition("*g3_status_text(")[2]):
-            wordings[codes.get(name)].add(words)
+    for _, text in house.matching(r"crates/g3fax/src/texts\.rt"):
+        for number, words in status_texts(text).items():
+            wordings[number].add(words)
     for number, of in wordings.items():
         yield from (f"{number}: {words}" for words in of if number)
 

@@ -371,7 +371,7 @@ TOUCHED = [
     ("a kind of fault that a file hasn't", told.FAULT_KINDS, "Backwards", "Wayward", "Backwards isn't in crates/faults/src/fault_kind.rt"),
     ("a fault that the man page hasn't", told.PAGE, "\n16\n", "\n160\n", "16 isn't in docs/man/faxtool.1"),
     ("a fault that no case has", told.HELP, "\n  32  ", "\n  33  ", "33 isn't in .ci/end_to_end"),
-    ("a status without a text", told.C_TEXTS, "case G3_BACKWARDS: return", "case 0: return", "G3_BACKWARDS isn't in bindings/g3fax.c"),
+    ("a status without a text", told.C_TEXTS, "Text(11, b\"the bits", "Text(93, b\"the bits", "11 isn't in crates/g3fax/src/texts.rt"),
     ("a command that doesn't run", "crates/faxtool/src/dispatch.rt", "Several", "Severed", "Several isn't in crates/faxtool/src/dispatch.rt"),
     ("a command without a case", "crates/faxtool/src/args/table.rt", 'name: "show"', 'name: "exhibit"', "exhibit isn't in .ci/end_to_end"),
     ("an option without a case", "crates/faxtool/src/args/table.rt", '"no-refuse"', '"no-refusing"', "no-refusing isn't in .ci/end_to_end"),

@@ -25,7 +25,7 @@ import house
 FAULT_KINDS, FAULT_SPECS = "crates/faults/src/fault_kind.rt", "crates/faults/specs/FaultKinds.antt"
 EXPLAIN, EXPLAIN_SPECS = "crates/faults/src/explain.rt", "crates/faults/specs/Explanations.antt"
 HELP, PAGE, TABLE = "crates/faxtool/src/args/fault_table.rt", "docs/man/faxtool.1", "docs/FAULTS.md"
-C_TEXTS, C_HEADER = "bindings/g3fax.c", "bindings/g3fax.h"
+C_TEXTS, C_SPECS, C_HEADER = "crates/g3fax/src/texts.rt", "crates/g3fax/specs/Texts.antt", "bindings/g3fax.h"
 NAMES, C_NAMES = "crates/captures/specs/OtherWords.antt", "bindings/c/softfax/names.h"
 END_SPECS, END_C, ASKING_C = "crates/station_commands/specs/EndRecords.antt", "bindings/c/softfax/record.c", "bindings/c/softfax/terminal.c"
 # What softfax alone has: the folder of a call's pages.
@@ -111,9 +111,7 @@ def error_words(texts):
 
 def status_words(texts):
     """What g3_status_text says of each fault that the program has too."""
-    numbers = statuses(texts[C_HEADER])
-    body = texts[C_TEXTS].partition("*g3_status_text(")[2].partition("\n}")[0]
-    told = {numbers[name]: words for name, words in re.findall(r'case (G3_[A-Z_]+): return "([^"]*)"', body) if name in numbers}
+    told = house.status_texts(texts[C_TEXTS])
     return {number: words for number, words in told.items() if 0 < int(number) < 100 and number not in OF_C_ALONE}
 
 
@@ -318,8 +316,9 @@ def faults_in(texts, path):
         return of(sorted(helped, key=int), r"(?m)^ *{}\b")
     if path == TABLE:
         return of(sorted(set(kinds.values()), key=int), r"(?m)^\| (?:\d+, )*{}\b")
-    if path == C_TEXTS:
-        return of([name for name, number in statuses(texts[C_HEADER]).items() if 0 < int(number) < 30], "case {}: return")
+    if path in (C_TEXTS, C_SPECS):
+        numbers = [number for number in statuses(texts[C_HEADER]).values() if 0 < int(number) < 30]
+        return of(numbers, r"(?:STATUSES: \[Text; \d+\] = \[|status_texts =\n)[^][]*\(\s*{},\s")
     if path == ".ci/end_to_end":
         return of(sorted(helped - UNTRIED, key=int), r"(?m)(?:fault|^m(?:h|mr)) {0}\b|^{0} [0-9A-F]{{2}}_")
     return []

@@ -164,6 +164,18 @@ def wrapper(header, kind, name, parameters):
     return "\n".join([f"{kind} {core}({', '.join(types)});", f"{kind} {name}({given})", "{", *tested, f"    return {result};", "}"])
 
 
+def text_wrapper(name, parameters):
+    """A function of g3fax.h that returns a text, by a number; or by a struct, of which there may be none: the proved one returns 0 then."""
+    given = ", ".join(written + word for written, word in parameters)
+    (written, word), = parameters
+    core, empty = name.replace("g3_", "g3_core_", 1), "text it = {none, 0};"
+    if "*" not in written:
+        return f"void {core}({written.strip()}, text *);\nconst char *{name}({given})\n{{\n    {empty}\n    {core}({word}, &it);\n" \
+            "    return (const char *)it.at;\n}"
+    return f"uint32_t {core}({written.strip()}, text *);\nconst char *{name}({given})\n{{\n    {empty}\n" \
+        f"    return {word} == NULL || {core}({word}, &it) == 0 ? NULL : (const char *)it.at;\n}}"
+
+
 def wrappers(header, source):
     """The functions that g3fax.c hasn't."""
     texts = []
@@ -173,6 +185,8 @@ def wrappers(header, source):
         if kind == "void":
             word = parameters[0][1]
             texts.append(f"void {name}({''.join(parameters[0])}) {{ if ({word} != NULL) g3_core_free((handle *){word}); }}")
+        elif kind == "const char *":
+            texts.append(text_wrapper(name, parameters))
         else:
             texts.append(wrapper(header, kind, name, parameters))
     return "\n".join(texts) + "\n"

@@ -1,6 +1,6 @@
 /* The functions of g3fax.h: each tests its addresses for NULL and the sizes of structs, and calls the proved function of the same name,
  * g3_core_.. A NULL handle is an empty one; if another address is NULL, the status is G3_NO_ADDRESS. Most have one shape: from_header.py
- * writes these, as wrappers.h. Here are those of another shape, packed pixels, the names of numbers and fields, and the version. */
+ * writes these, as wrappers.h. Here are those of another shape, and the version. */
 #include "g3fax.h"
 #include <string.h>
 
@@ -21,10 +21,11 @@ g3_status g3_core_signal_write(const void *, const uint8_t *, size_t, uint32_t, 
 g3_status g3_core_agree(const g3_dis *, const g3_wish *, uint32_t, uint32_t, void *, uint32_t *);
 g3_status g3_core_row_coder_new(const g3_code *, handle *);
 g3_status g3_core_row_reader_new(const g3_code *, handle *);
-/* the place of the first field that is wrong, from 1; or 0 */
-uint32_t g3_core_code_wrong(const g3_code *);
-uint32_t g3_core_caps_wrong(const g3_caps *);
-uint32_t g3_core_wish_wrong(const g3_wish *);
+/* a text that the proved functions have: the last of its octets is 0 */
+typedef struct text {
+    const uint8_t *at;
+    size_t length;
+} text;
 
 #define HANDLE(it) do { if ((it) == NULL) return G3_EMPTY_HANDLE; } while (0)
 #define PLACE(it) do { if ((it) == NULL) return G3_NO_ADDRESS; } while (0)
@@ -123,59 +124,6 @@ static g3_status agreed(g3_status status, const said *from, g3_params *to)
     return status;
 }
 
-/* How many octets whole rows become, of so many octets each. */
-static g3_status becomes(size_t length, uint32_t width, uint32_t from, uint32_t to, size_t room, uint64_t *count)
-{
-    if (width == 0 || width > 2432) return G3_BAD_WIDTH;
-    if (length % from != 0) return G3_BAD_LENGTH;
-    if (length / from > 20000) return G3_TOO_MANY_ROWS;
-    *count = length / from * to;
-    return *count > room ? G3_NO_ROOM : G3_OK;
-}
-/* Eight pixels at once: the first octet, the lowest one, gives the highest bit. The plain name would be a call: the file is freestanding. */
-static void pack_row(const uint8_t *pixels, uint32_t width, uint8_t *row)
-{
-    uint32_t at = 0;
-    for (; at + 8 <= width; at += 8) {
-        uint64_t eight;
-        __builtin_memcpy(&eight, pixels + at, 8);
-        row[at / 8] = (uint8_t)(eight * 0x8040201008040201u >> 56);
-    }
-    if (at < width) row[at / 8] = 0;
-    for (; at < width; at++) row[at / 8] |= (uint8_t)(pixels[at] << (7 - at % 8));
-}
-g3_status g3_pixels_pack(const uint8_t *pixels, size_t length, uint32_t width, uint8_t *buffer, size_t room, uint64_t *count)
-{
-    OCTETS(pixels, length); OCTETS(buffer, room); PLACE(count);
-    const uint32_t row = (width + 7) / 8;
-    const g3_status status = becomes(length, width, width, row, room, count);
-    uint8_t others = 0;
-    if (status != G3_OK) return status;
-    for (size_t at = 0; at < length; at++) others |= pixels[at];
-    if (others > 1) return G3_BAD_CHOICE;
-    for (size_t at = 0; at < length / width; at++) pack_row(pixels + at * width, width, buffer + at * row);
-    return G3_OK;
-}
-/* Each octet of eight has one bit of an octet: 1 if that is. */
-static void unpack_row(const uint8_t *row, uint32_t width, uint8_t *pixels)
-{
-    uint32_t at = 0;
-    for (; at + 8 <= width; at += 8) {
-        const uint64_t bits = row[at / 8] * 0x0101010101010101u & 0x0102040810204080u, sevens = 0x7F7F7F7F7F7F7F7Fu;
-        const uint64_t eight = (bits | ((bits & sevens) + sevens)) >> 7 & 0x0101010101010101u;
-        __builtin_memcpy(pixels + at, &eight, 8);
-    }
-    for (; at < width; at++) pixels[at] = row[at / 8] >> (7 - at % 8) & 1;
-}
-g3_status g3_pixels_unpack(const uint8_t *rows, size_t length, uint32_t width, uint8_t *buffer, size_t room, uint64_t *count)
-{
-    OCTETS(rows, length); OCTETS(buffer, room); PLACE(count);
-    const uint32_t row = (width + 7) / 8;
-    const g3_status status = becomes(length, width, row, width, room, count);
-    if (status != G3_OK) return status;
-    for (size_t at = 0; at < length / row; at++) unpack_row(rows + at * row, width, buffer + at * width);
-    return G3_OK;
-}
 g3_status g3_identify(const uint8_t *octets, size_t length, g3_found *found)
 {
     OCTETS(octets, length); SIZED(found);
@@ -251,92 +199,3 @@ g3_status g3_agree(const g3_dis *dis, const g3_wish *wish, uint32_t width, uint3
 _Static_assert(G3_VERSION_NUMBER == G3_BUILT, "g3fax.h has the number of another version");
 const char *g3_version(void) { return G3_VERSION; }
 uint32_t g3_version_number(void) { return G3_VERSION_NUMBER; }
-
-const char *g3_code_wrong(const g3_code *code)
-{
-    static const char *const names[] = {NULL, "coding", "order"};
-    return code == NULL ? NULL : names[g3_core_code_wrong(code)];
-}
-const char *g3_caps_wrong(const g3_caps *caps)
-{
-    static const char *const names[] = {NULL, "modems", "widest", "limit"};
-    return caps == NULL ? NULL : names[g3_core_caps_wrong(caps)];
-}
-const char *g3_wish_wrong(const g3_wish *wish)
-{
-    static const char *const names[] = {NULL, "modems", "coding", "frame"};
-    return wish == NULL ? NULL : names[g3_core_wish_wrong(wish)];
-}
-const char *g3_carrier_name(uint32_t carrier)
-{
-    switch (carrier) {
-    case G3_V21: return "v21";
-    case G3_V27TER_2400: return "v27ter-2400";
-    case G3_V27TER_4800: return "v27ter-4800";
-    case G3_V29_7200: return "v29-7200";
-    case G3_V29_9600: return "v29-9600";
-    case G3_V17_7200: return "v17-7200";
-    case G3_V17_9600: return "v17-9600";
-    case G3_V17_12000: return "v17-12000";
-    case G3_V17_14400: return "v17-14400";
-    default: return "none";
-    }
-}
-const char *g3_end_text(uint32_t end)
-{
-    switch (end) {
-    case 0: return "the call goes on";
-    case G3_END_NORMAL: return "all pages went over";
-    case G3_END_NO_ANSWER: return "no DIS or no DCS came";
-    case G3_END_NOT_COMPATIBLE: return "the stations are not compatible";
-    case G3_END_TRAINING: return "training failed at the lowest speed";
-    case G3_END_NO_REPLY: return "a command had no reply, three times";
-    case G3_END_UNREADABLE: return "a block was asked for a fourth time";
-    case G3_END_STILL_BUSY: return "the answerer was busy for too long";
-    case G3_END_PEER_LEFT: return "the other station left before all pages were confirmed";
-    case G3_END_BAD_PAGE: return "a page couldn't be read";
-    case G3_END_PAGE_TOO_LONG: return "a page's code is too long";
-    case G3_END_STOPPED: return "the call was stopped here";
-    case G3_END_LINE_LOST: return "the line was lost";
-    default: return "no such end";
-    }
-}
-const char *g3_status_text(g3_status status)
-{
-    switch (status) {
-    case G3_OK: return "done";
-    case G3_BAD_WIDTH: return "the width isn't 1 to 2432 pixels";
-    case G3_TOO_MANY_ROWS: return "the page has more than 20000 rows";
-    case G3_NO_ROWS: return "the page has no row";
-    case G3_BAD_HEADER: return "the header is no raw PBM header";
-    case G3_SHORT_DATA: return "the rows of the image are cut short";
-    case G3_NO_IMAGE: return "there is no image";
-    case G3_NO_MEMORY: return "no memory";
-    case G3_BAD_CODE: return "no code that may stand there";
-    case G3_TRUNCATED: return "the bits end inside a code";
-    case G3_RUN_TOO_LONG: return "the run passes the row's width";
-    case G3_BACKWARDS: return "the mode doesn't move to the right";
-    case G3_PAST_END: return "the mode passes the row's width";
-    case G3_EMPTY_HORIZONTAL: return "the horizontal mode has no pixel";
-    case G3_EXTENSION: return "an extension code";
-    case G3_MISSING_EOFB: return "the end of the facsimile block is missing";
-    case G3_TOO_MANY_CODED_ROWS: return "more than 20000 coded rows";
-    case G3_BAD_ADDRESS: return "the address isn't FF";
-    case G3_BAD_CONTROL: return "the control field is neither 03 nor 13";
-    case G3_SHORT_FIELD: return "a field is missing or cut short";
-    case G3_NOT_CALLABLE: return "a page isn't 1728, 2048 or 2432 pixels wide, as a call can have it";
-    case G3_NOT_COMPATIBLE: return "the stations are not compatible";
-    case G3_EMPTY_HANDLE: return "the handle is empty";
-    case G3_OTHER_HANDLE: return "the handle has something of another kind";
-    case G3_FULL_HANDLE: return "the handle that is to be filled has something";
-    case G3_NO_ROOM: return "the buffer has too little room";
-    case G3_BAD_CHOICE: return "a number that stands for no choice";
-    case G3_BAD_LENGTH: return "a length that isn't allowed";
-    case G3_NOTHING: return "nothing is there";
-    case G3_BAD_SIZE: return "the size that a struct begins with isn't its own: begin it by G3_INIT";
-    case G3_NEWER_STRUCT: return "a struct is longer, or has more words, than this version of the library knows";
-    case G3_NO_ADDRESS: return "an address is NULL";
-    case G3_FRAME_LOST: return "no memory: a frame that was heard is lost";
-    default: return "no such status";
-    }
-}

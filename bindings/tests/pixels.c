@@ -1,4 +1,4 @@
-/* Pixels packed and unpacked eight at once, and one by one: all octets, widths and rows that end anywhere, and each pixel that is none; nothing
+/* Pixels packed and unpacked through C: all octets, widths and rows that end anywhere, and each pixel that is none; nothing
  * beside the buffer changes. Prints what differs, and ends with 1 then. */
 #include "statuses.h"
 
@@ -34,9 +34,10 @@ static void both_ways(uint32_t width)
     IS(FILLER, again[2 * width]);
     uint32_t at = below(2 * width);
     pixels[at] = (uint8_t)(2u << below(7));
-    memset(packed, FILLER, MOST);
+    memset(packed, FILLER, MOST), count = 9;
     IS(G3_BAD_CHOICE, g3_pixels_pack(pixels, 2 * width, width, packed, 2 * row, &count));
     for (uint32_t place = 0; place <= 2 * row; place++) IS(FILLER, packed[place]);
+    IS(9, (g3_status)count);
     if (width > 1) IS(G3_BAD_LENGTH, g3_pixels_pack(pixels, 2 * width - 1, width, packed, 2 * row, &count));
     if (row > 1) IS(G3_BAD_LENGTH, g3_pixels_unpack(packed, 2 * row - 1, width, again, MOST, &count));
 }

@@ -162,10 +162,12 @@ def statuses(chosen):
     """The numbers and texts of the statuses of the functions of a page: those that comments name, and those of their shape."""
     comments = " ".join(item.comment or "" for item in chosen if item.function)
     named = set(re.findall(r"\bG3_\w+", comments)) | shaped([item.function for item in chosen])
-    known = re.findall(r'case (G3_\w+): return "(.*)";', (TOP / "bindings/g3fax.c").read_text().split("g3_status_text(")[1])
-    numbers = from_header.numbers((TOP / "bindings/g3fax.h").read_text())
+    table = (TOP / "crates/g3fax/src/texts.rt").read_text().split("const STATUSES")[1].split("\n];")[0]
+    texts = {int(number): text for number, text in re.findall(r'Text\(\s*(\d+),\s*b"(.*)\\0"', table)}
+    listed = re.search(r"enum g3_status_number \{.*?\};", (TOP / "bindings/g3fax.h").read_text(), re.S)[0]
     coded = "10 to 18" in comments
-    return [(numbers[name], name, text) for name, text in known if name in named or coded and 10 <= numbers[name] <= 18]
+    return [(number, name, texts[number]) for name, number in from_header.numbers(listed).items()
+            if name in named or coded and 10 <= number <= 18]
 
 
 def untold(found, tests):

@@ -1,7 +1,9 @@
 pub mod BurstLemmas
 pub mod HeardLemmas
 pub mod LooseValues
+pub mod PixelLemmas
 pub mod RasterLemmas
 pub mod SignalLemmas
 pub mod TakingLemmas
+pub mod TextLemmas
 pub mod Values

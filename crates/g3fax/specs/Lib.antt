@@ -17,6 +17,7 @@ pub mod NumberRows
 pub mod Numbers
 pub mod Owned
 pub mod Pages
+pub mod PixelRows
 pub mod Progress
 pub mod Rasters
 pub mod Redials
@@ -30,5 +31,6 @@ pub mod States
 pub mod Stations
 pub mod Statuses
 pub mod Taking
+pub mod Texts
 pub mod Ticking
 pub mod Wrong

@@ -1,20 +1,18 @@
 //! What a terminal and the other station have agreed on, for C.
 
 ghost use Rattle.g3fax.specs.Agreed.{TellsParams, TellsPeer, told_dcs, told_dis};
-ghost use Rattle.g3fax.specs.Kinds.{OfKind, TellsGroup, TellsOther, answerer_kind, caller_kind};
+ghost use Rattle.g3fax.specs.Kinds.{OfKind, TellsGroup, TellsOther};
 ghost use Rattle.std.specs.Prelude.{◌≡◌, ◌≢◌};
 
-use crate::answering::Answering;
 use crate::handle::{G3Handle, Kept};
+use crate::kinds::Told;
 use crate::signal::{G3Params, G3Signal, params_told, told};
 use crate::status::{EMPTY_HANDLE, NOTHING, OK, OTHER_HANDLE};
 use signals::{Caps, Params, Signal};
-use stations::StoppableCaller;
 use std::alloc::Global;
-use terminals::TimedTerminal;
 
 /// Tells parameters, if there are some.
-fn tell_params(found: Option<Params>, params: &mut G3Params) -> u32
+pub(crate) fn tell_params(found: Option<Params>, params: &mut G3Params) -> u32
     ensures tells { TellsParams found params.old params.new result }
     ensures untold { result ≢ 0 → params.new ≡ params.old }
 {
@@ -25,25 +23,6 @@ fn tell_params(found: Option<Params>, params: &mut G3Params) -> u32
         }
         None => NOTHING,
     }
-}
-
-/// Tells the parameters of a caller's group.
-fn caller_params(timed: &TimedTerminal<StoppableCaller>, params: &mut G3Params) -> u32
-    ensures tells { TellsGroup caller_kind timed.now params.old params.new result }
-    ensures untold { result ≢ 0 → params.new ≡ params.old }
-{
-    tell_params(timed.terminal().station().station().params(), params)
-}
-
-/// Tells the parameters of an answerer's group.
-fn answerer_params(answering: &Answering, params: &mut G3Params) -> u32
-    ensures tells { TellsGroup answerer_kind answering.now params.old params.new result }
-    ensures untold { result ≢ 0 → params.new ≡ params.old }
-{
-    tell_params(
-        answering.timed.terminal().station().station().params(),
-        params,
-    )
 }
 
 /// Tells how the pages of the group under way are sent, as the caller's DCS says it. Returns `G3_NOTHING` (106) if none is under way: a
@@ -62,8 +41,8 @@ pub extern "C" fn g3_core_terminal_params(
         None => EMPTY_HANDLE,
         Some(kept) => {
             let status = match &*kept {
-                Kept::Caller(calling) => caller_params(&**calling, params),
-                Kept::Answerer(answering) => answerer_params(&**answering, params),
+                Kept::Caller(calling) => (**calling).tell_group(params),
+                Kept::Answerer(answering) => (**answering).tell_group(params),
                 _ => OTHER_HANDLE,
             };
             terminal.put(kept);
@@ -73,7 +52,7 @@ pub extern "C" fn g3_core_terminal_params(
 }
 
 /// A DIS as a signal is told, if there is one.
-fn told_dis(found: Option<Caps>) -> Option<G3Signal>
+pub(crate) fn told_dis(found: Option<Caps>) -> Option<G3Signal>
     ensures { result ≡ told_dis found }
 {
     match found {
@@ -83,7 +62,7 @@ fn told_dis(found: Option<Caps>) -> Option<G3Signal>
 }
 
 /// A DCS as a signal is told, if there is one.
-fn told_dcs(found: Option<Params>) -> Option<G3Signal>
+pub(crate) fn told_dcs(found: Option<Params>) -> Option<G3Signal>
     ensures { result ≡ told_dcs found }
 {
     match found {
@@ -93,7 +72,7 @@ fn told_dcs(found: Option<Params>) -> Option<G3Signal>
 }
 
 /// Tells what is known of the other station, if anything is.
-fn tell_peer(known: Option<G3Signal>, signal: &mut G3Signal) -> u32
+pub(crate) fn tell_peer(known: Option<G3Signal>, signal: &mut G3Signal) -> u32
     ensures tells { TellsPeer known signal.old signal.new result }
     ensures untold { result ≢ 0 → signal.new ≡ signal.old }
 {
@@ -104,28 +83,6 @@ fn tell_peer(known: Option<G3Signal>, signal: &mut G3Signal) -> u32
         }
         None => NOTHING,
     }
-}
-
-/// Tells the DIS of a caller's answerer.
-fn caller_peer(timed: &TimedTerminal<StoppableCaller>, signal: &mut G3Signal) -> u32
-    ensures tells { TellsOther caller_kind timed.now signal.old signal.new result }
-    ensures untold { result ≢ 0 → signal.new ≡ signal.old }
-{
-    tell_peer(
-        told_dis(timed.terminal().station().station().peer()),
-        signal,
-    )
-}
-
-/// Tells the DCS of an answerer's caller.
-fn answerer_peer(answering: &Answering, signal: &mut G3Signal) -> u32
-    ensures tells { TellsOther answerer_kind answering.now signal.old signal.new result }
-    ensures untold { result ≢ 0 → signal.new ≡ signal.old }
-{
-    tell_peer(
-        told_dcs(answering.timed.terminal().station().station().peer()),
-        signal,
-    )
 }
 
 /// Tells what is known of the other station: for a caller's terminal the last DIS that was agreed on, for an answerer's the last DCS that
@@ -144,8 +101,8 @@ pub extern "C" fn g3_core_terminal_peer(
         None => EMPTY_HANDLE,
         Some(kept) => {
             let status = match &*kept {
-                Kept::Caller(calling) => caller_peer(&**calling, signal),
-                Kept::Answerer(answering) => answerer_peer(&**answering, signal),
+                Kept::Caller(calling) => (**calling).tell_other(signal),
+                Kept::Answerer(answering) => (**answering).tell_other(signal),
                 _ => OTHER_HANDLE,
             };
             terminal.put(kept);

@@ -2,16 +2,15 @@
 
 ghost use Rattle.g3fax.specs.Bursts.{NextBurst, TellsBurst};
 ghost use Rattle.g3fax.specs.Handles.{HasOctets};
-ghost use Rattle.g3fax.specs.Kinds.{OnKind, TakesBurst, answerer_kind, caller_kind};
+ghost use Rattle.g3fax.specs.Kinds.{OnKind, TakesBurst};
 ghost use Rattle.g3fax.specs.Stations.{behaviour};
 ghost use Rattle.std.specs.Prelude.{◌≡◌, ◌≢◌};
 
-use crate::answering::Answering;
 use crate::codes::in_64_bits;
 use crate::handle::{G3Handle, Kept, opened_station, room};
+use crate::kinds::Told;
 use crate::numbers::{carrier_number, check_number};
 use crate::status::{FULL_HANDLE, NO_MEMORY, NOTHING, OK};
-use stations::StoppableCaller;
 use std::alloc::Global;
 use terminals::{SentBurst, Stoppable, TimedTerminal};
 
@@ -53,7 +52,7 @@ fn give(sent: SentBurst, boxed: Box<Kept>, out: &mut G3Handle, burst: &mut G3Bur
 }
 
 /// Fills an empty handle with the octets of the next burst.
-fn next_burst<S: Stoppable>(
+pub(crate) fn next_burst<S: Stoppable>(
     alloc: Global,
     timed: &mut TimedTerminal<S>,
     out: &mut G3Handle,
@@ -83,39 +82,6 @@ fn next_burst<S: Stoppable>(
     }
 }
 
-/// Fills an empty handle with the octets of a caller's next burst.
-fn caller_burst(
-    alloc: Global,
-    timed: &mut TimedTerminal<StoppableCaller>,
-    out: &mut G3Handle,
-    burst: &mut G3Burst,
-) -> u32
-    ensures next { TakesBurst caller_kind timed.old timed.new out.old.value out.new.value burst.new
-        result }
-    ensures untold { result ≢ 0 → burst.new ≡ burst.old }
-{
-    next_burst(alloc, timed, out, burst)
-}
-
-/// Fills an empty handle with the octets of an answerer's next burst. If it is an MCF, that confirms all pages stored so far.
-fn answerer_burst(
-    alloc: Global,
-    answering: &mut Answering,
-    out: &mut G3Handle,
-    burst: &mut G3Burst,
-) -> u32
-    ensures next { TakesBurst answerer_kind answering.old answering.new out.old.value out.new.value
-        burst.new result }
-    ensures untold { result ≢ 0 → burst.new ≡ burst.old }
-{
-    let tally = answering.with_confirmed(answering.timed.terminal().confirms());
-    let status = next_burst(alloc, &mut answering.timed, out, burst);
-    if status == OK {
-        answering.tally = tally;
-    }
-    status
-}
-
 /// Takes the next burst that the terminal has to send: its octets fill an empty handle, the least significant bit of each first, and its
 /// details are told. Returns `G3_FULL_HANDLE` (102), `G3_NOTHING` (106) if nothing is left to be sent, which takes no memory, or `G3_NO_MEMORY`
 /// (9).
@@ -132,6 +98,6 @@ pub extern "C" fn g3_core_terminal_next_burst(
     ensures untold { result ≢ 0 → burst.new ≡ burst.old }
 {
     opened_station!(alloc, terminal,
-        calling => caller_burst(alloc, calling, out, burst),
-        answering => answerer_burst(alloc, answering, out, burst))
+        calling => calling.take_burst(alloc, out, burst),
+        answering => answering.take_burst(alloc, out, burst))
 }

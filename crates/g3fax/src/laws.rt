@@ -2,6 +2,7 @@
 
 ghost use Rattle.g3fax.specs.NumberRows.{CarriersByOrder, EndsByOrder, FoundsByOrder, StatusesByOrder, WaitsByOrder};
 ghost use Rattle.g3fax.specs.SignalsMeant.{MeansWhatIsTold};
+ghost use Rattle.g3fax.specs.Texts.{TextsAreRead};
 
 /// The numbers and octets told of a signal that can be written give the same signal again, whatever octets follow. So a signal that was
 /// read is written unchanged, and the other way round.
@@ -16,4 +17,9 @@ pub fn numbers_by_order()
     ensures carriers { CarriersByOrder }
     ensures waits { WaitsByOrder }
     ensures founds { FoundsByOrder }
+{}
+
+/// C reads each text as it stands in its table, where each number stands once.
+pub fn texts_are_read()
+    ensures { TextsAreRead }
 {}

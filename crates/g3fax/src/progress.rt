@@ -1,17 +1,16 @@
 //! How far terminals are with their calls, for C.
 
-ghost use Rattle.g3fax.specs.Kinds.{OfKind, TellsProgress, answerer_kind, caller_kind};
+ghost use Rattle.g3fax.specs.Kinds.{OfKind, TellsProgress};
 ghost use Rattle.g3fax.specs.Progress.{answering_told, calling_told, refused_times, refused_why, with_watch};
 ghost use Rattle.std.specs.Prelude.{◌≡◌, ◌≢◌, ◌≤◌};
 
-use crate::answering::Answering;
-use crate::codes::in_64_bits;
 use crate::figures::{G3Figures, figures_told};
 use crate::handle::{G3Handle, Kept};
-use crate::status::{EMPTY_HANDLE, OK, OTHER_HANDLE};
-use stations::{AnswererProgress, CallerProgress, StoppableCaller};
+use crate::kinds::Told;
+use crate::status::{EMPTY_HANDLE, OTHER_HANDLE};
+use stations::{AnswererProgress, CallerProgress};
 use std::alloc::Global;
-use terminals::{Figures, Refusal, Refused, TimedTerminal, Watched};
+use terminals::{Figures, Refusal, Refused, Watched};
 
 /// How far a terminal is with its call; what belongs to the other station is 0.
 #[repr(C)]
@@ -76,7 +75,7 @@ fn refused_why(refusal: Option<Refusal>) -> u32
 }
 
 /// What is told of how far a station is, with what it saw.
-fn with_watch(told: G3Progress, watched: Option<Watched>) -> G3Progress
+pub(crate) fn with_watch(told: G3Progress, watched: Option<Watched>) -> G3Progress
     ensures { result ≡ with_watch watched told }
 {
     let Some(watched) = watched else {
@@ -96,7 +95,7 @@ fn with_watch(told: G3Progress, watched: Option<Watched>) -> G3Progress
 }
 
 /// What is told of how far a caller is, whose call came to this.
-fn calling_told(far: CallerProgress, figures: Figures) -> G3Progress
+pub(crate) fn calling_told(far: CallerProgress, figures: Figures) -> G3Progress
     ensures { result ≡ calling_told far figures }
 {
     let (block, blocks, resends) = match far.block {
@@ -124,7 +123,12 @@ fn calling_told(far: CallerProgress, figures: Figures) -> G3Progress
 }
 
 /// What is told of how far an answerer is, with this many pages and so many of all confirmed, whose call came to this.
-fn answering_told(far: AnswererProgress, pages: u64, confirmed: u64, figures: Figures) -> G3Progress
+pub(crate) fn answering_told(
+    far: AnswererProgress,
+    pages: u64,
+    confirmed: u64,
+    figures: Figures,
+) -> G3Progress
     ensures { result ≡ answering_told far pages confirmed figures }
 {
     let (accepted, accepted_page, accepted_block) = match far.accepted {
@@ -151,32 +155,6 @@ fn answering_told(far: AnswererProgress, pages: u64, confirmed: u64, figures: Fi
     }
 }
 
-/// Tells how far a caller is.
-fn tell_calling(timed: &TimedTerminal<StoppableCaller>, progress: &mut G3Progress) -> u32
-    ensures { TellsProgress caller_kind timed.now progress.new result }
-{
-    let far = timed.terminal().station().station().progress();
-    *progress = calling_told(far, timed.figures());
-    OK
-}
-
-/// Tells how far an answerer is.
-fn tell_answering(answering: &Answering, progress: &mut G3Progress) -> u32
-    ensures { TellsProgress answerer_kind answering.now progress.new result }
-{
-    let station = answering.timed.terminal().station().station();
-    let pages = in_64_bits(answering.count_left());
-    let confirmed = answering.tally.confirmed;
-    let told = answering_told(
-        station.progress(),
-        pages,
-        confirmed,
-        answering.timed.figures(),
-    );
-    *progress = with_watch(told, answering.timed.watched());
-    OK
-}
-
 /// Tells how far a terminal is with its call: a caller's pages, block and tries, or an answerer's pages, octets and
 /// frames, and what it saw of its caller; and what the call came to.
 #[unsafe(no_mangle)]
@@ -193,8 +171,8 @@ pub extern "C" fn g3_core_terminal_progress(
         None => EMPTY_HANDLE,
         Some(kept) => {
             let status = match &*kept {
-                Kept::Caller(calling) => tell_calling(&**calling, progress),
-                Kept::Answerer(answering) => tell_answering(&**answering, progress),
+                Kept::Caller(calling) => (**calling).tell_progress(progress),
+                Kept::Answerer(answering) => (**answering).tell_progress(progress),
                 _ => OTHER_HANDLE,
             };
             terminal.put(kept);

@@ -1,17 +1,16 @@
 //! The states of terminals, for C.
 
-ghost use Rattle.g3fax.specs.Kinds.{OfKind, TellsState, answerer_kind, caller_kind};
+ghost use Rattle.g3fax.specs.Kinds.{OfKind, TellsState};
 ghost use Rattle.g3fax.specs.States.{TellsShown, known_end};
 ghost use Rattle.std.specs.Prelude.{◌≡◌, ◌≢◌};
 
-use crate::answering::Answering;
-use crate::codes::in_64_bits;
 use crate::handle::{G3Handle, Kept};
+use crate::kinds::Told;
 use crate::numbers::{end_number, listens_carrier, listens_number, wait_number};
 use crate::status::{EMPTY_HANDLE, OK, OTHER_HANDLE};
-use stations::{CallEnd, End, StoppableCaller};
+use stations::{CallEnd, End};
 use std::alloc::Global;
-use terminals::{Shown, TimedTerminal};
+use terminals::Shown;
 
 /// The state of a terminal: its pages, what it listens for, its waits, and why its call ended.
 #[repr(C)]
@@ -34,7 +33,7 @@ pub struct G3State {
 }
 
 /// What is told of what a station shows.
-fn told(shown: Shown, pages: u64, frames: u64) -> G3State
+pub(crate) fn state_told(shown: Shown, pages: u64, frames: u64) -> G3State
     ensures told { TellsShown shown result }
     ensures pages { result.pages ≡ pages }
     ensures frames { result.frames ≡ frames }
@@ -50,32 +49,9 @@ fn told(shown: Shown, pages: u64, frames: u64) -> G3State
     }
 }
 
-/// Tells the state of a caller.
-fn tell_caller(timed: &TimedTerminal<StoppableCaller>, state: &mut G3State) -> u32
-    ensures { TellsState caller_kind timed.now state.new result }
-{
-    let confirmed = timed.terminal().station().station().confirmed();
-    *state = told(timed.terminal().shown(), confirmed, timed.good_frames());
-    OK
-}
-
-/// Tells the state of an answerer.
-fn tell_answerer(answering: &Answering, state: &mut G3State) -> u32
-    ensures { TellsState answerer_kind answering.now state.new result }
-{
-    let shown = answering.timed.terminal().shown();
-    let shown = Shown {
-        end: known_end(answering.is_confirmed(), shown.end),
-        ..shown
-    };
-    let pages = in_64_bits(answering.count_left());
-    *state = told(shown, pages, answering.timed.good_frames());
-    OK
-}
-
 /// Why the call of an answerer ended, by whether each page that it has stored is confirmed: if not, a caller that left after its last page
 /// doesn't know that this arrived, and left before it was confirmed.
-fn known_end(confirmed: bool, end: Option<CallEnd>) -> Option<CallEnd>
+pub(crate) fn known_end(confirmed: bool, end: Option<CallEnd>) -> Option<CallEnd>
     ensures { result ≡ known_end confirmed end }
 {
     match end {
@@ -99,8 +75,8 @@ pub extern "C" fn g3_core_terminal_state(
         None => EMPTY_HANDLE,
         Some(kept) => {
             let status = match &*kept {
-                Kept::Caller(calling) => tell_caller(&**calling, state),
-                Kept::Answerer(answering) => tell_answerer(&**answering, state),
+                Kept::Caller(calling) => (**calling).tell_state(state),
+                Kept::Answerer(answering) => (**answering).tell_state(state),
                 _ => OTHER_HANDLE,
             };
             terminal.put(kept);
