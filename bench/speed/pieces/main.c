@@ -1,7 +1,8 @@
 /* main zeros|runs|fill|eol|end|comb|comb6|broken page|rows|repair KIB PIECE: reads so many KiB in pieces of PIECE octets. Of a row that
  * doesn't end: only 0 bits in T.6 (zeros); in T.4 runs of no pixels, fill before an EOL, an EOL and fill, or a white row, three EOLs and
  * fill. Of whole rows: combs in T.4 (comb), or in T.6 with a white row after each (comb6). Or repairs a comb in T.4 and lines of a 1
- * bit alone (broken), for which PIECE says nothing. Ends with status 1 where there are other rows than these. */
+ * bit alone (broken), for which PIECE says nothing. Ends with status 1 where there are other rows than these.
+ * main FILE.mh|FILE.mmr page|rows ROWS PIECE: so reads a coded page of 1,728 pixels and this number of rows, the most significant bit first. */
 #include <stdint.h>
 #include <stdio.h>
 #include <stdlib.h>
@@ -77,9 +78,21 @@ __attribute__((noinline)) static uint64_t counted(const char *reader, size_t siz
     return !strcmp(reader, "rows") ? pieces_rows(octets, size, piece, coding) : pieces_page(octets, size, piece, coding);
 }
 
+/* Reads a coded page, and ends with status 1 where it has other rows. */
+static int try_file(char **words)
+{
+    FILE *file = fopen(words[1], "rb");
+    if (!file) return 2;
+    size_t size = fread(octets, 1, sizeof octets, file);
+    fclose(file);
+    uint64_t rows = (uint64_t)atoi(words[3]);
+    return counted(words[2], size, (uint64_t)atoi(words[4]), strstr(words[1], ".mmr") ? 2 : 1) != rows + 1;
+}
+
 int main(int count, char **words)
 {
     if (count != 5) return 2;
+    if (strchr(words[1], '.')) return try_file(words);
     size_t size = 1024 * (size_t)atoi(words[3]);
     if (size > sizeof octets) return 2;
     const char *kind = words[1];

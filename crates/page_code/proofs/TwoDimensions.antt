@@ -33,3 +33,4 @@ pub mod Parts
 pub mod PartWays
 pub mod KindLaws
 pub mod ByPlaces
+pub mod OpenLines

@@ -12,5 +12,6 @@ pub mod Changes
 pub mod Writing
 pub mod Reading
 pub mod Lines
+pub mod OpenLines
 pub mod ByPlaces
 pub mod Coding

@@ -1,6 +1,7 @@
 //! Reading of a page row by row from octets that come in pieces, in memory that doesn't grow with its rows.
 
 ghost use Rattle.page_code.specs.PassedRows.{IsPassedRow};
+ghost use Rattle.page_code.specs.TwoDimensions.OpenLines.{AreOpenLines};
 ghost use Rattle.page_code.specs.RowReaders.{BeginsReading, FindsNext, IsRefusal, ReadsNext, TakesOctets, max_held};
 ghost use Rattle.raster.specs.Packed.{bits_of};
 ghost use Rattle.raster.specs.Pages.{max_rows};
@@ -9,6 +10,7 @@ ghost use Rattle.std.specs.Prelude.{◌≡◌, ◌≤◌, ◌*◌, ◌++◌, IfO
 
 use crate::passed_row::PassedRow;
 use crate::t6::lines::Lines;
+use crate::t6::read::one_row::OpenLines;
 use crate::{one_dim, t6};
 use raster::packed::Order;
 use raster::{Coding, Row};
@@ -56,7 +58,7 @@ pub(crate) fn refused(fault: CodeFault) -> Result<NextRow, AllocError>
 #[derive(Drop)]
 struct Lists {
     runs: Vec<u32>,
-    lines: Lines,
+    begun: OpenLines,
     passed: PassedRow,
 }
 
@@ -73,8 +75,10 @@ fn find_next(
     requires few { to.old.rows ≤ max_rows }
     requires width { IsWidth to.old.width }
     requires passed { IsPassedRow to.old.width to.old.rows (drop to.old.at (bits_of order octets.now)) lists.old.passed }
+    requires begun { AreOpenLines (drop to.old.at (bits_of order octets.now)) lists.old.begun }
     ensures passed { IsPassedRow to.old.width to.old.rows (drop to.old.at (bits_of order octets.now)) lists.new.passed }
-    ensures finds { FindsNext coding (bits_of order octets.now) to.old to.new lists.old.lines.reference lists.new.lines.reference result }
+    ensures begun { AreOpenLines (drop to.old.at (bits_of order octets.now)) lists.new.begun }
+    ensures finds { FindsNext coding (bits_of order octets.now) to.old to.new lists.old.begun.lines.reference lists.new.begun.lines.reference result }
 {
     match coding {
         Coding::OneDim => one_dim::one_row::next_row(
@@ -90,7 +94,7 @@ fn find_next(
             octets,
             order,
             to,
-            &mut lists.lines,
+            &mut lists.begun,
             &mut lists.passed,
         ),
     }
@@ -141,6 +145,7 @@ impl Model for RowReader {
     ghost use Rattle.raster.specs.Pages.{max_rows};
     ghost use Rattle.raster.specs.Pixels.{IsWidth};
     ghost use Rattle.page_code.specs.PassedRows.{IsPassedRow};
+    ghost use Rattle.page_code.specs.TwoDimensions.OpenLines.{AreOpenLines};
     ghost use Rattle.raster.specs.Packed.{bits_of};
     ghost use Rattle.std.specs.Prelude.{◌≤◌, ◌*◌, ◌+◌, drop, length};
 
@@ -151,7 +156,7 @@ impl Model for RowReader {
       order = reader.order;
       width = reader.place.width;
       count = reader.place.rows;
-      before = reader.lists.lines.reference;
+      before = reader.lists.begun.lines.reference;
       start = reader.start;
       held = drop reader.gone reader.held.items;
       at = reader.place.at;
@@ -166,6 +171,7 @@ impl Model for RowReader {
       start : reader.start + reader.place.at ≤ reader.place.rows * (8 * max_held);
       passed : IsPassedRow reader.place.width reader.place.rows
           (drop reader.place.at (bits_of reader.order (drop reader.gone reader.held.items))) reader.lists.passed;
+      begun : AreOpenLines (drop reader.place.at (bits_of reader.order (drop reader.gone reader.held.items))) reader.lists.begun;
     } };
 }
 
@@ -184,7 +190,10 @@ impl RowReader {
         let white = Row::from_valid_runs(alloc, &[width])?;
         let lists = Lists {
             runs: Vec::new(alloc),
-            lines: Lines::after(alloc, &white.lent())?,
+            begun: OpenLines {
+                lines: Lines::after(alloc, &white.lent())?,
+                used: 0,
+            },
             passed: PassedRow::none(),
         };
         Ok(RowReader {
@@ -266,6 +275,7 @@ impl RowReader {
             NextRow::Row(row) => {
                 self.place = to;
                 self.lists.passed = PassedRow::none();
+                self.lists.begun.used = 0;
                 Ok(NextRow::Row(row))
             }
             NextRow::End(used) => Ok(NextRow::End(self.start + used)),

@@ -1,7 +1,7 @@
 -- Modes that are read one after the other from the next bits.
 use Rattle.std.proofs.Common.{ℕ, ◌≡◌, ◌+◌, ◌-◌, ◌*◌, ◌/◌, ◌%◌, ◌^◌, ◌<◌, ◌≤◌, ◌∷◌, [], Bool, false, true, List, length, drop, take}
 use Rattle.std.proofs.lemmas.List.{drop-drop}
-use Rattle.std.proofs.Common.{arith, cond, inl, inr, nat_eq, refl, sym, ap, ◌∙◌, length-drop}
+use Rattle.std.proofs.Common.{arith, cond, inl, inr, nat_eq, refl, subst, sym, ap, ◌∙◌, length-drop}
 use Rattle.std.proofs.lemmas.Bool.{cases_eq, eq-eqb, ne_eqb}
 use Rattle.std.specs.Prelude.{Err, Ok}
 use Rattle.raster.specs.declared.row.Color.{Color}
@@ -18,10 +18,11 @@ use Rattle.page_code.specs.TwoDimensions.Fronts.{PageSoFar, PageState, mode_ende
 use Rattle.page_code.specs.TwoDimensions.Fronts.PageState.{inside}
 use Rattle.page_code.specs.TwoDimensions.Lines.{FitsLists, StepsBy, beside, line_of}
 use Rattle.page_code.specs.TwoDimensions.Positions.{CodingLine, line_begin}
-use Rattle.page_code.specs.TwoDimensions.Reading.{ReadsRow, StepsAlong, StepsOn, row_reading}
+use Rattle.page_code.specs.TwoDimensions.Reading.{GoesTo, ReadsRow, StepsAlong, StepsOn, row_reading}
 use Rattle.page_code.proofs.TwoDimensions.Lines.{ends_held, length_line}
 use Rattle.page_code.proofs.TwoDimensions.ModeTable.{mode_some}
 use Rattle.page_code.proofs.TwoDimensions.Reading.{mode_ended_short}
+use Rattle.page_code.proofs.TwoDimensions.RowReading.{goes_none, goes_reads, goes_twice}
 use Rattle.page_code.proofs.TwoDimensions.StepsOn.{quick_steps, row_ends, row_stays}
 
 -- a 1 bit is the code of V0
@@ -83,7 +84,14 @@ pub along_none : (reference : List Color) (old : Reading) (line : CodingLine) �
     → length line.pixels ≤ length reference → StepsAlong reference old (record { bits = old.bits; place = old.place + 0 }) line line
 along_none reference old line within fits =
     let here : old.place + 0 ≡ old.place = omega arith in
-    rw here (refl, omega arith, within, fits, λ page is. refl)
+    rw here (
+      refl,
+      omega arith,
+      within,
+      fits,
+      λ page is. goes_none (length reference) (mode_ended (length reference) page line) old.place
+          (rest_of old),
+    )
 
 -- one mode more
 pub along_more : (reference : List Color) (old mid new : Reading) (line now next : CodingLine) → StepsAlong reference old mid line now
@@ -93,8 +101,23 @@ along_more reference old mid new line now next before short step = (
   omega (arith, before.1, step.1),
   step.2,
   step.3,
-  λ page is. before.4 page is ∙ (ap (λ (s : PageState). row_reading (length reference) s mid.place (rest_of mid))
-      (mode_ended_short (length reference) page now short) ∙ step.4 page is),
+  λ page is. goes_twice (length reference) (mode_ended (length reference) page line) (mode_ended (length reference) page now)
+      (mode_ended (length reference) page next) old.place mid.place new.place (rest_of old) (rest_of mid) (rest_of new) (before.4 page is)
+      (subst (λ (s : PageState). GoesTo (length reference) s mid.place (rest_of mid) (mode_ended (length reference) page next) new.place
+      (rest_of new)) (sym (mode_ended_short (length reference) page now short)) (step.4 page is)),
+)
+
+-- modes that were read, and then others
+pub along_twice : (reference : List Color) (old mid new : Reading) (line now next : CodingLine) → StepsAlong reference old mid line now
+    → StepsAlong reference mid new now next → StepsAlong reference old new line next
+along_twice reference old mid new line now next one two = (
+  two.0 ∙ one.0,
+  omega (arith, one.1, two.1),
+  two.2,
+  two.3,
+  λ page is. goes_twice (length reference) (mode_ended (length reference) page line) (mode_ended (length reference) page now)
+      (mode_ended (length reference) page next) old.place mid.place new.place (rest_of old) (rest_of mid) (rest_of new) (one.4 page is)
+      (two.4 page is),
 )
 
 -- a mode that begins a word, after the bits that were used
@@ -144,7 +167,8 @@ begun : (reference : List Color) (old new : Reading) (line : CodingLine) → 0 <
     ≡ row_reading (length reference) (mode_ended (length reference) page line) new.place (rest_of new)
 begun reference old new line wide along page is =
     ap (λ (s : PageState). row_reading (length reference) s old.place (rest_of old))
-    (sym (mode_ended_short (length reference) page line_begin wide)) ∙ along.4 page is
+    (sym (mode_ended_short (length reference) page line_begin wide)) ∙ goes_reads (length reference) (mode_ended (length reference) page
+    line_begin) (mode_ended (length reference) page line) old.place new.place (rest_of old) (rest_of new) (along.4 page is)
 
 -- modes of a row, and then a refusal
 pub along_stays : (reference : List Color) (start old new : Reading) (line next : CodingLine) (fault : CodeFault) → 0 < length reference

@@ -34,14 +34,16 @@ use Rattle.page_code.specs.TwoDimensions.Fronts.{mode_word, mode_codes, PageSoFa
 use Rattle.page_code.specs.TwoDimensions.Fronts.{run_color, run_ended, after_run, found_run, look_run}
 use Rattle.page_code.specs.TwoDimensions.Fronts.PageItem.{run_item}
 use Rattle.page_code.specs.TwoDimensions.Fronts.PageState.{inside, running}
-use Rattle.page_code.specs.TwoDimensions.Reading.{row_reading, ReadsMode, HasRoom, ReadsRun, LeadsOn, MovesTo, ReadsHorizontal, StepsOn}
+use Rattle.page_code.specs.TwoDimensions.Reading.{row_reading, GoesTo, ReadsMode, HasRoom, ReadsRun, LeadsOn, MovesTo, ReadsHorizontal}
+use Rattle.page_code.specs.TwoDimensions.Reading.{StepsOn}
 use Rattle.page_code.specs.TwoDimensions.Reading.{FindsA1, missing_mode}
 use Rattle.page_code.specs.TwoDimensions.Writing.{reference_at}
 use Rattle.page_code.proofs.TwoDimensions.Positions.{b1_is, b2_is}
 use Rattle.page_code.proofs.TwoDimensions.Prescribed.{other_twice}
 use Rattle.page_code.proofs.TwoDimensions.ReadsAll.{vertical_stands}
 use Rattle.page_code.proofs.TwoDimensions.Reading.{mode_ended_short, mode_ended_whole}
-use Rattle.page_code.proofs.TwoDimensions.RowReading.{row_go, row_refuse, row_whole, mode_read, mode_refused, mode_missing}
+use Rattle.page_code.proofs.TwoDimensions.RowReading.{goes_item, goes_reads, goes_twice, row_refuse, row_whole, mode_read, mode_refused}
+use Rattle.page_code.proofs.TwoDimensions.RowReading.{mode_missing}
 
 -- Mode codes
 
@@ -77,27 +79,24 @@ module _ (width : ℕ) (page : PageSoFar) (line : CodingLine) (first makeup : Op
   code_read : (color : Color) → run_color line first ≡ color → (place : ℕ) (bits : List Bool) (run : ℕ) (t : PageState)
       → pick (code_word color) (first_runs (codes_after makeup)) (drop place bits) ≡ Some run
       → after_run width page line first makeup run ≡ Ok t
-      → row_reading width (running page line first makeup) place (drop place bits) ≡ row_reading width t (place + length (code_word color
-      run))
+      → GoesTo width (running page line first makeup) place (drop place bits) t (place + length (code_word color run))
       (drop (place + length (code_word color run)) bits)
   code_read color is place bits run t found leads = subst (λ (c : Color). pick (code_word c) (first_runs (codes_after makeup)) (drop place
-      bits) ≡ Some run → row_reading width (running page line first makeup) place (drop place bits) ≡ row_reading width t (place + length
-      (code_word
-      c run)) (drop (place + length (code_word c run)) bits)) is here found
+      bits) ≡ Some run → GoesTo width (running page line first makeup) place (drop place bits) t (place + length (code_word c run))
+      (drop (place + length (code_word c run)) bits)) is here found
     where
       here : pick (code_word (run_color line first)) (first_runs (codes_after makeup)) (drop place bits) ≡ Some run
-          → row_reading width (running page line first makeup) place (drop place bits) ≡ row_reading width t (place + length (code_word
-          (run_color
-          line first) run)) (drop (place + length (code_word (run_color line first) run)) bits)
+          → GoesTo width (running page line first makeup) place (drop place bits) t (place + length (code_word (run_color line first) run))
+          (drop (place + length (code_word (run_color line first) run)) bits)
       here found =
           let there = pick_sound run_item_word (allowed (run_color line first) makeup) (run_code (run_color line first) run) (drop place
           bits) (code_is (drop place bits) run found) in
           let on : drop (length (code_word (run_color line first) run)) (drop place bits) ≡ drop (place + length (code_word (run_color line
           first) run)) bits = drop-drop (length (code_word (run_color line first) run)) place bits in
-          ap (row_reading width (running page line first makeup) place) there.1 ∙
-          (row_go width (running page line first makeup) t (run_item (run_code (run_color line first) run)) place (drop (length
-          (code_word (run_color line first) run)) (drop place bits)) (record { stands = there.0; leads = leads }) ∙
-          ap (row_reading width t (place + length (code_word (run_color line first) run))) on)
+          goes_item width (running page line first makeup) t (run_item (run_code (run_color line first) run)) place (place + length
+          (code_word (run_color line first) run)) (drop place bits) (drop (place + length (code_word (run_color line first) run)) bits)
+          (record { stands = there.0; leads = leads })
+          (there.1 ∙ ap (λ (l : List Bool). code_word (run_color line first) run ++ l) on) refl
 
   -- a code that is there is refused
   code_refused : (color : Color) → run_color line first ≡ color → (place : ℕ) (x : List Bool) (run : ℕ) (kind : CodeFaultKind)
@@ -185,16 +184,13 @@ low_run_read color room old new run picks fits low =
 high_run_read : (color : Color) (room : ℕ) (old mid : Reading) (high : ℕ) → PicksCode color AllCodes old mid (Ok high) → high ≤ room
     → 64 ≤ high → (mid.bits ≡ old.bits) × (old.place < mid.place)
     × ((width : ℕ) (page : PageSoFar) (line : CodingLine) (first : Option ℕ) → HasRoom width line first color room
-    → row_reading width (running page line first None) old.place (rest_of old) ≡ row_reading width (running page line first (Some high))
-    mid.place
-    (rest_of mid))
+    → GoesTo width (running page line first None) old.place (rest_of old) (running page line first (Some high)) mid.place (rest_of mid))
 high_run_read color room old mid high picks fits up =
     let on = went_on color None old high picks.0 in
     subst (λ (m : Reading). (m.bits ≡ old.bits) × (old.place < m.place)
     × ((width : ℕ) (page : PageSoFar) (line : CodingLine) (first : Option ℕ) → HasRoom width line first color room
-    → row_reading width (running page line first None) old.place (rest_of old) ≡ row_reading width (running page line first (Some high))
-    m.place
-    (rest_of m))) (sym picks.1) (
+    → GoesTo width (running page line first None) old.place (rest_of old) (running page line first (Some high)) m.place (rest_of m)))
+    (sym picks.1) (
       refl,
       omega (arith, on.0),
       λ width page line first has. code_read width page line first None color has.0 old.place old.bits high (running page line first (Some
@@ -213,9 +209,10 @@ both_run_read color room old mid new high low picks up picks' down fits =
       front.0,
       omega (arith, on.0, front.1),
       on.1,
-      λ width page line first state has led. front.2 width page line first has ∙
-          code_read width page line first (Some high) color has.0 mid.place mid.bits low state picks'.0 (low_leads width page line first
-          (Some high) low down (omega (arith, has.1)) ∙ led),
+      λ width page line first state has led. goes_twice width (running page line first None) (running page line first (Some high)) state
+          old.place mid.place _ (rest_of old) (rest_of mid) _ (front.2 width page line first has) (code_read width page line first
+          (Some high) color has.0 mid.place mid.bits low state picks'.0 (low_leads width page line first (Some high) low down
+          (omega (arith, has.1)) ∙ led)),
       λ width page line has none. absurd (omega arith),
     )
 
@@ -237,7 +234,8 @@ second_run_refused : (color : Color) (room : ℕ) (old mid new : Reading) (high 
     → PicksCode color AllCodes old mid (Ok high) → high ≤ room → 64 ≤ high → PicksCode color TerminatingCodes mid new (Err fault)
     → ReadsRun color room old new (Err fault)
 second_run_refused color room old mid new high fault picks fits up picks' width page line first has =
-    (high_run_read color room old mid high picks fits up).2 width page line first has ∙
+    goes_reads width (running page line first None) (running page line first (Some high)) old.place mid.place (rest_of old) (rest_of mid)
+    ((high_run_read color room old mid high picks fits up).2 width page line first has) ∙
     rw picks'.1 (code_missing width page line first (Some high) color has.0 mid.place (rest_of mid) picks'.0)
 
 -- a terminating code after a make-up code passes the width
@@ -245,7 +243,8 @@ second_run_long : (color : Color) (room : ℕ) (old mid new last : Reading) (hig
     → high ≤ room → 64 ≤ high → PicksCode color TerminatingCodes mid new (Ok low) → room < high + low
     → ReadsRun color room old last (Err (record { place = mid.place; kind = PastEnd }))
 second_run_long color room old mid new last high low picks fits up picks' long width page line first has =
-    (high_run_read color room old mid high picks fits up).2 width page line first has ∙
+    goes_reads width (running page line first None) (running page line first (Some high)) old.place mid.place (rest_of old) (rest_of mid)
+    ((high_run_read color room old mid high picks fits up).2 width page line first has) ∙
     code_refused width page line first (Some high) color has.0 mid.place (rest_of mid) low PastEnd picks'.0 (long_leads width page line
     first (Some high) low (omega (arith, has.1)))
 
@@ -398,9 +397,11 @@ horizontal_read width place line next old between_runs new color a0a1 a1a2 place
         length-replicate a1a2 (other
             line.color),
       ),
-      λ page. one.4 width page line None (running page line (Some a0a1) None) (refl, omega arith) refl ∙
-          two.4 width page line (Some a0a1) (mode_ended width page (runs_added line a0a1 a1a2)) (sym color_is, omega (arith, one.0)) (rw
-          (ne_eqb (a0a1 + a1a2) 0 (λ e. omega arith)) refl),
+      λ page. goes_twice width (running page line None None) (running page line (Some a0a1) None) (mode_ended width page (runs_added line
+          a0a1 a1a2)) old.place between_runs.place new.place (rest_of old) (rest_of between_runs) (rest_of new)
+          (one.4 width page line None (running page line (Some a0a1) None) (refl, omega arith) refl)
+          (two.4 width page line (Some a0a1) (mode_ended width page (runs_added line a0a1 a1a2)) (sym color_is, omega (arith, one.0)) (rw
+          (ne_eqb (a0a1 + a1a2) 0 (λ e. omega arith)) refl)),
     )
 
 pub horizontal_first_refused : (width place : ℕ) (line next : CodingLine) (old new : Reading) (fault : CodeFault)
@@ -417,7 +418,8 @@ pub horizontal_second_refused : (width place : ℕ) (line next : CodingLine) (ol
     → ReadsRun line.color (width - place) old between_runs (Ok a0a1)
     → ReadsRun color (width - place - a0a1) between_runs new (Err fault) → ReadsHorizontal width old new line next (Err fault)
 horizontal_second_refused width place line next old between_runs new color a0a1 fault place_is within color_is one two =
-    inr (λ page. one.4 width page line None (running page line (Some a0a1) None) (refl, omega arith) refl ∙
+    inr (λ page. goes_reads width (running page line None None) (running page line (Some a0a1) None) old.place between_runs.place
+    (rest_of old) (rest_of between_runs) (one.4 width page line None (running page line (Some a0a1) None) (refl, omega arith) refl) ∙
     two width page line (Some a0a1) (sym color_is, omega (arith, one.0)))
 
 pub horizontal_empty : (width place : ℕ) (line next : CodingLine) (old between_runs new : Reading) (color : Color) (a0a1 a1a2 : ℕ)
@@ -426,7 +428,8 @@ pub horizontal_empty : (width place : ℕ) (line next : CodingLine) (old between
     → a0a1 ≡ 0 → a1a2 ≡ 0 → ReadsHorizontal width old new line next (Err (record { place = between_runs.place; kind = EmptyHorizontal }))
 horizontal_empty width place line next old between_runs new color a0a1 a1a2 place_is within color_is one two none none' =
     let seen : Option ℕ = Some a0a1 in
-    inr (λ page. one.4 width page line None (running page line (Some a0a1) None) (refl, omega arith) refl ∙
+    inr (λ page. goes_reads width (running page line None None) (running page line (Some a0a1) None) old.place between_runs.place
+    (rest_of old) (rest_of between_runs) (one.4 width page line None (running page line (Some a0a1) None) (refl, omega arith) refl) ∙
     (ap (λ (n : ℕ). row_reading width (running page line (Some n) None) between_runs.place (rest_of between_runs)) none ∙
     two.5 width page line (sym color_is, omega (arith, one.0)) none'))
 
@@ -481,8 +484,7 @@ mode_steps reference old mid line next code within reads leads =
       on.1,
       leads.0,
       λ page is. mode_read (length reference) page line code (mode_ended (length reference) page next)
-          old.place (rest_of old) (rest_of mid) (mode_stands code) split.2 (leads.1 page is) ∙
-          ap (λ (n : ℕ). row_reading (length reference) (mode_ended (length reference) page next) n (rest_of mid)) (sym split.1),
+          old.place mid.place (rest_of old) (rest_of mid) (mode_stands code) split.2 split.1 (leads.1 page is),
     )
 
 mode_stays : (reference : List Color) (old mid : Reading) (line next : CodingLine) (code : ModeCode) (fault : CodeFault)
@@ -508,12 +510,12 @@ mode_absent reference old mid line next fault reads = rw reads.0 (inr (λ page i
 
 -- the flag of horizontal mode
 flag_read : (width : ℕ) (page : PageSoFar) (line : CodingLine) (old mid : Reading) → ReadsMode old mid (Ok Horizontal)
-    → row_reading width (inside page line) old.place (rest_of old) ≡ row_reading width (running page line None None) mid.place (rest_of mid)
+    → GoesTo width (inside page line) old.place (rest_of old) (running page line None None) mid.place (rest_of mid)
 unfolding after_mode
 flag_read width page line old mid reads =
     let split = mode_split Horizontal old mid reads in
-    mode_read width page line Horizontal (running page line None None) old.place (rest_of old) (rest_of mid) (mode_stands Horizontal)
-    split.2 refl ∙ ap (λ (n : ℕ). row_reading width (running page line None None) n (rest_of mid)) (sym split.1)
+    mode_read width page line Horizontal (running page line None None) old.place mid.place (rest_of old) (rest_of mid)
+    (mode_stands Horizontal) split.2 split.1 refl
 
 pub horizontal_steps : (reference : List Color) (old mid new : Reading) (line next : CodingLine) (result : Result (Unit {0}) CodeFault)
     → old.place ≤ length old.bits → ReadsMode old mid (Ok Horizontal) → ReadsHorizontal (length reference) mid new line next result
@@ -525,12 +527,14 @@ horizontal_steps reference old mid new line next (Ok done) within reads runs =
       omega (arith, on.0, runs.1),
       runs.2,
       runs.3,
-      λ page is. flag_read (length reference) page line old mid reads ∙
-          runs.4 page,
+      λ page is. goes_twice (length reference) (inside page line) (running page line None None) (mode_ended (length reference) page next)
+          old.place mid.place new.place (rest_of old) (rest_of mid) (rest_of new) (flag_read (length reference) page line old mid reads)
+          (runs.4 page),
     )
 horizontal_steps reference old mid new line next (Err fault) within reads (inl memory) = inl memory
-horizontal_steps reference old mid new line next (Err fault) within reads (inr runs) = inr (λ page is. flag_read (length reference) page
-    line old mid reads ∙ runs page)
+horizontal_steps reference old mid new line next (Err fault) within reads (inr runs) = inr (λ page is. goes_reads
+    (length reference) (inside page line) (running page line None None) old.place mid.place (rest_of old) (rest_of mid) (flag_read
+    (length reference) page line old mid reads) ∙ runs page)
 
 -- Modes that are read quickly
 

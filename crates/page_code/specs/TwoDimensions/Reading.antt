@@ -12,7 +12,7 @@ use Rattle.run_tables.specs.declared.fault.CodeFaultKind.TheVariants.{NoMemory, 
 use Rattle.run_tables.specs.Reading.{Reading, rest_of, after}
 use Rattle.run_tables.specs.RowFronts.{amount}
 use Rattle.run_tables.specs.Texts.{begins, all_zero, is_cut}
-use Rattle.run_tables.specs.Fronts.{read_from}
+use Rattle.run_tables.specs.Fronts.{read_from, spell, Walk}
 use Rattle.run_tables.specs.Fronts.Look.{stop, refuse}
 use Rattle.page_code.specs.declared.t6.mode.ModeCode.{ModeCode}
 use Rattle.page_code.specs.declared.t6.mode.ModeCode.TheVariants.{Vertical}
@@ -43,6 +43,14 @@ RowStep width (running page line first makeup) item state = PageStep width (runn
 unfoldable pub row_reading : ℕ → PageState → ℕ → List Bool → Result (List (List Color) × ℕ) (ℕ × CodeFaultKind)
 row_reading width state place x = read_from page_item_word (row_look width) BadCode (suc (length x)) state place x
 
+-- whole items of a row lead from a state at a place, with these bits left, to a state at a later place, with those bits left
+pub record GoesTo (width : ℕ) (from : PageState) (place : ℕ) (x : List Bool) (to : PageState) (later : ℕ) (rest : List
+    Bool) : Type 0 where
+  pub items : List PageItem
+  pub walk : Walk (RowStep width) from items to
+  pub spelled : x ≡ spell page_item_word items ++ rest
+  pub later_is : later ≡ place + length (spell page_item_word items)
+
 -- whatever runs follow, the first of them has this color
 abbrev pub GoesOnWith : List ℕ → Color → Type 0
 GoesOnWith runs color = (tail : List ℕ) → colored White (runs ++ tail) ≡ colored White runs ++ colored color tail
@@ -72,7 +80,7 @@ ReadsRun color room old new (Ok run) =
     (run ≤ room) × (new.bits ≡ old.bits) × (old.place < new.place) × (new.place ≤ length new.bits) ×
     ((width : ℕ) (page : PageSoFar) (line : CodingLine) (first : Option ℕ) (state : PageState) → HasRoom width line first color room
     → run_ended width page line first run ≡ Ok state
-    → row_reading width (running page line first None) old.place (rest_of old) ≡ row_reading width state new.place (rest_of new)) ×
+    → GoesTo width (running page line first None) old.place (rest_of old) state new.place (rest_of new)) ×
     ((width : ℕ) (page : PageSoFar) (line : CodingLine) → HasRoom width line (Some 0) color room → run ≡ 0
     → row_reading width (running page line (Some 0) None) old.place (rest_of old) ≡ Err (old.place, EmptyHorizontal))
 ReadsRun color room old new (Err fault) =
@@ -104,32 +112,30 @@ MovesTo reference place line next code (Err fault) =
 abbrev pub ReadsHorizontal : ℕ → Reading → Reading → CodingLine → CodingLine → Result (Unit {0}) CodeFault → Type 0
 ReadsHorizontal width old new line next (Ok done) =
     (new.bits ≡ old.bits) × (old.place < new.place) × (new.place ≤ length new.bits) × (length next.pixels ≤ width) ×
-    ((page : PageSoFar) → row_reading width (running page line None None) old.place (rest_of old) ≡ row_reading width (mode_ended width page
-    next)
-    new.place (rest_of new))
+    ((page : PageSoFar) → GoesTo width (running page line None None) old.place (rest_of old) (mode_ended width page next) new.place
+    (rest_of new))
 ReadsHorizontal width old new line next (Err fault) =
     (fault.kind ≡ NoMemory) ⊎ ((page : PageSoFar)
     → row_reading width (running page line None None) old.place (rest_of old) ≡ Err (fault.place, fault.kind))
 
--- one mode was read, and reading the page from before it is reading on after it; or it is refused there, or memory was refused
+-- one mode was read; or it is refused there, and so is the row, or memory was refused
 abbrev pub StepsOn : List Color → Reading → Reading → CodingLine → CodingLine → Result (Unit {0}) CodeFault → Type 0
 StepsOn reference old new line next (Ok done) =
     (new.bits ≡ old.bits) × (old.place < new.place) × (new.place ≤ length new.bits) × (length next.pixels ≤ length reference) ×
     ((page : PageSoFar) → page.reference ≡ reference
-    → row_reading (length reference) (inside page line) old.place (rest_of old) ≡ row_reading (length reference) (mode_ended (length
-    reference)
-    page next) new.place (rest_of new))
+    → GoesTo (length reference) (inside page line) old.place (rest_of old) (mode_ended (length reference) page next) new.place
+    (rest_of new))
 StepsOn reference old new line next (Err fault) =
     (fault.kind ≡ NoMemory) ⊎ ((page : PageSoFar) → page.reference ≡ reference
     → row_reading (length reference) (inside page line) old.place (rest_of old) ≡ Err (fault.place, fault.kind))
 
--- modes were read, perhaps none: reading the page from before them is reading on after them
+-- modes were read, perhaps none
 abbrev pub StepsAlong : List Color → Reading → Reading → CodingLine → CodingLine → Type 0
 StepsAlong reference old new line next =
     (new.bits ≡ old.bits) × (old.place ≤ new.place) × (new.place ≤ length new.bits) × (length next.pixels ≤ length reference) ×
     ((page : PageSoFar) → page.reference ≡ reference
-    → row_reading (length reference) (mode_ended (length reference) page line) old.place (rest_of old) ≡ row_reading (length reference)
-    (mode_ended (length reference) page next) new.place (rest_of new))
+    → GoesTo (length reference) (mode_ended (length reference) page line) old.place (rest_of old) (mode_ended (length reference) page next)
+    new.place (rest_of new))
 
 -- one mode was read, or nothing changed
 abbrev pub StepsQuickly : List Color → Reading → Reading → CodingLine → CodingLine → Bool → Type 0

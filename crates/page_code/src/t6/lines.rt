@@ -93,6 +93,7 @@ impl Lines {
     pub(crate) fn width(&self) -> u32
         ensures width { result ≡ length self.now.reference }
         ensures range { IsWidth result }
+        ensures fits { length self.now.line.pixels ≤ length self.now.reference }
     {
         self.width
     }
@@ -155,6 +156,7 @@ impl Lines {
         ensures refuses { IfErr result (λ kind. (page : PageSoFar) → page.reference ≡ self.old.reference
             → after_mode (length self.old.reference) page self.old.line (ModeCode.Vertical shift) ≡ Err kind) }
         ensures reference { self.new.reference ≡ self.old.reference }
+        ensures stays { OnErr result (self.new.line ≡ self.old.line) }
     {
         let held = &self.held[..self.known];
         self.front = to_a1(held, &mut self.list, self.width, self.front, shift)?;

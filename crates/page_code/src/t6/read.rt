@@ -5,14 +5,14 @@ ghost use Rattle.page_code.specs.TwoDimensions.Fronts.{mode_word, mode_codes};
 ghost use Rattle.page_code.specs.TwoDimensions.Changes.{AreHeld};
 ghost use Rattle.page_code.specs.TwoDimensions.Lines.{FitsLists, StepsBy, line_of};
 ghost use Rattle.page_code.specs.TwoDimensions.Modes.{eofb};
-ghost use Rattle.page_code.specs.TwoDimensions.Positions.{white_line};
+ghost use Rattle.page_code.specs.TwoDimensions.Positions.{line_begin, white_line};
 ghost use Rattle.page_code.specs.TwoDimensions.Reading.{FindsMode, ReadsHorizontal, ReadsRow, SeesStart, StepsAlong, StepsOn, StepsQuickly};
 ghost use Rattle.page_code.specs.TwoDimensions.Reading.{missing_mode};
 ghost use Rattle.page_code.specs.TwoDimensions.Writing.{reference_at};
 ghost use Rattle.raster.specs.Packed.{bits_of};
 ghost use Rattle.raster.specs.Pixels.{IsWidth};
 ghost use Rattle.raster.specs.declared.row.Color.{Color};
-ghost use Rattle.run_tables.specs.Reading.{rest_of};
+ghost use Rattle.run_tables.specs.Reading.{Reading, rest_of};
 ghost use Rattle.run_tables.specs.Texts.{all_zero, begins, is_cut};
 ghost use Rattle.std.specs.Bool.{OnFalse, OnTrue};
 ghost use Rattle.std.specs.Prelude.{◌≡◌, ◌≤◌, ◌<◌, ◌+◌, [], List, Err, IfErr, IfNone, IfOk, IfSome, Ok, OnErr, OnOk, false, length, true};
@@ -278,6 +278,7 @@ fn horizontal(reader: &mut BitReader, lines: &mut Lines) -> Result<(), CodeFault
     requires { length lines.old.line.pixels < length lines.old.reference }
     ensures runs { ReadsHorizontal (length lines.old.reference) reader.old reader.new lines.old.line lines.new.line result }
     ensures same { lines.new.reference ≡ lines.old.reference }
+    ensures stays { OnErr result (lines.new.line ≡ lines.old.line) }
 {
     let a0 = lines.a0();
     let other = a0.color.other();
@@ -337,12 +338,13 @@ fn quick_part(reader: &mut BitReader, lines: &mut Lines) -> bool
     used > 0
 }
 
-/// One mode of a row (ITU-T T.6, 2.2.2).
-#[cold]
-fn read_mode(reader: &mut BitReader, lines: &mut Lines) -> Result<(), CodeFault>
+/// Reads one mode of a row (ITU-T T.6, 2.2.2). After an error the reader is somewhere in the mode.
+fn take_mode(reader: &mut BitReader, lines: &mut Lines) -> Result<(), CodeFault>
     requires { length lines.old.line.pixels < length lines.old.reference }
-    ensures steps { StepsOn lines.old.reference reader.old reader.new lines.old.line lines.new.line result }
+    ensures steps { StepsOn lines.old.reference reader.old reader.new lines.old.line lines.new.line
+        result }
     ensures same { lines.new.reference ≡ lines.old.reference }
+    ensures stays { OnErr result (lines.new.line ≡ lines.old.line) }
 {
     let place = reader.place();
     let Some(code) = next_mode(reader) else {
@@ -361,17 +363,34 @@ fn read_mode(reader: &mut BitReader, lines: &mut Lines) -> Result<(), CodeFault>
     }
 }
 
-/// The modes of one row after its reference row (ITU-T T.6, 2.2), until the coding line is whole.
+/// As `take_mode`, but an error changes nothing.
+#[cold]
+fn read_mode(reader: &mut BitReader, lines: &mut Lines) -> Result<(), CodeFault>
+    requires { length lines.old.line.pixels < length lines.old.reference }
+    ensures steps { StepsOn lines.old.reference reader.old reader.new lines.old.line lines.new.line result }
+    ensures same { lines.new.reference ≡ lines.old.reference }
+    ensures stays { OnErr result ((reader.new ≡ reader.old) × (lines.new.line ≡ lines.old.line)) }
+{
+    let mut ahead = reader.look_ahead();
+    take_mode(&mut ahead, lines)?;
+    *reader = ahead;
+    Ok(())
+}
+
+/// Reads on in a row, mode by mode (ITU-T T.6, 2.2), until the coding line is whole. After an error the modes before
+/// the one that is refused were read.
 #[inline(always)]
-fn read_line(reader: &mut BitReader, lines: &mut Lines) -> Result<(), CodeFault>
-    ensures reads { OnOk result (ReadsRow lines.old.reference reader.old reader.new (Ok lines.new.line.pixels)) }
-    ensures refuses { IfErr result (λ fault. ReadsRow lines.old.reference reader.old reader.new (Err fault)) }
+fn read_modes(reader: &mut BitReader, lines: &mut Lines) -> Result<(), CodeFault>
+    ensures along { StepsAlong lines.old.reference reader.old reader.new lines.old.line
+        lines.new.line }
+    ensures refuses { IfErr result (λ fault. StepsOn lines.old.reference reader.new reader.new
+        lines.new.line lines.new.line (Err fault)) }
+    ensures short { OnErr result (length lines.new.line.pixels < length lines.new.reference) }
     ensures whole { OnOk result (length lines.new.line.pixels ≡ length lines.new.reference) }
     ensures same { lines.new.reference ≡ lines.old.reference }
 {
     let _start = reader.place(); // shows the proof that it is within the bits
     let _width = lines.width(); // shows the proof that there are pixels to read
-    lines.begin();
     while lines.is_short() {
         let done = quick_part(reader, lines);
         if !done {
@@ -381,13 +400,33 @@ fn read_line(reader: &mut BitReader, lines: &mut Lines) -> Result<(), CodeFault>
     Ok(())
 }
 
-/// One row after its reference row, which is the next one's reference row.
+/// The modes of one row after its reference row (ITU-T T.6, 2.2), until the coding line is whole.
+#[inline(always)]
+fn read_line(reader: &mut BitReader, lines: &mut Lines) -> Result<(), CodeFault>
+    ensures reads { OnOk result (ReadsRow lines.old.reference reader.old reader.new (Ok lines.new.line.pixels)) }
+    ensures refuses { IfErr result (λ fault. ReadsRow lines.old.reference reader.old reader.new (Err fault)) }
+    ensures whole { OnOk result (length lines.new.line.pixels ≡ length lines.new.reference) }
+    ensures same { lines.new.reference ≡ lines.old.reference }
+{
+    let _width = lines.width(); // shows the proof that there are pixels to read
+    lines.begin();
+    read_modes(reader, lines)?;
+    Ok(())
+}
+
+/// Reads on in a row after its reference row, to its end; it is the next one's reference row. After an error the
+/// modes before the one that is refused were read.
 fn read_row(alloc: Global, reader: &mut BitReader, lines: &mut Lines) -> Result<Row, CodeFault>
-    ensures reads { ReadsRow lines.old.reference reader.old reader.new result }
+    ensures reads { (start : Reading)
+        → StepsAlong lines.old.reference start reader.old line_begin lines.old.line
+        → ReadsRow lines.old.reference start reader.new result }
+    ensures along { OnErr result (StepsAlong lines.old.reference reader.old reader.new
+        lines.old.line lines.new.line) }
     ensures next { IfOk result (λ row. lines.new.reference ≡ row) }
     ensures same { OnErr result (lines.new.reference ≡ lines.old.reference) }
 {
-    read_line(reader, lines)?;
+    let _width = lines.width(); // shows the proof that there are pixels to read
+    read_modes(reader, lines)?;
     Ok(lines.row(alloc)?)
 }
 

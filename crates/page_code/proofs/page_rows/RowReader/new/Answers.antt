@@ -27,4 +27,5 @@ invariant_of-result c =
       few = omega (arith, none);
       start = omega arith;
       passed = c.none.ensures _ _ _;
+      begun = λ used. absurd (omega (arith, used));
     }

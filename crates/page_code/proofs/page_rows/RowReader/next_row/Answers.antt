@@ -8,7 +8,7 @@ use Rattle.page_code.proofs.page_rows.RowReader.next_row.Goals as goal
 pub invariant_of-self-in-Row : goal.invariant_of-self-in-Row
 invariant_of-self-in-Row c =
     let finds = found_as (Unit {0}) c.self.inside.coding c.self.inside.order c.self.inside.place c.find_next.new.to
-    c.self.inside.lists.lines.reference c.find_next.new.lists.lines.reference (drop c.self.inside.gone c.self.inside.held.items)
+    c.self.inside.lists.begun.lines.reference c.find_next.new.lists.begun.lines.reference (drop c.self.inside.gone c.self.inside.held.items)
     (take (length c.deref.result.now - c.self.inside.gone) (drop c.self.inside.gone c.deref.result.now))
     c.in_ok-found.found (Row c.in-Row.row) (slice_left c.deref.result.now c.self.inside.held.items
     c.self.inside.gone c.deref.ensures.value) c.in-Row.is c.in_ok-found.ensures.finds in
@@ -21,12 +21,13 @@ invariant_of-self-in-Row c =
       few = c.self.invariant.few;
       start = omega (arith, finds.2, finds.3, size, c.self.invariant.few, c.self.invariant.start);
       passed = c.none-self-inside.ensures _ _ _;
+      begun = λ used. absurd (omega (arith, used));
     }
 
 pub overflow_add-result : goal.overflow_add-result
 overflow_add-result c =
     let finds = found_as (Unit {0}) c.self.inside.coding c.self.inside.order c.self.inside.place c.find_next.new.to
-    c.self.inside.lists.lines.reference c.find_next.new.lists.lines.reference (drop c.self.inside.gone c.self.inside.held.items)
+    c.self.inside.lists.begun.lines.reference c.find_next.new.lists.begun.lines.reference (drop c.self.inside.gone c.self.inside.held.items)
     (take (length c.deref.result.now - c.self.inside.gone) (drop c.self.inside.gone c.deref.result.now))
     c.in_ok-found.found (End c.in-End.used) (slice_left c.deref.result.now c.self.inside.held.items
     c.self.inside.gone c.deref.ensures.value) c.in-End.is c.in_ok-found.ensures.finds in
@@ -43,7 +44,7 @@ overflow_add-result c =
 pub overflow_add-self-inside : goal.overflow_add-self-inside
 overflow_add-self-inside c =
     let finds = found_as (Unit {0}) c.self.inside.coding c.self.inside.order c.self.inside.place c.find_next.new.to
-    c.self.inside.lists.lines.reference c.find_next.new.lists.lines.reference (drop c.self.inside.gone c.self.inside.held.items)
+    c.self.inside.lists.begun.lines.reference c.find_next.new.lists.begun.lines.reference (drop c.self.inside.gone c.self.inside.held.items)
     (take (length c.deref.result.now - c.self.inside.gone) (drop c.self.inside.gone c.deref.result.now))
     c.in_ok-found.found (Refused c.in-Refused.fault) (slice_left c.deref.result.now c.self.inside.held.items
     c.self.inside.gone c.deref.ensures.value) c.in-Refused.is c.in_ok-found.ensures.finds in
@@ -60,32 +61,32 @@ overflow_add-self-inside c =
 pub returns-in-Row : goal.returns-in-Row
 returns-in-Row c =
     let finds = found_as (Unit {0}) c.self.inside.coding c.self.inside.order c.self.inside.place c.find_next.new.to
-    c.self.inside.lists.lines.reference c.find_next.new.lists.lines.reference (drop c.self.inside.gone c.self.inside.held.items)
+    c.self.inside.lists.begun.lines.reference c.find_next.new.lists.begun.lines.reference (drop c.self.inside.gone c.self.inside.held.items)
     (take (length c.deref.result.now - c.self.inside.gone) (drop c.self.inside.gone c.deref.result.now))
     c.in_ok-found.found (Row c.in-Row.row) (slice_left c.deref.result.now c.self.inside.held.items
     c.self.inside.gone c.deref.ensures.value) c.in-Row.is c.in_ok-found.ensures.finds in
     rw (← c.self.view_is) (gives_row_next c.self.inside.coding c.self.inside.order c.self.inside.place
-    c.self.inside.lists.lines.reference c.self.inside.start (drop c.self.inside.gone c.self.inside.held.items) c.self.invariant.within
-    c.find_next.new.to c.find_next.new.lists.lines.reference c.in-Row.row finds)
+    c.self.inside.lists.begun.lines.reference c.self.inside.start (drop c.self.inside.gone c.self.inside.held.items) c.self.invariant.within
+    c.find_next.new.to c.find_next.new.lists.begun.lines.reference c.in-Row.row finds)
 
 pub returns-in-End : goal.returns-in-End
 returns-in-End c =
     let finds = found_as (Unit {0}) c.self.inside.coding c.self.inside.order c.self.inside.place c.find_next.new.to
-    c.self.inside.lists.lines.reference c.find_next.new.lists.lines.reference (drop c.self.inside.gone c.self.inside.held.items)
+    c.self.inside.lists.begun.lines.reference c.find_next.new.lists.begun.lines.reference (drop c.self.inside.gone c.self.inside.held.items)
     (take (length c.deref.result.now - c.self.inside.gone) (drop c.self.inside.gone c.deref.result.now))
     c.in_ok-found.found (End c.in-End.used) (slice_left c.deref.result.now c.self.inside.held.items
     c.self.inside.gone c.deref.ensures.value) c.in-End.is c.in_ok-found.ensures.finds in
-    rw (← c.self.view_is) (gives_end c.self.inside.coding c.self.inside.order c.self.inside.place c.self.inside.lists.lines.reference
+    rw (← c.self.view_is) (gives_end c.self.inside.coding c.self.inside.order c.self.inside.place c.self.inside.lists.begun.lines.reference
     c.self.inside.start (drop c.self.inside.gone c.self.inside.held.items) c.self.invariant.within c.find_next.new.to
-    c.find_next.new.lists.lines.reference c.in-End.used finds)
+    c.find_next.new.lists.begun.lines.reference c.in-End.used finds)
 
 pub returns-in-Refused : goal.returns-in-Refused
 returns-in-Refused c =
     let finds = found_as (Unit {0}) c.self.inside.coding c.self.inside.order c.self.inside.place c.find_next.new.to
-    c.self.inside.lists.lines.reference c.find_next.new.lists.lines.reference (drop c.self.inside.gone c.self.inside.held.items)
+    c.self.inside.lists.begun.lines.reference c.find_next.new.lists.begun.lines.reference (drop c.self.inside.gone c.self.inside.held.items)
     (take (length c.deref.result.now - c.self.inside.gone) (drop c.self.inside.gone c.deref.result.now))
     c.in_ok-found.found (Refused c.in-Refused.fault) (slice_left c.deref.result.now c.self.inside.held.items
     c.self.inside.gone c.deref.ensures.value) c.in-Refused.is c.in_ok-found.ensures.finds in
     rw (← c.self.view_is, c.new.ensures) (gives_refusal c.self.inside.coding c.self.inside.order c.self.inside.place
-    c.self.inside.lists.lines.reference c.self.inside.start (drop c.self.inside.gone c.self.inside.held.items) c.self.invariant.within
-    c.find_next.new.to c.find_next.new.lists.lines.reference c.in-Refused.fault finds)
+    c.self.inside.lists.begun.lines.reference c.self.inside.start (drop c.self.inside.gone c.self.inside.held.items) c.self.invariant.within
+    c.find_next.new.to c.find_next.new.lists.begun.lines.reference c.in-Refused.fault finds)

@@ -2,6 +2,7 @@ use Rattle.std.proofs.Common.{ℕ, List, ◌≡◌, ◌<◌, ◌≤◌, ◌+◌,
 use Rattle.std.proofs.lemmas.List.{length-drop, length-take}
 use Rattle.page_code.proofs.PassedRows.{joined_after, joined_size, passed_taken}
 use Rattle.page_code.proofs.RowReaders.{takes}
+use Rattle.page_code.proofs.TwoDimensions.OpenLines.{open_taken}
 use Rattle.page_code.proofs.page_rows.RowReader.push_octets.Goals as goal
 use Rattle.page_code.proofs.page_rows.RowReader.push_octets.Goals.{then-octets-room, else-octets-room}
 
@@ -30,6 +31,8 @@ invariant_of-self-2 c =
       start = omega (arith, c.self.invariant.start);
       passed = passed_taken c.self.inside.order c.self.inside.place held now more up (c.self.inside.place.at % 8) c.self.inside.lists.passed
           joined within (omega arith) c.self.invariant.within c.self.invariant.passed;
+      begun = open_taken c.self.inside.order held now more up c.self.inside.place.at (c.self.inside.place.at % 8) c.self.inside.lists.begun
+          joined within (omega arith) c.self.invariant.within c.self.invariant.begun;
     }
 
 pub returns-clause-takes : goal.returns-clause-takes
@@ -62,6 +65,6 @@ returns-clause-takes c =
       length-take count octets,
       few,
     ) in
-    rw (← c.self.view_is) (takes c.self.inside.coding c.self.inside.order c.self.inside.place c.self.inside.lists.lines.reference
+    rw (← c.self.view_is) (takes c.self.inside.coding c.self.inside.order c.self.inside.place c.self.inside.lists.begun.lines.reference
     c.self.inside.start held octets count up (c.self.inside.place.at % 8) now within (omega arith) joined few
     (λ less. omega (arith, size, full less)) (omega (arith, size, room)))

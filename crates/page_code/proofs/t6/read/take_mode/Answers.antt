@@ -3,7 +3,7 @@ use Rattle.std.specs.Prelude.{Err}
 use Rattle.page_code.specs.declared.t6.mode.ModeCode.TheVariants.{Pass, Vertical}
 use Rattle.page_code.specs.TwoDimensions.Reading.{FindsMode}
 use Rattle.page_code.proofs.TwoDimensions.StepsOn.{mode_absent, mode_steps, vertical_steps, horizontal_steps}
-use Rattle.page_code.proofs.t6.read.read_mode.Goals as goal
+use Rattle.page_code.proofs.t6.read.take_mode.Goals as goal
 
 pub returns-in_default-clause-steps : goal.returns-in_default-clause-steps
 returns-in_default-clause-steps c =
