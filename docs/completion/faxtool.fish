@@ -87,7 +87,7 @@ complete -c faxtool -n '__fish_seen_subcommand_from station' -l limit -x -a '2 1
 complete -c faxtool -n '__fish_seen_subcommand_from station' -l mode -x -a '0600 0640' -d 'The mode of the pages\' files in octal, as 0640, whatever the umask is; 0600 less the umask if not said (with --answer)'
 complete -c faxtool -n '__fish_seen_subcommand_from station' -l most-pages -x -a '100' -d 'The most pages that are stored; a further one is dropped, and the call stopped in its place (with --answer)'
 complete -c faxtool -n '__fish_seen_subcommand_from station' -l most-octets -x -a '100000000' -d 'The most octets of the pages\' files; a page that would exceed them is dropped, and the call stopped (with --answer)'
-complete -c faxtool -n '__fish_seen_subcommand_from station' -l most-seconds -x -a '3600' -d 'The seconds after which the call is stopped, at the next quiet line; the page under way is dropped (with --answer)'
+complete -c faxtool -n '__fish_seen_subcommand_from station' -l most-seconds -x -a '3600' -d 'The seconds after which the call is stopped, 14400 if not said, 0 for no limit; a page under way is dropped'
 complete -c faxtool -n '__fish_seen_subcommand_from station' -l refuse -d 'Stops the call at the second DCS that isn\'t allowed, as without error correction; so it is if not said (with --answer)'
 complete -c faxtool -n '__fish_seen_subcommand_from station' -l no-refuse -d 'Answers no such DCS, and waits on (with --answer)'
 complete -c faxtool -n '__fish_seen_subcommand_from station' -l hold -d 'Hands each page over by a line `page FILE`, and confirms it once a line `kept T FILE` came (with --answer)'
