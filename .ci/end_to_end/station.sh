@@ -216,7 +216,7 @@ is_stopped_at() {
     ends 1 station ${most:+--most-seconds "$most"} "$@" < "$work/lines"
     grep -qx "the call is stopped: --most-seconds" "$work/error" || fails "--most-seconds: $*: no word of it"
     grep -q "^$second s; " "$work/error" || fails "--most-seconds: $*: stopped at $(grep -o '^[0-9]* s; ' "$work/error"), not $second s"
-    grep -q '^end stopped pages 0' "$work/error" || fails "--most-seconds: $*: $(tail -n 1 "$work/error")"
+    grep -qE '^end stopped (pages|confirmed) 0$' "$work/error" || fails "--most-seconds: $*: $(tail -n 1 "$work/error")"
     [ "$(tail -n 1 "$work/output")" = "done" ] && tail -n 2 "$work/output" | grep -q '^tx ' || fails "--most-seconds: $*: no DCN"
 }
 
