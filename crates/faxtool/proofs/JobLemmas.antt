@@ -122,6 +122,16 @@ some_name a b xs ys e = ap (λ (o : Option (Text × List Row)). (unwrap_or o (a,
 some_rows : (a b : Text) (xs ys : List Row) → ◌≡◌ {A = Option (Text × List Row)} (Some (a, xs)) (Some (b, ys)) → xs ≡ ys
 some_rows a b xs ys e = ap (λ (o : Option (Text × List Row)). (unwrap_or o (a, xs)).1) e
 
+-- a subcommand that was met, by its name and by its rows
+pub met_of : {B : Type 0} (f : B → Text) (g : B → List Row) (o : Option B) (name : Text) (rows : List Row) → option_map f o ≡ Some name
+    → option_map (λ (p : Text × List Row). p.1) (option_map (λ b. (f b, g b)) o) ≡ Some rows
+    → ◌≡◌ {A = Option (Text × List Row)} (option_map (λ b. (f b, g b)) o) (Some (name, rows))
+met_of f g None name rows e r = absurd (cc)
+met_of f g (Some b) name rows e r =
+    let n : f b ≡ name = same_text (f b) name e in
+    let x : g b ≡ rows = ap (λ (o : Option (List Row)). unwrap_or o (g b)) r in
+    ap (λ (t : Text). Some (t, g b)) n ∙ ap (λ (t : List Row). Some (name, t)) x
+
 show_is_code : codes "show" ≡ codes "code" → ⊥
 show_is_code e =
     let bad : 115 ≡ 99 = ap (λ (t : Text). slice_index t 0) e in

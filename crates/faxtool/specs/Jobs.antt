@@ -734,6 +734,12 @@ seconds_of None = Some 14400
 seconds_of (Some zero) = None
 seconds_of (Some (suc n)) = Some (suc n)
 
+-- the seconds of a call at most, as the values say
+pub record ReadsSeconds (rows : List Row) (seconds : Option ℕ) : Type 0 where
+  pub given : Option ℕ
+  pub reads : ReadsNumber (codes "most-seconds") rows given
+  pub is : seconds ≡ seconds_of given
+
 -- the lengths of the waits, if given, whether what is heard, and until when, is said, whether frames are said as contents, how late an
 -- answer may come, and how long the call lasts at most
 pub record AreWaitsIn (rows : List Row) (waits : GivenWaits) : Type 0 where
@@ -744,9 +750,7 @@ pub record AreWaitsIn (rows : List Row) (waits : GivenWaits) : Type 0 where
   pub hears_is : waits.hears ≡ is_named (codes "true") (first_of (codes "hear") rows)
   pub frames_is : waits.frames ≡ is_named (codes "true") (first_of (codes "frames") rows)
   pub late_is : IsLateNamed (first_of (codes "late") rows) waits.late
-  pub seconds : Option ℕ
-  pub seconds_given : ReadsNumber (codes "most-seconds") rows seconds
-  pub seconds_are : waits.seconds ≡ seconds_of seconds
+  pub seconds_are : ReadsSeconds rows waits.seconds
 
 -- what an answerer can do, as the values say: it takes each code up to the one named, and fine lines unless it takes standard ones alone
 abbrev pub caps_in : List Row → Coding → Caps
