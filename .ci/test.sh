@@ -22,4 +22,5 @@ for crate in crates/*_tests; do
     (cd "$crate" && "$KIT/bin/rt" try --test --seconds 3600 > "$work/said" 2>&1) || { cat "$work/said" >&2; echo "test: FAILED: $crate" >&2; exit 1; }
     echo "test: $crate"
 done
-.ci/beside.py ".ci/end_to_end.sh build/faxtool" .ci/bindings.sh .ci/growths.py ".ci/worst.py build" .ci/packages.sh
+.ci/beside.py ".ci/end_to_end.sh --share files build/faxtool" ".ci/end_to_end.sh --share pages build/faxtool" \
+    ".ci/end_to_end.sh --share calls build/faxtool" .ci/bindings.sh .ci/growths.py ".ci/worst.py build" .ci/packages.sh
