@@ -18,9 +18,9 @@ trap 'rm -rf "$work"' EXIT
 packaging/try.sh > "$work/said" 2>&1 || { cat "$work/said" >&2; exit 1; }
 packaging/try.sh --library > "$work/said" 2>&1 || { cat "$work/said" >&2; exit 1; }
 # without proof the largest page takes more than the minute that a test has by itself, and half an hour on a machine that does much else
+set --
 for crate in crates/*_tests; do
-    (cd "$crate" && "$KIT/bin/rt" try --test --seconds 3600 > "$work/said" 2>&1) || { cat "$work/said" >&2; echo "test: FAILED: $crate" >&2; exit 1; }
-    echo "test: $crate"
+    set -- "$@" "sh -c 'cd $crate && \"$KIT/bin/rt\" try --test --seconds 3600 || { echo test: FAILED: $crate >&2; exit 1; }'"
 done
 .ci/beside.py ".ci/end_to_end.sh --share files build/faxtool" ".ci/end_to_end.sh --share pages build/faxtool" \
-    ".ci/end_to_end.sh --share calls build/faxtool" .ci/bindings.sh .ci/growths.py ".ci/worst.py build" .ci/packages.sh
+    ".ci/end_to_end.sh --share calls build/faxtool" .ci/bindings.sh "$@" .ci/growths.py ".ci/worst.py build" .ci/packages.sh
