@@ -19,12 +19,12 @@ is_open() {
     [ ! -s "$work/error" ] || fails "identify ${2##*/} wrote to standard error"
 }
 
-# is_none LINE FILE: the file is no page that can be read, by this last line.
+# is_none LINE FILE: the file is no page that can be read, by this first line.
 is_none() {
     printf "$1" > "$work/wanted"
     gives 1 identify "$2"
-    tail -n 1 "$work/output" > "$work/last"
-    is_same "$work/last" "$work/wanted" "identify ${2##*/}"
+    head -n 1 "$work/output" > "$work/first"
+    is_same "$work/first" "$work/wanted" "identify ${2##*/}"
     [ "$(cat "$work/error")" = "fault 29" ] || fails "identify ${2##*/} wrote $(cat "$work/error")"
 }
 

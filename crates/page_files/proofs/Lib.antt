@@ -22,4 +22,4 @@ mod RepairsT6
 mod Identifying
 mod IdentifyLaws
 mod OwnWidths
-mod NoEols
+mod RowsAlone

@@ -5,11 +5,8 @@ use Rattle.page_code.specs.declared.Coding.{Coding}
 use Rattle.page_code.specs.declared.Coding.TheVariants.{OneDim, T6}
 use Rattle.raster.specs.declared.packed.Order.{Order}
 use Rattle.raster.specs.declared.packed.Order.TheVariants.{LsbFirst, MsbFirst}
-use Rattle.raster.specs.Packed.{bits_of}
-use Rattle.page_files.specs.Identified.{AreOneDimTried, AreTried, AreTwoDim, IsWay, ReadsTo, fits_one, format_line, format_of, identity_of, least_lines}
-use Rattle.page_files.specs.Identified.{no_eols_line}
-use Rattle.page_files.specs.Identified.{tried_line, tried_widths, two_dim_line, wide_line}
-use Rattle.page_files.specs.NoEols.{FirstAlone}
+use Rattle.page_files.specs.Identified.{AreTried, AreTwoDim, IsWay, ReadsTo, fits_one, format_line, format_of, identity_of, least_lines}
+use Rattle.page_files.specs.Identified.{tried_line, tried_widths}
 use Rattle.page_files.specs.declared.found.Found.{Found}
 use Rattle.page_files.specs.declared.found.SaidWidths.{SaidWidths}
 use Rattle.page_files.specs.declared.found.Found.TheVariants as found
@@ -142,15 +139,6 @@ found_line octets (found.Page one) = tried_line octets one
 found_line octets (found.Begun one) = tried_line octets one
 found_line octets found.Several = codes "the width is not known\n"
 found_line octets found.Nothing = []
-
--- the lines of what octets may be that isn't read: T.4 of a width that no page can have, T.4 in two dimensions if they aren't known as T.4,
--- T.4 without EOLs
-abbrev pub UnreadLines : List ℕ → List ℕ → Type 0
-UnreadLines octets lines = (tried : List Tried) × (own : Said) × (two_msb two_lsb : Option ℕ) × (first_msb first_lsb : Option (ℕ × ℕ))
-    × AreOneDimTried tried_widths octets tried own × AreTwoDim octets two_msb two_lsb
-    × FirstAlone (bits_of MsbFirst octets) tried_widths first_msb × FirstAlone (bits_of LsbFirst octets) tried_widths first_lsb
-    × (lines ≡ wide_line MsbFirst own.msb ++ (wide_line LsbFirst own.lsb ++ (two_dim_line MsbFirst own.msb tried two_msb
-    ++ (two_dim_line LsbFirst own.lsb tried two_lsb ++ (no_eols_line MsbFirst first_msb ++ no_eols_line LsbFirst first_lsb)))))
 
 -- a page reads as far as its way says
 abbrev pub ReadsSo : List ℕ → Found → Type 0

@@ -297,34 +297,38 @@ two_dim_line order own tried (Some width) =
 abbrev pub AreTwoDim : List ℕ → Option ℕ → Option ℕ → Type 0
 AreTwoDim octets msb lsb = SaysTwoDim (bits_of MsbFirst octets) msb × SaysTwoDim (bits_of LsbFirst octets) lsb
 
--- What is written of octets that are nothing known: a line for each way that reads a first row (`.. width 1728: fault 11 at bit 3999
--- after 27 rows`), one for a width that no page can have, and one if they begin as T.4 in two dimensions, in an order of bits in which they
--- aren't known as T.4.
-abbrev pub nothing_lines : List ℕ → List Tried → Said → Option ℕ → Option ℕ → List ℕ
-nothing_lines octets tried own msb lsb = lines_of Begun octets tried ++ (wide_line MsbFirst own.msb ++ (wide_line LsbFirst own.lsb
-    ++ (two_dim_line MsbFirst own.msb tried msb ++ two_dim_line LsbFirst own.lsb tried lsb)))
-
--- what is written after the lines of the ways: of several ways, that the width isn't known; of nothing, as above
-abbrev pub TellsIdentity : List ℕ → List Tried → Said → Identity → Option (List ℕ) → Option (List ℕ) → Type 0
-TellsIdentity octets tried own Known before after = Appends before after []
-TellsIdentity octets tried own Several before after = Appends before after (codes "the width is not known\n")
-TellsIdentity octets tried own (Nothing fault) before after =
-    (msb lsb : Option ℕ) × AreTwoDim octets msb lsb × Appends before after (nothing_lines octets tried own msb lsb)
+-- the line of so many rows of T.4 without EOLs of this width
+abbrev pub no_eols_text : Order → ℕ → ℕ → List ℕ
+no_eols_text order width rows = codes "T.4 without EOLs (TIFF compression 2), " ++ (order_name order ++ (codes ", width " ++ (decimal width
+    ++ (codes ", " ++ (decimal rows ++ codes " rows: not read; try tiffcp -c g4 on its TIFF\n")))))
 
 -- the line of rows of T.4 without EOLs, by their width and their number
 abbrev pub no_eols_line : Order → Option (ℕ × ℕ) → List ℕ
 no_eols_line order None = []
-no_eols_line order (Some first) = cond (nat_lt 0 first.1)
-    (codes "T.4 without EOLs (TIFF compression 2), " ++ (order_name order ++ (codes ", width " ++ (decimal first.0 ++ (codes ", "
-    ++ (decimal first.1 ++ codes " rows: not read; try tiffcp -c g4 on its TIFF\n")))))) []
+no_eols_line order (Some first) = cond (nat_lt 0 first.1) (no_eols_text order first.0 first.1) []
 
--- what is written last, of octets that are nothing known: a line for each order of bits in which they are rows of T.4 without EOLs
-abbrev pub TellsAlone : List ℕ → Identity → Option (List ℕ) → Option (List ℕ) → Type 0
-TellsAlone octets Known before after = Appends before after []
-TellsAlone octets Several before after = Appends before after []
-TellsAlone octets (Nothing fault) before after = (msb lsb : Option (ℕ × ℕ)) × FirstAlone (bits_of MsbFirst octets) tried_widths msb
-    × FirstAlone (bits_of LsbFirst octets) tried_widths lsb
-    × Appends before after (no_eols_line MsbFirst msb ++ no_eols_line LsbFirst lsb)
+-- what rows of T.4 without EOLs octets are, most and least significant bit first
+abbrev pub AreAlone : List ℕ → Option (ℕ × ℕ) → Option (ℕ × ℕ) → Type 0
+AreAlone octets msb lsb = FirstAlone (bits_of MsbFirst octets) tried_widths msb × FirstAlone (bits_of LsbFirst octets) tried_widths lsb
+
+-- The lines of what octets are that isn't read: T.4 of a width that no page can have; T.4 in two dimensions, in an order of bits in which
+-- they aren't known as T.4; T.4 without EOLs.
+abbrev pub unread_lines : List Tried → Said → Said → Option (ℕ × ℕ) → Option (ℕ × ℕ) → List ℕ
+unread_lines tried own two msb lsb = wide_line MsbFirst own.msb ++ (wide_line LsbFirst own.lsb ++ (two_dim_line MsbFirst own.msb tried two.msb
+    ++ (two_dim_line LsbFirst own.lsb tried two.lsb ++ (no_eols_line MsbFirst msb ++ no_eols_line LsbFirst lsb))))
+
+-- these are those lines of octets, by the ways that were tried and the widths that they say themselves
+abbrev pub UnreadBy : List ℕ → List Tried → Said → List ℕ → Type 0
+UnreadBy octets tried own lines = (two : Said) × (msb lsb : Option (ℕ × ℕ)) × AreTwoDim octets two.msb two.lsb × AreAlone octets msb lsb
+    × (lines ≡ unread_lines tried own two msb lsb)
+
+-- What is written after the lines of the ways. Of several ways: that the width isn't known. Of nothing that is known: first what it is that
+-- isn't read, then a line for each way that reads a first row (`.. width 1728: fault 11 at bit 3999 after 27 rows`).
+abbrev pub TellsIdentity : List ℕ → List Tried → Said → Identity → Option (List ℕ) → Option (List ℕ) → Type 0
+TellsIdentity octets tried own Known before after = Appends before after []
+TellsIdentity octets tried own Several before after = Appends before after (codes "the width is not known\n")
+TellsIdentity octets tried own (Nothing fault) before after =
+    (unread : List ℕ) × UnreadBy octets tried own unread × Appends before after (unread ++ lines_of Begun octets tried)
 
 -- The lines before that. The format, if it is known (`TIFF, by its first octets`). A line for each way that reads a page (`T.6, most
 -- significant bit first, width 1728, 2292 rows`): first those without octets after it, then those without EOFB (`2292 rows, without EOFB`),
@@ -334,15 +338,13 @@ abbrev pub page_lines : List ℕ → List Tried → List ℕ
 page_lines octets tried = format_line (format_of octets) ++ (lines_of Whole octets tried ++ (lines_of NoEofb octets tried
     ++ (lines_of Early octets tried ++ lines_of Mended octets tried)))
 
--- The octets were tried in all ways. What is written are `page_lines` and what `TellsIdentity` and `TellsAlone` say, and what they are
--- known to be is `identity_of`, of the results.
+-- The octets were tried in all ways. What is written are `page_lines` and what `TellsIdentity` says, and what they are known to be is
+-- `identity_of`, of the results.
 pub record Identifies (octets : List ℕ) (before after : Option (List ℕ)) (identity : Identity) : Type 0 where
   pub tried : List Tried
   pub own : Said
   pub are_tried : AreTried tried_widths octets tried own
   pub between : Option (List ℕ)
-  pub last : Option (List ℕ)
   pub written : Appends before between (page_lines octets tried)
-  pub tells : TellsIdentity octets tried own identity between last
-  pub tells_alone : TellsAlone octets identity last after
+  pub tells : TellsIdentity octets tried own identity between after
   pub identity_is : identity ≡ identity_of (format_of octets) octets tried

@@ -19,5 +19,6 @@ pub mod Identified
 pub mod Sources
 pub mod IdentifyLaws
 pub mod TwoDims
+pub mod Unread
 pub mod DecodeRecords
 pub mod RepairsMean

@@ -2,7 +2,7 @@
 
 ghost use Rattle.faults.specs.Faults.{IsOutside};
 ghost use Rattle.page_files.specs.Found.{Finds, FindsBy, FindsIn, IsChosen, ReadsSo, others, page_or_several, widths_from};
-ghost use Rattle.page_files.specs.Found.{HasBegun, least_rows, HasItsWidth, IsFurthest, IsMost, UnreadLines, best_of, found_by};
+ghost use Rattle.page_files.specs.Found.{HasBegun, least_rows, HasItsWidth, IsFurthest, IsMost, best_of, found_by};
 ghost use Rattle.page_files.specs.Found.{found_line, said_in};
 ghost use Rattle.page_files.specs.declared.found.Found.TheVariants.{Several};
 ghost use Rattle.page_files.specs.declared.identify.Tried.{Tried};
@@ -10,13 +10,12 @@ ghost use Rattle.page_files.specs.Identified.{AreTwoDim, IsTried, IsWay, fits_on
 ghost use Rattle.page_files.specs.Sources.{IsPageIn};
 ghost use Rattle.std.specs.Io.KnownBytes.{Appends};
 ghost use Rattle.raster.specs.Pixels.{IsWidth};
-ghost use Rattle.std.specs.Prelude.{◌≡◌, ◌++◌, ◌∷◌, ◌↔◌, [], List, ℕ, All, IfErr, IfOk, IfSome, IsTrue, OnOk, Some, find};
+ghost use Rattle.std.specs.Prelude.{◌≡◌, ◌++◌, ◌∷◌, ◌↔◌, [], List, All, IfErr, IfOk, IfSome, IsTrue, OnOk, Some, find};
 
 use crate::identify::{
     Fit, Identity, Said, Tried, WIDTHS, fits, format_of, identity_of, least_lines, tell_format,
-    tell_tried, tell_two_dim, tell_wide, try_one_dim, try_ways,
+    tell_tried, try_ways,
 };
-use crate::no_eols::tell_order;
 use crate::own_widths::two_dim_width;
 use crate::source::FoundPage;
 use faults::{NO_MEMORY, ToolFault};
@@ -356,22 +355,4 @@ pub fn tell_found<W: Write>(octets: &[u8], found: &Found, writer: &mut W) -> Res
         }
         Found::Nothing => Ok(()),
     }
-}
-
-/// Writes what octets that are nothing known may be that isn't read, as `identify_engine` does: a line each. Errors: `Io` (8) from the
-/// writer, `NoMemory` (9).
-pub fn tell_unread<W: Write>(alloc: Global, octets: &[u8], writer: &mut W) -> Result<(), ToolFault>
-    ensures told { OnOk result ((lines : List ℕ) × UnreadLines octets.now lines
-        × Appends (W.contents writer.old) (W.contents writer.new) lines) }
-    ensures fault { IfErr result IsOutside }
-{
-    let (results, said) = try_one_dim(alloc, octets, &WIDTHS)?;
-    let tried = results.tried;
-    tell_wide(Order::MsbFirst, said.msb, writer)?;
-    tell_wide(Order::LsbFirst, said.lsb, writer)?;
-    tell_two_dim(octets, Order::MsbFirst, said.msb, &tried, writer)?;
-    tell_two_dim(octets, Order::LsbFirst, said.lsb, &tried, writer)?;
-    tell_order(alloc, octets, Order::MsbFirst, writer)?;
-    tell_order(alloc, octets, Order::LsbFirst, writer)?;
-    Ok(())
 }

@@ -6,20 +6,20 @@ ghost use Rattle.page_files.specs.Identified.{AreOneDimTried, AreTried, AreTwoDi
 ghost use Rattle.page_files.specs.Identified.{has_rows, is_among, is_usual, least_lines, reads_rows, same_order};
 ghost use Rattle.page_files.specs.Identified.{TellsIdentity, after_words};
 ghost use Rattle.page_files.specs.Identified.{coding_name, count_of, fits, form_of, format_among, format_line, format_of, forms_in};
-ghost use Rattle.page_files.specs.Identified.{identity_of, lacks_eofb, line_of, lines_of, no_page, nothing_lines, order_name, own_forms};
+ghost use Rattle.page_files.specs.Identified.{UnreadBy, identity_of, lacks_eofb, line_of, lines_of, no_page, order_name, own_forms};
 ghost use Rattle.page_files.specs.Identified.{tried_line, two_dim_line, two_dim_text, wide_line};
 ghost use Rattle.page_files.specs.OwnWidths.{SaysTwoDim};
 ghost use Rattle.raster.specs.Packed.{bits_of};
 ghost use Rattle.raster.specs.Pixels.{IsWidth};
 ghost use Rattle.page_files.specs.Sources.{IsPageIn};
 ghost use Rattle.std.specs.Io.KnownBytes.{Appends};
-ghost use Rattle.std.specs.Prelude.{◌≡◌, ◌≤◌, ◌++◌, ◌↔◌, ℕ, Option, All, IfErr, IfOk, IfSome, IsTrue, OnOk, length, map, option_map};
+ghost use Rattle.std.specs.Prelude.{◌≡◌, ◌≤◌, ◌++◌, ◌↔◌, ℕ, List, Option, All, IfErr, IfOk, IfSome, IsTrue, OnOk, length, map, option_map};
 
 use crate::coded::read_code;
-use crate::no_eols::tell_alone;
 use crate::options::PageForm;
 use crate::own_widths::{first_line, two_dim_width};
 use crate::source::{FoundPage, OrderedOctets, Results, turned_lsb};
+use crate::unread::tell_unread_by;
 use faults::{FaultKind, NO_MEMORY, ToolFault};
 use page_code::{Coding, OneDim, RepairedPage};
 use raster::MAX_WIDTH;
@@ -674,51 +674,58 @@ pub(crate) fn identity_of(format: Option<&str>, octets: &[u8], tried: &[Tried]) 
     }
 }
 
-/// Writes what is said of octets that are nothing that is known: how far each way came, and what they may be that isn't read.
+/// Writes what is said of octets that are nothing that is known: what they are that isn't read, and how far each way came.
 fn tell_nothing<W: Write>(
+    alloc: Global,
     octets: &[u8],
     tried: &[Tried],
     said: Said,
     writer: &mut W,
 ) -> Result<(), ToolFault>
-    ensures told { OnOk result ((msb lsb : Option ℕ) × AreTwoDim octets.now msb lsb
-        × Appends (W.contents writer.old) (W.contents writer.new) (nothing_lines octets.now tried.now said msb lsb)) }
+    ensures told { OnOk result ((unread : List ℕ) × UnreadBy octets.now tried.now said unread
+        × Appends (W.contents writer.old) (W.contents writer.new)
+        (unread ++ lines_of Fit.Begun octets.now tried.now)) }
     ensures fault { IfErr result IsOutside }
 {
+    tell_unread_by(alloc, octets, tried, said, writer)?;
     // octets of no fax at all have a few rows of T.6 by chance, so these lines don't say that it is a page
     tell_those(Fit::Begun, octets, tried, writer)?;
-    tell_wide(Order::MsbFirst, said.msb, writer)?;
-    tell_wide(Order::LsbFirst, said.lsb, writer)?;
-    tell_two_dim(octets, Order::MsbFirst, said.msb, tried, writer)?;
-    tell_two_dim(octets, Order::LsbFirst, said.lsb, tried, writer)?;
     Ok(())
+}
+
+/// What was found of octets by all ways.
+#[derive(Clone, Copy)]
+struct TriedWays<'a> {
+    tried: &'a [Tried],
+    said: Said,
 }
 
 /// Writes what is said besides, after the lines of the ways.
 fn tell_identity<W: Write>(
+    alloc: Global,
     identity: Identity,
     octets: &[u8],
-    tried: &[Tried],
-    said: Said,
+    ways: TriedWays<'_>,
     writer: &mut W,
 ) -> Result<(), ToolFault>
-    ensures told { OnOk result (TellsIdentity octets.now tried.now said identity (W.contents writer.old) (W.contents writer.new)) }
+    ensures told { OnOk result (TellsIdentity octets.now ways.entry.tried.now ways.entry.said identity
+        (W.contents writer.old) (W.contents writer.new)) }
     ensures fault { IfErr result IsOutside }
 {
     match identity {
         Identity::Known => {}
         Identity::Several => writeln!(writer, "the width is not known")?,
-        Identity::Nothing(_fault) => tell_nothing(octets, tried, said, writer)?,
+        Identity::Nothing(_fault) => tell_nothing(alloc, octets, ways.tried, ways.said, writer)?,
     }
     Ok(())
 }
 
 /// Writes the format that octets begin as, if it is known, and a line for each way in which they read as a page: first those without octets
 /// after it, then those without EOFB, then those with octets after it, then those of `decode --repair`. Where several ways read, says that
-/// the width isn't known, unless one of them alone ends with the octets. With neither, writes how far each way reads that has a first row,
-/// a width that no page can have, that it begins as T.4 in two dimensions (if it isn't known as T.4 in this order of bits), and that it is
-/// T.4 without EOLs; then the identity has the fault: `NoPages` (7) if there is no octet, otherwise `Unidentified` (29). Errors:
-/// `Io` (8) from the writer, `NoMemory` (9).
+/// the width isn't known, unless one of them alone ends with the octets. With neither, writes a width that no page can have, that it begins
+/// as T.4 in two dimensions (if it isn't known as T.4 in this order of bits), that it is T.4 without EOLs, and how far each way reads that
+/// has a first row; then the identity has the fault: `NoPages` (7) if there is no octet, otherwise `Unidentified` (29). Errors: `Io` (8)
+/// from the writer, `NoMemory` (9).
 pub fn identify_engine<W: Write>(
     alloc: Global,
     octets: &[u8],
@@ -737,7 +744,10 @@ pub fn identify_engine<W: Write>(
     tell_those(Fit::Early, octets, &tried, writer)?;
     tell_those(Fit::Mended, octets, &tried, writer)?;
     let identity = identity_of(format, octets, &tried);
-    tell_identity(identity, octets, &tried, said, writer)?;
-    tell_alone(alloc, octets, identity, writer)?;
+    let ways = TriedWays {
+        tried: &tried,
+        said,
+    };
+    tell_identity(alloc, identity, octets, ways, writer)?;
     Ok(identity)
 }

@@ -1,14 +1,15 @@
 //! Pages of T.4 without EOLs, as a TIFF of compression 2 has them: each row begins with an octet. They aren't read, but named.
 
 ghost use Rattle.faults.specs.Faults.{IsOutside};
-ghost use Rattle.page_files.specs.Identified.{TellsAlone, no_eols_line, tried_widths};
+ghost use Rattle.page_files.specs.Identified.{no_eols_line, no_eols_text, tried_widths};
 ghost use Rattle.page_files.specs.NoEols.{AreRowsAlone, FirstAlone};
+ghost use Rattle.page_files.specs.Unread.{AreNoEols, no_eols_in, rows_line};
 ghost use Rattle.raster.specs.Packed.{bits_of};
 ghost use Rattle.raster.specs.Pixels.{IsWidth};
 ghost use Rattle.std.specs.Io.KnownBytes.{Appends};
 ghost use Rattle.std.specs.Prelude.{◌≡◌, ℕ, Option, All, IfErr, IfOk, OnOk, option_map};
 
-use crate::identify::{Identity, WIDTHS, order_name};
+use crate::identify::{WIDTHS, order_name};
 use faults::{NO_MEMORY, ToolFault};
 use raster::MAX_ROWS;
 use run_tables::{BitReader, Order};
@@ -78,6 +79,25 @@ fn first_alone(
     Ok(None)
 }
 
+/// Writes the line of so many rows of T.4 without EOLs of this width.
+fn tell_rows<W: Write>(
+    order: Order,
+    width: u32,
+    rows: usize,
+    writer: &mut W,
+) -> Result<(), ToolFault>
+    ensures told { OnOk result
+        (Appends (W.contents writer.old) (W.contents writer.new) (no_eols_text order width rows)) }
+    ensures fault { IfErr result IsOutside }
+{
+    let order = order_name(order);
+    writeln!(
+        writer,
+        "T.4 without EOLs (TIFF compression 2), {order}, width {width}, {rows} rows: not read; try tiffcp -c g4 on its TIFF"
+    )?;
+    Ok(())
+}
+
 /// Writes the line of rows of T.4 without EOLs, if there are any.
 fn tell_first<W: Write>(order: Order, first: Option<Alone>, writer: &mut W) -> Result<(), ToolFault>
     ensures told { OnOk result (Appends (W.contents writer.old) (W.contents writer.new)
@@ -85,13 +105,7 @@ fn tell_first<W: Write>(order: Order, first: Option<Alone>, writer: &mut W) -> R
     ensures fault { IfErr result IsOutside }
 {
     match first {
-        Some(Alone { width, rows }) if rows > 0 => {
-            let order = order_name(order);
-            writeln!(
-                writer,
-                "T.4 without EOLs (TIFF compression 2), {order}, width {width}, {rows} rows: not read; try tiffcp -c g4 on its TIFF"
-            )?;
-        }
+        Some(Alone { width, rows }) if rows > 0 => tell_rows(order, width, rows, writer)?,
         _ => {}
     }
     Ok(())
@@ -114,23 +128,46 @@ pub(crate) fn tell_order<W: Write>(
     Ok(())
 }
 
-/// Writes a line for each order of bits in which octets that are nothing known are rows of T.4 without EOLs. Errors: `Io` (8) from the
-/// writer, `NoMemory` (9).
-pub(crate) fn tell_alone<W: Write>(
-    alloc: Global,
-    octets: &[u8],
-    identity: Identity,
-    writer: &mut W,
-) -> Result<(), ToolFault>
-    ensures told { OnOk result (TellsAlone octets.now identity (W.contents writer.old) (W.contents writer.new)) }
+/// Rows of T.4 without EOLs.
+#[derive(Clone, Copy, Debug, PartialEq, Eq)]
+pub struct NoEols {
+    /// The order of bits in which octets are such rows.
+    pub order: Order,
+    /// The width in pixels.
+    pub width: u32,
+    /// How many there are, above 0.
+    pub rows: usize,
+}
+
+/// Returns these rows with this order of bits, if there are any.
+fn no_eols_in(order: Order, first: Option<Alone>) -> Option<NoEols>
+    ensures { result ≡ no_eols_in order (option_map (λ alone. (alone.width, alone.rows)) first) }
+{
+    match first {
+        Some(Alone { width, rows }) if rows > 0 => Some(NoEols { order, width, rows }),
+        Some(_) | None => None,
+    }
+}
+
+/// Returns which rows of T.4 without EOLs octets are, if they are such rows of a width that `identify` tries, and nothing else. Errors:
+/// `NoMemory` (9).
+pub fn no_eols_of(alloc: Global, octets: &[u8]) -> Result<Option<NoEols>, ToolFault>
+    ensures rows { IfOk result (AreNoEols octets.now) }
     ensures fault { IfErr result IsOutside }
 {
-    match identity {
-        Identity::Known | Identity::Several => {}
-        Identity::Nothing(_fault) => {
-            tell_order(alloc, octets, Order::MsbFirst, writer)?;
-            tell_order(alloc, octets, Order::LsbFirst, writer)?;
-        }
+    let msb = first_alone(alloc, octets, Order::MsbFirst, &WIDTHS)?;
+    let lsb = first_alone(alloc, octets, Order::LsbFirst, &WIDTHS)?;
+    match no_eols_in(Order::MsbFirst, msb) {
+        Some(said) => Ok(Some(said)),
+        None => Ok(no_eols_in(Order::LsbFirst, lsb)),
     }
-    Ok(())
+}
+
+/// Writes the line of rows of T.4 without EOLs, as `identify_engine` does. Errors: `Io` (8) from the writer.
+pub fn tell_no_eols<W: Write>(said: NoEols, writer: &mut W) -> Result<(), ToolFault>
+    ensures told { OnOk result
+        (Appends (W.contents writer.old) (W.contents writer.new) (rows_line said)) }
+    ensures fault { IfErr result IsOutside }
+{
+    tell_rows(said.order, said.width, said.rows, writer)
 }

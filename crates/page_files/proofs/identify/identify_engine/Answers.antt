@@ -19,7 +19,6 @@ returns-clause-identified g c =
       own = c.in_ok-results.said;
       are_tried = c.in_ok-results.ensures.tried;
       between = contents c.tell_those-4.new.writer;
-      last = contents c.tell_identity.new.writer;
       written = Appends-trans _ _ _ _ _
           (subst (λ (name : Option (List ℕ)). Appends (contents c.args.writer.now) (contents c.tell_format.new.writer) (format_line name))
           c.format_of-format.ensures c.in_ok-tell_format.ensures.told)
@@ -35,6 +34,5 @@ returns-clause-identified g c =
           (subst (lines Mended (contents c.tell_those-3.new.writer) (contents c.tell_those-4.new.writer)) c.deref-4.ensures.value
           c.in_ok-tell_those-4.ensures.told))));
       tells = search rules;
-      tells_alone = search rules;
       identity_is = search rules;
     }

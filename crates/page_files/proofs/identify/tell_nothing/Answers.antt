@@ -4,11 +4,5 @@ use Rattle.page_files.proofs.identify.tell_nothing.Goals as goal
 
 pub returns-clause-told : goal.returns-clause-told
 returns-clause-told g c =
-    let msb = c.in_ok-tell_two_dim.ensures.told in
-    let lsb = c.in_ok-tell_two_dim-2.ensures.told in (
-      msb.0,
-      lsb.0,
-      (msb.1, lsb.1),
-      Appends-trans _ _ _ _ _ c.in_ok-tell_those.ensures.told (Appends-trans _ _ _ _ _ c.in_ok-tell_wide.ensures.told
-          (Appends-trans _ _ _ _ _ c.in_ok-tell_wide-2.ensures.told (Appends-trans _ _ _ _ _ msb.2 lsb.2))),
-    )
+    let unread = c.in_ok-tell_unread_by.ensures.told in
+    (unread.0, unread.1, Appends-trans _ _ _ _ _ unread.2 c.in_ok-tell_those.ensures.told)

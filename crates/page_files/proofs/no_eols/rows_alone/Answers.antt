@@ -3,7 +3,7 @@ use Rattle.std.proofs.Common.{arith, inl, inr, rules, subst}
 use Rattle.run_tables.specs.Reading.{Reading, rest_of}
 use Rattle.run_tables.specs.RowLaws.{ReadsAsRow}
 use Rattle.run_tables.specs.RowReading.{RefusesRow}
-use Rattle.page_files.proofs.NoEols.{has_row}
+use Rattle.page_files.proofs.RowsAlone.{has_row}
 use Rattle.page_files.proofs.OwnWidths.{length-bits}
 use Rattle.page_files.proofs.no_eols.rows_alone.Goals as goal
 
