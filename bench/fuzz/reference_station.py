@@ -293,6 +293,8 @@ class Ending:
         self.station, self.waits, self.ear = station, waits, Ear()
         self.turn, self.cut, self.number, self.at = SILENT, None, 0, 0
         self.quiet_from, self.heard_from, self.spoken = None, 0, None
+        # the numbers of the lines whose frames it heard
+        self.heard_lines = set()
         # how many milliseconds the call lasts at most, 0 for any; and whether it has lasted as long
         self.most, self.late = 0, False
 
@@ -376,6 +378,7 @@ class Ending:
 
     def hear(self, said):
         """Each good frame of a burst, in order. A station that has something to send hears DCN alone."""
+        self.heard_lines.add(self.number)
         for content in self.ear.contents(said.octets):
             self.see(content)
             self.heard_from = said.at
@@ -428,7 +431,7 @@ class Answering(Ending):
     def __init__(self, caps, limit, waits, store, refuses=True):
         super().__init__(StationAnswerer(caps, limit), waits)
         self.store, self.has_begun, self.stored, self.failed = store, False, 0, None
-        self.refuses, self.by_v21, self.reasons, self.last_pps = refuses, Ear(), [], None
+        self.refuses, self.reasons, self.last_pps = refuses, [], None
         # the last page number, and whether one didn't follow that before it
         self.last_page, self.has_gap = None, False
         # the block that was accepted last, whether an FCD came since, and then its PPS
@@ -440,8 +443,6 @@ class Answering(Ending):
         if self.used != self.station.accepted:
             self.used, self.has_frames = self.station.accepted, False
         self.listen(said)
-        if (said.carrier, said.kind) == ("v21", "hdlc"):
-            self.note(self.by_v21.contents(said.octets))
         if self.refusal() and not self.name():
             self.stop()
             self.cut = "refused"
@@ -453,7 +454,8 @@ class Answering(Ending):
         return self.reasons[1] if self.refuses and len(self.reasons) > 1 else None
 
     def see(self, content):
-        """The DCSs that aren't allowed, gaps in the numbers of pages, and frames under those of the last block."""
+        """The DCSs that aren't allowed, gaps in the numbers of pages, frames under those of the last block, and the last PPS, but for one that
+        repeats a confirmed block."""
         why, signal = refusal_of(content, self.station.caps), read_signal(content)
         self.reasons += [why] if why else []
         if signal and signal[0] == "PPS":
@@ -461,14 +463,9 @@ class Answering(Ending):
             self.has_gap |= page not in ((0,) if self.last_page is None else (self.last_page, (self.last_page + 1) % 256))
             self.last_page = page
             self.is_reused |= self.has_frames and signal[2] == self.used
-        self.has_frames |= bool(signal) and signal[0] == "FCD"
-
-    def note(self, contents):
-        """The last PPS by V.21, but for one that repeats a confirmed block."""
-        for content in contents:
-            signal = read_signal(content)
-            if signal and signal[0] == "PPS" and (self.spoken != "MCF" or not self.last_pps or self.last_pps[1] != signal[2]):
+            if self.spoken != "MCF" or not self.last_pps or self.last_pps[1] != signal[2]:
                 self.last_pps = signal[1:3]
+        self.has_frames |= bool(signal) and signal[0] == "FCD"
 
     def is_whole(self):
         """Whether the last block ended with EOP and was answered by MCF, and no page number was passed over."""
