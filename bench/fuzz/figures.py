@@ -1,8 +1,9 @@
 """What a call of `faxtool station` came to: a second reading of the figures that it tells at its end, apart from the program.
 
 They are counted from the lines in and out of one conversation alone, by docs/STATION.md and T.30. What was heard are the good frames of
-V.21 of the lines in, by an answerer from its first DIS on; what was said are those of the lines out. FCD and RCP count as nothing, by
-whatever carrier they come. `figures_of` counts, `words_of` and
+the lines in that the station hears: those of V.21, by an answerer from its first DIS on, and those of the page's carrier while it takes
+blocks; reference_station.py knows these lines. What was said are the frames of the lines out. FCD and RCP count as nothing, by whatever
+carrier they come. `figures_of` counts, `words_of` and
 `record_of` are the line of words and the JSON object, and `told_of` adds the line to what else is told at the end."""
 
 import json
@@ -31,14 +32,19 @@ def framed(content):
     return FLAG + stuffed(bits_of(content + check_sequence(content))) + FLAG
 
 
-def v21_octets(burst):
-    """The octets of a burst of frames by V.21, after `rx T` or `tx`; none of another one."""
-    carrier, kind, *rest = burst.split(" ")
-    if carrier != "v21" or kind == "raw":
+def frame_octets(burst):
+    """The octets of a burst of frames, after `rx T` or `tx`; none of a training check."""
+    _carrier, kind, *rest = burst.split(" ")
+    if kind == "raw":
         return b""
     if kind == "frames":
         return octets_of("".join(framed(bytes.fromhex(content)) for content in rest)) if rest else b""
     return bytes.fromhex(rest[1])
+
+
+def v21_octets(burst):
+    """The octets of a burst of frames by V.21; none of another one."""
+    return frame_octets(burst) if burst.startswith("v21 ") else b""
 
 
 def name_of(fields):
@@ -112,23 +118,25 @@ def turns(lines, answers):
             return
 
 
-def contents_of(lines, answers, calls):
-    """The contents by V.21 of a conversation in order, each with whether it was said."""
+def contents_of(lines, answers, calls, heard):
+    """The contents of a conversation in order, each with whether it was said. `heard` has the numbers, from 1, of the lines in whose frames
+    the station heard; None if it heard those by V.21 alone."""
     ear, mouth, hears = Ear(), Ear(), calls
-    for line, said in turns(lines, answers):
+    for number, (line, said) in enumerate(turns(lines, answers), 1):
         word, time, *rest = line.split(" ", 2)
-        if word == "rx" and hears:
-            yield from ((False, content) for content in ear.contents(v21_octets(rest[0])))
+        if word == "rx" and (hears if heard is None else number in heard):
+            octets = v21_octets(rest[0]) if heard is None else frame_octets(rest[0])
+            yield from ((False, content) for content in ear.contents(octets))
         hears |= word == "quiet" and int(time) >= FIRST_DIS
         for burst in said:
             if burst.startswith("tx "):
                 yield from ((True, content) for content in mouth.contents(v21_octets(burst[3:])))
 
 
-def figures_of(lines, answers, calls):
-    """The figures of a conversation; `left_out` is the name of the last frame heard, if it is no signal of the stations."""
+def figures_of(lines, answers, calls, heard=None):
+    """The figures of a conversation, of which `heard` says what `contents_of` says of it; `left_out` is the name of the last frame heard, if it is no signal of the stations."""
     count = Count()
-    for is_said, content in contents_of(lines, answers, calls):
+    for is_said, content in contents_of(lines, answers, calls, heard):
         (count.said if is_said else count.heard)(content)
     at = max([int(line.split(" ")[1]) for line, _ in turns(lines, answers)], default=0)
     figures = {name: getattr(count, name) for name in "blocks failed_checks left_out peer pprs resent retries".split()}

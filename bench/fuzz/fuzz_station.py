@@ -77,7 +77,7 @@ class Spoken:
         return "".join(line + "\n" for line in self.answers), "".join(line + "\n" for line in told), status, self.pages
 
     def figures(self):
-        return figures_of(self.lines, self.answers, "--call" in self.words)
+        return figures_of(self.lines, self.answers, "--call" in self.words, self.end.heard_lines)
 
 
 def random_waits(rand):

@@ -293,6 +293,8 @@ class Ending:
         self.station, self.waits, self.ear = station, waits, Ear()
         self.turn, self.cut, self.number, self.at = SILENT, None, 0, 0
         self.quiet_from, self.heard_from, self.spoken = None, 0, None
+        # the numbers of the lines whose frames it heard
+        self.heard_lines = set()
         # how many milliseconds the call lasts at most, 0 for any; and whether it has lasted as long
         self.most, self.late = 0, False
 
@@ -376,6 +378,7 @@ class Ending:
 
     def hear(self, said):
         """Each good frame of a burst, in order. A station that has something to send hears DCN alone."""
+        self.heard_lines.add(self.number)
         for content in self.ear.contents(said.octets):
             self.see(content)
             self.heard_from = said.at
@@ -423,40 +426,46 @@ class Calling(Ending):
 
 class Answering(Ending):
     """`store(page)` writes a page's PBM, and errs with OSError where it can't. The call is stopped at the second DCS that isn't allowed,
-    unless it `refuses` none."""
+    unless it `refuses` none, and at a PPS of the block that was accepted last, if an FCD came since: it repeats that PPS no more."""
 
     def __init__(self, caps, limit, waits, store, refuses=True):
         super().__init__(StationAnswerer(caps, limit), waits)
         self.store, self.has_begun, self.stored, self.failed = store, False, 0, None
-        self.refuses, self.by_v21, self.reasons, self.last_pps = refuses, Ear(), [], None
+        self.refuses, self.reasons, self.last_pps = refuses, [], None
         # the last page number, and whether one didn't follow that before it
         self.last_page, self.has_gap = None, False
+        # the block that was accepted last, whether an FCD came since, and then its PPS
+        self.used, self.has_frames, self.is_reused = None, False, False
 
     def rx(self, said):
         if not self.has_begun:
             return
+        if self.used != self.station.accepted:
+            self.used, self.has_frames = self.station.accepted, False
         self.listen(said)
-        if (said.carrier, said.kind) == ("v21", "hdlc"):
-            self.note(self.by_v21.contents(said.octets))
-        if self.refuses and len(self.reasons) > 1 and not self.name():
+        if self.refusal() and not self.name():
             self.stop()
             self.cut = "refused"
 
+    def refusal(self):
+        """Why the call is refused, or None."""
+        if self.is_reused:
+            return "a page came under the number of the last one"
+        return self.reasons[1] if self.refuses and len(self.reasons) > 1 else None
+
     def see(self, content):
-        """The DCSs that aren't allowed, and gaps in the numbers of pages."""
+        """The DCSs that aren't allowed, gaps in the numbers of pages, frames under those of the last block, and the last PPS, but for one that
+        repeats a confirmed block."""
         why, signal = refusal_of(content, self.station.caps), read_signal(content)
         self.reasons += [why] if why else []
         if signal and signal[0] == "PPS":
             page = signal[2][0]
             self.has_gap |= page not in ((0,) if self.last_page is None else (self.last_page, (self.last_page + 1) % 256))
             self.last_page = page
-
-    def note(self, contents):
-        """The last PPS by V.21, but for one that repeats a confirmed block."""
-        for content in contents:
-            signal = read_signal(content)
-            if signal and signal[0] == "PPS" and (self.spoken != "MCF" or not self.last_pps or self.last_pps[1] != signal[2]):
+            self.is_reused |= self.has_frames and signal[2] == self.used
+            if self.spoken != "MCF" or not self.last_pps or self.last_pps[1] != signal[2]:
                 self.last_pps = signal[1:3]
+        self.has_frames |= bool(signal) and signal[0] == "FCD"
 
     def is_whole(self):
         """Whether the last block ended with EOP and was answered by MCF, and no page number was passed over."""
@@ -499,7 +508,7 @@ class Answering(Ending):
     def last_line(self):
         name, why = self.name() or "line-lost", self.reason()
         if name == "refused":
-            why = f"the call is refused: {self.reasons[1]}\n"
+            why = f"the call is refused: {self.refusal()}\n"
         if name == "normal" and self.spoken != "MCF":
             name, why = "peer-left", "the caller left before its last page was confirmed\n"
         return f"{why}end {name} pages {self.stored}"
@@ -704,6 +713,15 @@ ANSWERED = [
     (("rx 16000", "v21", [DCN]), []),
     "end normal pages 1",
 ]
+# A repeated PPS is confirmed again; after an FCD it is of a page that isn't there.
+REUSED = ANSWERED[:-3] + [
+    (("rx 15500", PAGE, [RCP, RCP, RCP]), []),
+    (("rx 16000", "v21", [LAST]), [("v21", [MCF])]),
+    (("rx 17000", "v21", WHITE_BURST), []),
+    (("rx 18000", "v21", [RR]), []),
+    (("rx 19000", "v21", [LAST]), [("v21", ["FF13FA"])]),
+    "the call is refused: a page came under the number of the last one\nend refused pages 1",
+]
 CALLED = [
     ("quiet 34000", []),
     (("rx 34900", "v21", [DIS]), [("v21", [DCS]), (PAGE, CHECK)]),
@@ -748,9 +766,9 @@ def try_worked(end, worked):
 
 def dry():
     pages, wish = [(1728, [[]])], Wish("v17", 256, False, True)
-    for worked in (ANSWERED, CALLED, SENT_WELL, UNANSWERED):
+    for worked in (ANSWERED, REUSED, CALLED, SENT_WELL, UNANSWERED):
         end = Calling(pages, wish, WAITS)
-        if worked is ANSWERED:
+        if worked in (ANSWERED, REUSED):
             end = Answering(Caps("v17", True, 2432, True, True, True), 2, WAITS, lambda octets: None)
         wrong = try_worked(end, worked)
         if wrong:
@@ -766,7 +784,7 @@ def dry():
         if octets_of(prescribed(rows, width, is_t6)) != (data / name).read_bytes():
             print(f"the page is coded otherwise than in {name}")
             return 1
-    print(f"4 worked conversations and {len(NO_LINES)} wrong lines are answered")
+    print(f"5 worked conversations and {len(NO_LINES)} wrong lines are answered")
     return 0
 
 

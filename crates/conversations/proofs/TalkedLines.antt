@@ -13,7 +13,7 @@ use Rattle.conversations.specs.Reading.{TakesPart}
 use Rattle.conversations.specs.Talking.{AnswersFollowed, Following, IsNoAnswer, KeepsLine, Keeping, is_refused}
 use Rattle.terminals.specs.Speaking.{BurstsOf}
 use Rattle.conversations.specs.declared.talking.AnswerFault.{AnswerFault}
-use Rattle.conversations.specs.declared.talking.AnswerFault.TheVariants.{NoLine, NotHeld, OutOfTime, NoMemory, Writer, Follower}
+use Rattle.conversations.specs.declared.talking.AnswerFault.TheVariants.{NoLine, NotHeld, OutOfTime, NoMemory, Writer}
 
 -- lines were answered, and the one of a number comes
 pub record IsTalking {S K : Type 0} (t : Talker S K) (first now : TalkState S K) (number : ℕ) : Type 0 where
@@ -101,15 +101,14 @@ same_state input c d k l o p e f h =
     ap (λ x. talk_state input x k o) e ∙ (ap (λ x. talk_state input d x o) f ∙ ap (λ x. talk_state input d l x) h)
 
 -- an answer failed after what the line brought was kept
-pub broken_late : {S K F : Type 0} (b : Behaviour S) (k : Keeping S K) (lends : BurstsOf S) (line : List ℕ) (old new : ConversationFields S)
-    (keeper kept_in : K) (before after : Option (List ℕ)) (fault : AnswerFault F) → is_refused fault ≡ false →
+pub broken_late : {S K : Type 0} (b : Behaviour S) (k : Keeping S K) (lends : BurstsOf S) (line : List ℕ) (old new : ConversationFields S)
+    (keeper kept_in : K) (before after : Option (List ℕ)) (fault : AnswerFault) → is_refused fault ≡ false →
     KeepsLine S K b k lends line old new keeper kept_in before after → IsNoAnswer b k lends line old new keeper kept_in before after fault
 broken_late b k lends line old new keeper kept_in before after NoLine late h = cc late
 broken_late b k lends line old new keeper kept_in before after NotHeld late h = cc late
 broken_late b k lends line old new keeper kept_in before after OutOfTime late h = cc late
 broken_late b k lends line old new keeper kept_in before after NoMemory late h = inr h
 broken_late b k lends line old new keeper kept_in before after (Writer kind) late h = inr h
-broken_late b k lends line old new keeper kept_in before after (Follower why) late h = inr h
 
 -- the next line can't be read whole
 pub unread : {S K : Type 0} (t : Talker S K) (first : TalkState S K) (input later output : Option (List ℕ)) (c : ConversationFields S) (k : K)
@@ -134,8 +133,8 @@ unread_so t first input later output c k number line h (inr more) =
     unread t first input later output c k number (line ++ more.0 ∷ []) h more.1
 
 -- a line isn't answered
-pub stopped : {S K W F : Type 0} (t : Talker S K) (first : TalkState S K) (input later : Option (List ℕ)) (c d : ConversationFields S)
-    (k l : K) (v w : W) (contents : W → Option (List ℕ)) (number : ℕ) (line : List ℕ) (fault : AnswerFault F) →
+pub stopped : {S K W : Type 0} (t : Talker S K) (first : TalkState S K) (input later : Option (List ℕ)) (c d : ConversationFields S)
+    (k l : K) (v w : W) (contents : W → Option (List ℕ)) (number : ℕ) (line : List ℕ) (fault : AnswerFault) →
     IsTalking t first (talk_state input c k (contents v)) number → ReadsLine input later line →
     IsNoAnswer t.station t.keeping t.lends line c d k l (contents v) (contents w) fault →
     (is_refused fault ≡ true → (d ≡ c) × (l ≡ k) × (w ≡ v)) → StopsSo t first (talk_state later d l (contents w)) (unanswered fault number)
@@ -179,12 +178,6 @@ stopped t first input later c d k l v w contents number line NoMemory h read non
   breaks = (line, read, none);
 }))
 stopped t first input later c d k l v w contents number line (Writer kind) h read none same = record {
-  lines = h.lines;
-  last = talk_state input c k (contents v);
-  answered = h.answered;
-  breaks = (line, read, none);
-}
-stopped t first input later c d k l v w contents number line (Follower why) h read none same = record {
   lines = h.lines;
   last = talk_state input c k (contents v);
   answered = h.answered;

@@ -3,17 +3,18 @@ use Rattle.std.proofs.Common.{◌≡◌, ◌∙◌, ◌++◌, ◌∷◌, List, [
 use Rattle.std.proofs.lemmas.List.{append-nil}
 use Rattle.std.proofs.KnownBytes.{Appends-trans}
 use Rattle.std.specs.Io.KnownBytes.{Appends}
-use Rattle.std.specs.Prelude.{◌↔◌, ℕ, IsSome, IsTrue, Bool, true, false, Option, Some, None, Result, Ok, Err, OnOk, flat_map, is_none, is_ok, is_some}
+use Rattle.std.specs.Prelude.{◌↔◌, ℕ, IsSome, IsTrue, Bool, true, false, Option, Some, None, Ok, Err, flat_map, is_none, is_some}
 use Rattle.hdlc.specs.DeframerState.{DeframerState}
 use Rattle.conversations.proofs.Written.{part_after}
 use Rattle.conversations.specs.Conversations.{ConversationFields, SendsIfBegun, next_quiet}
-use Rattle.conversations.specs.Talking.{Following, GivesAll, GivesNext, GivesSome, NotesBursts, Withholds, WritesFollowed, WritesPart}
+use Rattle.conversations.specs.Talking.{GivesAll, GivesNext, GivesSome, SeesBursts, Withholds, WritesFollowed, WritesPart}
 use Rattle.conversations.specs.Talking.{rest_text}
 use Rattle.conversations.specs.Writing.{AppendsPart, burst_line, on_lines, rest_lines}
 use Rattle.conversations.specs.declared.writing.Says.{Says}
 use Rattle.signals.specs.declared.signal.Side.{Side}
 use Rattle.terminals.specs.Runs.{TerminalFields}
 use Rattle.terminals.specs.Speaking.{BurstsOf, Speaking}
+use Rattle.terminals.specs.Watching.{SawSent, SeesSaid}
 use Rattle.terminals.specs.declared.sending.SentBurst.{SentBurst}
 use Rattle.terminals.specs.declared.stopping.Shown.{Shown}
 
@@ -61,17 +62,37 @@ gives_end : {S : Type 0} (side : Side) (lends : BurstsOf S) (done : List SentBur
 gives_end {S} side lends [] first now new is none = subst (λ (c : ConversationFields S). GivesNext side lends c None new) is none
 gives_end side lends (x ∷ done) first now new is none = (is.0, is.1, gives_end side lends done is.0 now new is.2 none)
 
--- some bursts were given and written, and a follower noted each
-abbrev pub IsNoting : {S F : Type 0} → Following F → ℕ → F → F → Bool → Side → BurstsOf S → ConversationFields S → ConversationFields S →
+-- a burst that is given was seen
+abbrev pub Saw : {S F : Type 0} → SeesSaid F → Side → BurstsOf S → ConversationFields S → F → SentBurst → F → Type 0
+Saw saw side lends c old burst new =
+    SawSent {E = Unit {0}} saw side lends c.terminal.speaking old new (Ok (Some burst))
+
+-- the burst that is given was seen, and no more is noted
+pub saw_burst : {S F : Type 0} (E : Type 0) (saw : SeesSaid F) (side : Side) (lends : BurstsOf S) (c : ConversationFields S) (old seen last : F)
+    (sent : Option SentBurst) (burst : SentBurst) → SawSent {E = E} saw side lends c.terminal.speaking old seen (Ok sent) →
+    sent ≡ Some burst → last ≡ seen → Saw saw side lends c old burst last
+saw_burst E saw side lends c old seen last None burst is e same = cc e
+saw_burst {S} {F} E saw side lends c old seen last (Some x) burst is e same =
+    subst (λ (v : F). Saw saw side lends c old burst v) (sym same)
+    (subst (λ (sent : Option SentBurst). SawSent {E = Unit {0}} saw side lends c.terminal.speaking old seen (Ok sent)) e is)
+
+-- where none is given none was
+pub saw_none : {S F : Type 0} (E : Type 0) (saw : SeesSaid F) (side : Side) (lends : BurstsOf S) (c : ConversationFields S) (old seen : F)
+    (sent : Option SentBurst) → SawSent {E = E} saw side lends c.terminal.speaking old seen (Ok sent) → sent ≡ None → seen ≡ old
+saw_none E saw side lends c old seen None is e = is
+saw_none E saw side lends c old seen (Some x) is e = cc e
+
+-- some bursts were given and written, and a follower saw each
+abbrev pub IsSeeing : {S F : Type 0} → SeesSaid F → F → F → Bool → Side → BurstsOf S → ConversationFields S → ConversationFields S →
     Option (List ℕ) → Option (List ℕ) → Type 0
-IsNoting f at began noted frames side lends first now before here =
-    (way : IsGiving frames side lends first now before here) × NotesBursts f at began way.done noted
+IsSeeing saw began noted frames side lends first now before here =
+    (way : IsGiving frames side lends first now before here) × SeesBursts saw side lends first way.done now began noted
 
 -- before the first burst
-pub begins_giving : {S F : Type 0} (f : Following F) (at : ℕ) (began : F) (frames : Bool) (side : Side) (lends : BurstsOf S)
+pub begins_giving : {S F : Type 0} (saw : SeesSaid F) (began : F) (frames : Bool) (side : Side) (lends : BurstsOf S)
     (first : ConversationFields S) (before : Option (List ℕ)) → Appends before before [] →
-    IsNoting f at began began frames side lends first first before before
-begins_giving f at began frames side lends first before nothing = (record { done = []; some = refl; written = nothing }, refl)
+    IsSeeing saw began began frames side lends first first before before
+begins_giving saw began frames side lends first before nothing = (record { done = []; some = refl; written = nothing }, (refl, refl))
 
 flat_push : (line : SentBurst → List ℕ) (xs : List SentBurst) (x : SentBurst) →
     flat_map line (xs ++ x ∷ []) ≡ flat_map line xs ++ line x
@@ -79,19 +100,29 @@ flat_push line [] x = append-nil (line x)
 flat_push line (y ∷ xs) x =
     ap (λ (l : List ℕ). line y ++ l) (flat_push line xs x) ∙ sym (append_assoc (line y) (flat_map line xs) (line x))
 
--- one burst more is noted
-pub notes_more : {F : Type 0} (f : Following F) (at : ℕ) (first now next : F) (done : List SentBurst) (burst : SentBurst) →
-    NotesBursts f at first done now → f.says now at burst next → NotesBursts f at first (done ++ burst ∷ []) next
-notes_more {F} f at first now next [] burst is says = (next, subst (λ (v : F). f.says v at burst next) is says, refl)
-notes_more f at first now next (x ∷ done) burst is says = (is.0, is.1, notes_more f at is.0 now next done burst is.2 says)
+-- one burst more is seen
+sees_more : {S F : Type 0} (saw : SeesSaid F) (side : Side) (lends : BurstsOf S) (first now next : ConversationFields S) (began seen last : F)
+    (done : List SentBurst) (burst : SentBurst) → SeesBursts saw side lends first done now began seen →
+    GivesNext side lends now (Some burst) next → Saw saw side lends now seen burst last →
+    SeesBursts saw side lends first (done ++ burst ∷ []) next began last
+sees_more {S} {F} saw side lends first now next began seen last [] burst is gives one = (
+  next,
+  last,
+  subst (λ (c : ConversationFields S). GivesNext side lends c (Some burst) next) is.0 gives,
+  subst (λ (c : ConversationFields S). Saw saw side lends c began burst last) is.0
+      (subst (λ (v : F). Saw saw side lends now v burst last) is.1 one),
+  (refl, refl),
+)
+sees_more saw side lends first now next began seen last (x ∷ done) burst is gives one =
+    (is.0, is.1, is.2, is.3, sees_more saw side lends is.0 now next is.1 seen last done burst is.4 gives one)
 
--- one burst more is given and written, and noted
-pub one_given : {S F : Type 0} (f : Following F) (at : ℕ) (began noted next_noted : F) (frames : Bool) (side : Side) (lends : BurstsOf S)
+-- one burst more is given and written, and seen
+pub one_given : {S F : Type 0} (saw : SeesSaid F) (began seen last : F) (frames : Bool) (side : Side) (lends : BurstsOf S)
     (first now next : ConversationFields S) (before here after : Option (List ℕ)) (burst : SentBurst) →
-    IsNoting f at began noted frames side lends first now before here → GivesNext side lends now (Some burst) next →
-    Appends here after (burst_line frames burst) → f.says noted at burst next_noted →
-    IsNoting f at began next_noted frames side lends first next before after
-one_given f at began noted next_noted frames side lends first now next before here after burst way gives line says = (
+    IsSeeing saw began seen frames side lends first now before here → GivesNext side lends now (Some burst) next →
+    Appends here after (burst_line frames burst) → Saw saw side lends now seen burst last →
+    IsSeeing saw began last frames side lends first next before after
+one_given saw began seen last frames side lends first now next before here after burst way gives line one = (
   record {
     done = way.0.done ++ burst ∷ [];
     written =
@@ -99,16 +130,16 @@ one_given f at began noted next_noted frames side lends first now next before he
         (Appends-trans before here after (flat_map (burst_line frames) way.0.done) (burst_line frames burst) way.0.written line);
     some = gives_more side lends way.0.done burst first now next way.0.some gives;
   },
-  notes_more f at began noted next_noted way.0.done burst way.1 says,
+  sees_more saw side lends first now next began seen last way.0.done burst way.1 gives one,
 )
 
 -- no burst is left, and what comes after them is written
-pub turn_written : {S F : Type 0} (f : Following F) (at : ℕ) (began noted : F) (side : Side) (lends : BurstsOf S)
+pub turn_written : {S F : Type 0} (saw : SeesSaid F) (began seen last : F) (side : Side) (lends : BurstsOf S)
     (shows : S → Shown → Type 0) (first now new : ConversationFields S) (before here after : Option (List ℕ)) (over : Bool) →
-    IsNoting f at began noted first.says.frames side lends first now before here → GivesNext side lends now None new → (shown : Shown) →
+    IsSeeing saw began seen first.says.frames side lends first now before here → last ≡ seen → GivesNext side lends now None new → (shown : Shown) →
     shows new.terminal.speaking.station shown → (IsTrue over ↔ IsSome shown.end) → Appends here after (rest_text side new shown) →
-    WritesFollowed f side lends shows first new before after at began noted over
-turn_written f at began noted side lends shows first now new before here after over way none shown so is_over rest = (
+    WritesFollowed saw side lends shows first new before after began last over
+turn_written {S} {F} saw began seen last side lends shows first now new before here after over way same none shown so is_over rest = (
   record {
     bursts = way.0.done;
     gives = gives_end side lends way.0.done first now new way.0.some none;
@@ -117,7 +148,8 @@ turn_written f at began noted side lends shows first now new before here after o
     writes =
         Appends-trans before here after (flat_map (burst_line first.says.frames) way.0.done) (rest_text side new shown) way.0.written rest;
   },
-  way.1,
+  now,
+  subst (λ (v : F). SeesBursts saw side lends first way.0.done now began v) (sym same) way.1,
 )
 
 -- what is said after the bursts, of values that are equal
@@ -195,11 +227,3 @@ pub gave_last : {S : Type 0} (side : Side) (lends : BurstsOf S) (first now new :
     HasGiven side lends first now → GivesNext side lends now sent new → is_none sent ≡ true → Withholds side lends first true new
 gave_last side lends first now new None way gives is = (way.0, gives_end side lends way.0 first now new way.1 gives)
 gave_last side lends first now new (Some burst) way gives is = cc is
-
--- ---- what is made of a fault
-
--- what holds of a call that went well, whatever is made of its fault
-pub went_well : {T D E P : Type 0} (called : Result T E) (made : Result T D) → is_ok made ≡ is_ok called → is_ok made ≡ true →
-    OnOk called P → P
-went_well (Ok v) made same is h = h
-went_well (Err e) made same is h = let no : false ≡ true = sym same ∙ is in cc no

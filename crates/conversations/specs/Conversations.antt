@@ -32,7 +32,7 @@ use Rattle.stations.specs.Limiting.{LimitedFields}
 use Rattle.terminals.specs.Stopping.{hung_up, silenced, stopped}
 use Rattle.terminals.specs.Stopping.{with_pages_taken as without_its_pages}
 use Rattle.terminals.specs.Timeouts.{timeout}
-use Rattle.terminals.specs.Watching.{Sees, noted}
+use Rattle.terminals.specs.Watching.{Sees, SeesBy, SeesOne, noted}
 use Rattle.terminals.specs.declared.clock.Clock.{Clock}
 use Rattle.terminals.specs.declared.clock.Durations.{Durations}
 use Rattle.terminals.specs.declared.clock.LineState.{LineState}
@@ -165,6 +165,14 @@ SeesGiven framing losing old new = new ≡ old
 SeesGiven framing (frames octets) old new = Sees framing octets old new
 SeesGiven framing (input x) old new = new ≡ old
 
+-- what another watch saw in what a line gives a terminal: each good frame that its octets completed, and nothing in another input
+abbrev pub SawGiven : {W : Type 0} → SeesOne W → DeframerState → PlainGiven → W → W → Type 0
+SawGiven saw framing nothing old new = new ≡ old
+SawGiven saw framing stopping old new = new ≡ old
+SawGiven saw framing losing old new = new ≡ old
+SawGiven saw framing (frames octets) old new = SeesBy saw framing octets old new
+SawGiven saw framing (input x) old new = new ≡ old
+
 -- octets were heard, but frames among them were lost, since memory was refused
 abbrev pub LosesFrames : {S : Type 0} → Behaviour S → TerminalFields S → PlainGiven → TerminalFields S → Type 0
 LosesFrames b old (frames octets) new = Hears b.steps b.lends old octets new (Err FrameLost)
@@ -224,6 +232,13 @@ pub record TakesLine (S : Type 0) (b : Behaviour S) (old : ConversationFields S)
   pub limit : new.watch.limit ≡ old.watch.limit
   pub late : new.watch.late ≡ (old.watch.late
       || ends_by (timeout (state_of line.said) b.side later new.clock old.durations old.watch.limit))
+
+-- a watch saw each good frame that a line gives the terminal of a conversation, by what its station shows
+pub record SawLine (S W : Type 0) (b : Behaviour S) (saw : SeesOne W) (old : ConversationFields S) (line : TimedLine) (was is : W) :
+    Type 0 where
+  pub shown : Shown
+  pub shows : b.shows old.terminal.speaking.station shown
+  pub saw_so : SawGiven saw old.terminal.framing (gives b old shown line) was is
 
 -- memory was refused at a line: all but the terminal and what is watched is as it was; what is watched has noted the last accepted block, and
 -- seen nothing, unless it heard the line

@@ -7,7 +7,7 @@ use Rattle.conversations.specs.Reading.{TakesPart, TakesTooMany}
 use Rattle.conversations.specs.Reading.{TakesLine as ReadsLine}
 use Rattle.conversations.specs.Talking.{Answers, BreaksOff, Following, Follows, Keeping}
 use Rattle.conversations.specs.declared.conversing.ConverseFault.{ConverseFault}
-use Rattle.conversations.specs.declared.conversing.ConverseFault.TheVariants.{Line, NoMemory, Reader, Writer, Follower, TooManyLines}
+use Rattle.conversations.specs.declared.conversing.ConverseFault.TheVariants.{Line, NoMemory, Reader, Writer, TooManyLines}
 use Rattle.conversations.specs.declared.conversing.Ending.{Ending}
 use Rattle.conversations.specs.declared.conversing.Ending.TheVariants.{Over, Lost, Unkept}
 use Rattle.conversations.specs.declared.line.Said.TheVariants.{End}
@@ -15,7 +15,6 @@ use Rattle.conversations.specs.declared.line.TimedLine.{TimedLine}
 use Rattle.conversations.specs.declared.talking.AnswerFault.{AnswerFault}
 use Rattle.conversations.specs.declared.talking.AnswerFault.TheVariants.{NoLine, NotHeld, OutOfTime}
 use Rattle.conversations.specs.declared.talking.AnswerFault.TheVariants.{NoMemory as NoMemoryLeft, Writer as WriterFailed}
-use Rattle.conversations.specs.declared.talking.AnswerFault.TheVariants.{Follower as FollowerFailed}
 use Rattle.terminals.specs.Speaking.{BurstsOf}
 
 -- how far a conversation is: what is left to be read, the station, what keeps its pages, and what was written
@@ -164,19 +163,17 @@ pub record AnswersMost (S K : Type 0) (t : Talker S K) (old new : TalkState S K)
   pub count : length lines ≡ 2 ^ 64 - 2
 
 -- how far a conversation is when it stops for a fault
-abbrev pub StopsSo : {S K F : Type 0} → Talker S K → TalkState S K → TalkState S K → ConverseFault F → Type 0
+abbrev pub StopsSo : {S K : Type 0} → Talker S K → TalkState S K → TalkState S K → ConverseFault → Type 0
 StopsSo {S} {K} t old new (Line number) = RefusesLineOf S K t old new number
 StopsSo {S} {K} t old new (Reader kind) = FailsToRead S K t old new
 StopsSo {S} {K} t old new NoMemory = FailsToRead S K t old new ⊎ (CannotLose S K t old new ⊎ Breaks S K t old new)
 StopsSo {S} {K} t old new (Writer kind) = Breaks S K t old new
-StopsSo {S} {K} t old new (Follower fault) = Breaks S K t old new
 StopsSo {S} {K} t old new TooManyLines = AnswersMost S K t old new
 
 -- the fault of a conversation whose line of this number, from 1, isn't answered
-abbrev pub unanswered : {F : Type 0} → AnswerFault F → ℕ → ConverseFault F
+abbrev pub unanswered : AnswerFault → ℕ → ConverseFault
 unanswered NoLine number = Line number
 unanswered NotHeld number = Line number
 unanswered OutOfTime number = Line number
 unanswered NoMemoryLeft number = NoMemory
 unanswered (WriterFailed kind) number = Writer kind
-unanswered (FollowerFailed fault) number = Follower fault

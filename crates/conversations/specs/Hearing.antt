@@ -1,5 +1,5 @@
 -- What a station hears of a carrier of the other side (T.30, 5.3 and Annex A).
-use Rattle.std.specs.Prelude.{ℕ, ◌≡◌, ◌≢◌, ◌⊎◌, ◌↔◌, Bool, cond, nat_eq, Option, Some, None}
+use Rattle.std.specs.Prelude.{ℕ, ◌≡◌, ◌≢◌, ◌⊎◌, ◌↔◌, Bool, true, cond, nat_eq, Option, Some, None}
 use Rattle.conversations.specs.declared.carrier.Channel.{Channel}
 use Rattle.conversations.specs.declared.carrier.Channel.TheVariants.{V21 as ByV21, Message}
 use Rattle.conversations.specs.declared.carrier.Kind.{Kind}
@@ -7,6 +7,8 @@ use Rattle.conversations.specs.declared.carrier.Kind.TheVariants.{Frames, Check}
 use Rattle.conversations.specs.declared.hearing.Expected.{Expected}
 use Rattle.conversations.specs.declared.hearing.Heard.{Heard}
 use Rattle.conversations.specs.declared.hearing.Heard.TheVariants.{Frames as HeardFrames, Check as HeardCheck, Nothing}
+use Rattle.conversations.specs.declared.line.Said.{Said}
+use Rattle.conversations.specs.declared.line.Said.TheVariants.{Received}
 use Rattle.signals.specs.declared.params.Speed.{Speed}
 use Rattle.signals.specs.declared.params.Speed.TheVariants.{V27At2400, V27At4800, V29At7200, V29At9600, V17At7200, V17At9600, V17At12000}
 use Rattle.signals.specs.declared.params.Speed.TheVariants.{V17At14400}
@@ -49,6 +51,11 @@ heard_as listens ByV21 Frames = HeardFrames
 heard_as listens ByV21 Check = Nothing
 heard_as listens (Message speed) Frames = page_heard listens speed
 heard_as listens (Message speed) Check = check_heard listens speed
+
+-- what a line brings to a station that listens so: nothing before it has begun
+abbrev pub heard_in : Bool → Listening → Said → Heard
+heard_in true listens (Received channel kind bits octets) = heard_as listens channel kind
+heard_in begun listens said = Nothing
 
 -- what is expected first: a training check or a page before V.21, unless V.21 comes first
 abbrev pub expected_first : Listening → Expected

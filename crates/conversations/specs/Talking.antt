@@ -1,16 +1,17 @@
 -- The answer to a line: what the station makes of it, and the lines that are written.
 use Rattle.std.specs.Prelude.{ℕ, ◌≡◌, ◌⊎◌, ◌++◌, ◌∷◌, [], ◌↔◌, Bool, true, false, IsTrue, IsSome, List, Option, Some, None, Ok, flat_map}
 use Rattle.std.specs.Io.KnownBytes.{Appends}
-use Rattle.conversations.specs.Conversations.{Behaviour, ConversationFields, IsOutOfTime, RefusesLine, SendsIfBegun, TakesLine, refused_so, next_quiet}
+use Rattle.conversations.specs.Conversations.{Behaviour, ConversationFields, IsOutOfTime, RefusesLine, SawLine, SendsIfBegun, TakesLine, next_quiet, refused_so}
 use Rattle.conversations.specs.Lines.{Says, SaysNothing}
 use Rattle.conversations.specs.Writing.{AppendsPart, burst_line, on_lines, rest_lines}
 use Rattle.conversations.specs.declared.line.Said.{Said}
 use Rattle.conversations.specs.declared.line.TimedLine.{TimedLine}
 use Rattle.conversations.specs.declared.talking.AnswerFault.{AnswerFault}
-use Rattle.conversations.specs.declared.talking.AnswerFault.TheVariants.{NoLine, NotHeld, OutOfTime, NoMemory, Writer, Follower}
+use Rattle.conversations.specs.declared.talking.AnswerFault.TheVariants.{NoLine, NotHeld, OutOfTime, NoMemory, Writer}
 use Rattle.signals.specs.declared.signal.Side.{Side}
 use Rattle.terminals.specs.Sending.{HasBurst}
 use Rattle.terminals.specs.Speaking.{BurstsOf}
+use Rattle.terminals.specs.Watching.{SawSent, SeesOne, SeesSaid}
 use Rattle.terminals.specs.declared.sending.SentBurst.{SentBurst}
 use Rattle.terminals.specs.declared.stopping.Shown.{Shown}
 
@@ -103,49 +104,57 @@ pub record Answers (S K : Type 0) (b : Behaviour S) (k : Keeping S K) (lends : B
   pub withholds : Withholds b.side lends ready late left
   pub writes : WritesTurn S b.side lends b.shows left new told after over
 
--- A follower as a conversation knows it: what it notes of a line that the station hears; whether it finds that the answer to the line of a
--- time comes too late; and what it notes of a burst that is sent in answer to the line of a time.
+-- A follower as a conversation knows it: what it is after a frame that the station heard, and after one that it said; what it notes of a line
+-- that comes at a time; and whether it finds that the answer to the line of a time comes too late.
 pub record Following (F : Type 0) : Type 1 where
-  pub hears : F → TimedLine → F → Type 0
+  pub saw : SeesOne F
+  pub saw_said : SeesSaid F
+  pub notes : F → ℕ → F → Type 0
   pub judges : F → ℕ → Bool → F → Type 0
-  pub says : F → ℕ → SentBurst → F → Type 0
 
--- a follower, of its three parts
+-- a follower, of its four parts
 abbrev pub following :
-    {F : Type 0} → (F → TimedLine → F → Type 0) → (F → ℕ → Bool → F → Type 0) → (F → ℕ → SentBurst → F → Type 0) → Following F
-following hears judges says = record { hears = hears; judges = judges; says = says }
+    {F : Type 0} → SeesOne F → SeesSaid F → (F → ℕ → F → Type 0) → (F → ℕ → Bool → F → Type 0) → Following F
+following saw saw_said notes judges = record { saw = saw; saw_said = saw_said; notes = notes; judges = judges }
 
--- a follower notes a line, if the station has begun (Bool)
-abbrev pub NotesLine : {F : Type 0} → Following F → Bool → F → TimedLine → F → Type 0
-NotesLine f true first line last = f.hears first line last
-NotesLine f false first line last = last ≡ first
+-- a follower notes that a line of a time comes, if the station has begun (Bool)
+abbrev pub NotesLine : {F : Type 0} → (F → ℕ → F → Type 0) → Bool → F → ℕ → F → Type 0
+NotesLine notes true first at last = notes first at last
+NotesLine notes false first at last = last ≡ first
 
 -- a follower finds that the answer to the line of a time comes too late, or that it doesn't
-abbrev pub FindsLate : {F : Type 0} → Following F → F → ℕ → Bool → F → Type 0
-FindsLate f first at late last = f.judges first at late last
+abbrev pub FindsLate : {F : Type 0} → (F → ℕ → Bool → F → Type 0) → F → ℕ → Bool → F → Type 0
+FindsLate judges first at late last = judges first at late last
 
 -- a follower is asked whether the answer to the line of a time comes too late, if a burst is left (first Bool); and it does, or doesn't
-abbrev pub JudgesTurn : {F : Type 0} → Following F → Bool → F → ℕ → Bool → F → Type 0
-JudgesTurn f true first at late last = FindsLate f first at late last
-JudgesTurn f false first at late last = (late ≡ false) × (last ≡ first)
+abbrev pub JudgesTurn : {F : Type 0} → (F → ℕ → Bool → F → Type 0) → Bool → F → ℕ → Bool → F → Type 0
+JudgesTurn judges true first at late last = FindsLate judges first at late last
+JudgesTurn judges false first at late last = (late ≡ false) × (last ≡ first)
 
--- a follower notes bursts in order
-abbrev pub NotesBursts : {F : Type 0} → Following F → ℕ → F → List SentBurst → F → Type 0
-NotesBursts f at first [] last = last ≡ first
-NotesBursts {F} f at first (burst ∷ bursts) last = (mid : F) × f.says first at burst mid × NotesBursts f at mid bursts last
+-- bursts are given one after the other, and a follower sees the frames of each
+abbrev pub SeesBursts :
+    {S F : Type 0} → SeesSaid F → Side → BurstsOf S → ConversationFields S → List SentBurst → ConversationFields S → F → F → Type 0
+SeesBursts saw side lends old [] new first last = (new ≡ old) × (last ≡ first)
+SeesBursts {S} {F} saw side lends old (burst ∷ bursts) new first last =
+    (mid : ConversationFields S) × (seen : F) × GivesNext side lends old (Some burst) mid ×
+    SawSent {E = Unit {0}} saw side lends old.terminal.speaking first seen (Ok (Some burst)) ×
+    SeesBursts saw side lends mid bursts new seen last
 
--- What a follower notes of a line that is answered: the line, and each burst that is sent. The answer is withheld if, and only if, the follower
--- finds that it comes too late.
+-- What a follower notes of a line that is answered: that it comes, each good frame that the station hears of it, and each frame of the bursts
+-- that are sent. The answer is withheld if, and only if, the follower finds that it comes too late.
 pub record Follows {S K F : Type 0} (f : Following F) {b : Behaviour S} {k : Keeping S K} {lends : BurstsOf S} {line : List ℕ}
     {old new : ConversationFields S} {keeper kept_in : K} {before after : Option (List ℕ)} {kept over : Bool}
     (a : Answers S K b k lends line old new keeper kept_in before after kept over) (first last : F) : Type 0 where
+  pub come : F
   pub heard : F
   pub asked : F
   pub some : Bool
-  pub hears : NotesLine f old.begun first a.timed heard
+  pub given : ConversationFields S
+  pub notes : NotesLine f.notes old.begun first a.timed.at come
+  pub sees : SawLine S F b f.saw old a.timed come heard
   pub has_burst : HasBurst lends a.ready.terminal.speaking some
-  pub judges : JudgesTurn f some heard a.timed.at a.late asked
-  pub says : NotesBursts f a.timed.at asked a.writes.bursts last
+  pub judges : JudgesTurn f.judges some heard a.timed.at a.late asked
+  pub says : SeesBursts f.saw_said b.side lends a.left a.writes.bursts given asked last
 
 -- a line is answered, and a follower notes it
 abbrev pub AnswersFollowed :
@@ -154,12 +163,13 @@ abbrev pub AnswersFollowed :
 AnswersFollowed {S} {K} f b k lends line old new keeper kept_in before after first last kept over =
     (a : Answers S K b k lends line old new keeper kept_in before after kept over) × Follows f a first last
 
--- the bursts that are left are given and the lines of the answer written, and a follower notes each burst
+-- the bursts that are left are given and the lines of the answer written, and a follower sees the frames of each burst
 abbrev pub WritesFollowed :
-    {S F : Type 0} → Following F → Side → BurstsOf S → (S → Shown → Type 0) → ConversationFields S → ConversationFields S →
-    Option (List ℕ) → Option (List ℕ) → ℕ → F → F → Bool → Type 0
-WritesFollowed {S} f side lends shows old new before after at first last over =
-    (turn : WritesTurn S side lends shows old new before after over) × NotesBursts f at first turn.bursts last
+    {S F : Type 0} → SeesSaid F → Side → BurstsOf S → (S → Shown → Type 0) → ConversationFields S → ConversationFields S →
+    Option (List ℕ) → Option (List ℕ) → F → F → Bool → Type 0
+WritesFollowed {S} saw side lends shows old new before after first last over =
+    (turn : WritesTurn S side lends shows old new before after over) × (given : ConversationFields S) ×
+    SeesBursts saw side lends old turn.bursts given first last
 
 -- what the keeper says was written in part, and nothing else: bursts may have been given, but none was sent
 abbrev pub TellsPart : {S K : Type 0} → Behaviour S → Keeping S K → BurstsOf S → ConversationFields S → ConversationFields S → K →
@@ -205,21 +215,19 @@ BreaksOff {S} {K} b k lends line old new keeper kept_in before after =
 
 -- why octets aren't answered, by what became of it: they are no line of a station, or no line that can come now, or their time can't follow;
 -- or the answer failed on the way
-abbrev pub IsNoAnswer : {S K F : Type 0} → Behaviour S → Keeping S K → BurstsOf S → List ℕ → ConversationFields S →
-    ConversationFields S → K → K → Option (List ℕ) → Option (List ℕ) → AnswerFault F → Type 0
+abbrev pub IsNoAnswer : {S K : Type 0} → Behaviour S → Keeping S K → BurstsOf S → List ℕ → ConversationFields S →
+    ConversationFields S → K → K → Option (List ℕ) → Option (List ℕ) → AnswerFault → Type 0
 IsNoAnswer b k lends line old new keeper kept_in before after NoLine = SaysNothing line
 IsNoAnswer b k lends line old new keeper kept_in before after NotHeld =
     (timed : TimedLine) × Says line timed × (k.takes keeper timed.said ≡ false)
 IsNoAnswer b k lends line old new keeper kept_in before after OutOfTime = (timed : TimedLine) × Says line timed × IsOutOfTime old timed
 IsNoAnswer b k lends line old new keeper kept_in before after NoMemory = BreaksOff b k lends line old new keeper kept_in before after
 IsNoAnswer b k lends line old new keeper kept_in before after (Writer kind) = BreaksOff b k lends line old new keeper kept_in before after
-IsNoAnswer b k lends line old new keeper kept_in before after (Follower why) = BreaksOff b k lends line old new keeper kept_in before after
 
 -- octets were refused before anything was done: they are no line, or one that can't come now
-abbrev pub is_refused : {F : Type 0} → AnswerFault F → Bool
+abbrev pub is_refused : AnswerFault → Bool
 is_refused NoLine = true
 is_refused NotHeld = true
 is_refused OutOfTime = true
 is_refused NoMemory = false
 is_refused (Writer kind) = false
-is_refused (Follower why) = false

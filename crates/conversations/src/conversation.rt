@@ -1,9 +1,10 @@
 //! The conversation of a station as a process: lines that are taken, and bursts that are given.
 
 ghost use Rattle.conversations.specs.Conversations.{IsInTime, IsNew, IsOutOfTime, SendsIfBegun, TakesOrRefuses, behaviour, with_pages_taken, hung_up_so};
-ghost use Rattle.conversations.specs.Conversations.{next_quiet, refused_so, stopped_so};
+ghost use Rattle.conversations.specs.Conversations.{SawLine, next_quiet, refused_so, stopped_so};
 ghost use Rattle.conversations.specs.Refusing.{gap_in, limit_of, new_watch, refusal_in, stop_in};
-ghost use Rattle.std.specs.Prelude.{◌≡◌, ◌↔◌, IsTrue, IsSome, true, false};
+ghost use Rattle.std.specs.Prelude.{◌≡◌, ◌↔◌, IsTrue, IsSome, OnOk, true, false};
+ghost use Rattle.terminals.specs.Watching.{SawSent};
 ghost use Rattle.terminals.specs.declared.stopping.Shown.{Shown as AnyShown};
 
 use crate::giving::{clock_at, give, has_begun, line_gives, most_step, state_of};
@@ -16,7 +17,8 @@ use stations::{CallEnd, LimitedAnswerer, StoppableCaller};
 use std::alloc::AllocError;
 use std::marker::Model;
 use terminals::{
-    Clock, Durations, Limit, Refusal, SentBurst, Shown, Station, Stoppable, Terminal, note,
+    Clock, Durations, Limit, Refusal, SentBurst, Shown, Station, Stoppable, Terminal, Watch,
+    Watched, note,
 };
 use thiserror::Error;
 
@@ -146,12 +148,25 @@ impl<S: Stoppable> Conversation<S> {
         conversation
     }
 
-    /// Takes a line: gives the station what the line says, sets the clock, and notes whether the call has lasted as long as it may. Errs with `OutOfTime` if its time is before that of the line
-    /// before it; if it is a quiet line after a quiet one, and later by more than T1 and 35 s; or if it is later by more than T1 and ten
-    /// minutes: nothing has changed. Errs with `NoMemory`: nothing has changed but the note of the last accepted block, or
-    /// frames that the line brought are lost.
+    /// Takes a line: gives the station what the line says, sets the clock, and notes whether the call has lasted as long as it may. Errs with
+    /// `OutOfTime` if its time is before that of the line before it; if it is a quiet line after a quiet one, and later by more than T1 and
+    /// 35 s; or if it is later by more than T1 and ten minutes: nothing has changed. Errs with `NoMemory`: nothing has changed but the note of
+    /// the last accepted block, or frames that the line brought are lost.
     pub fn take(&mut self, line: &TimedLine) -> Result<(), TakeFault>
         ensures { TakesOrRefuses (behaviour S.sends S.steps S.lends S.shows S.cut_off S.stop_says) self.old line.now self.new result }
+    {
+        let mut nothing: Option<Watched> = None;
+        self.take_by(line, &mut nothing)
+    }
+
+    /// Takes a line as `take` does; a watch sees each good frame that the station hears, also if memory is refused to the station's step.
+    pub fn take_by<W: Watch>(&mut self, line: &TimedLine, watch: &mut W) -> Result<(), TakeFault>
+        ensures takes { TakesOrRefuses
+            (behaviour S.sends S.steps S.lends S.shows S.cut_off S.stop_says)
+            self.old line.now self.new result }
+        ensures sees { OnOk result (SawLine S W
+            (behaviour S.sends S.steps S.lends S.shows S.cut_off S.stop_says)
+            W.saw self.old line.now watch.old watch.new) }
     {
         if self.is_out_of_time(line) {
             return Err(TakeFault::OutOfTime);
@@ -161,7 +176,7 @@ impl<S: Stoppable> Conversation<S> {
         let shown = self.terminal.shown();
         let given = line_gives(self.begun, side, shown, clock, self.durations, &line.said);
         note(&mut self.watch.watched, shown.accepted);
-        let brought = give(&mut self.terminal, &mut self.watch.watched, given)?;
+        let brought = give(&mut self.terminal, &mut self.watch.watched, watch, given)?;
         let later = self.terminal.shown();
         let now = clock.heard(brought).asked(later.longer);
         let state = state_of(&line.said);
@@ -177,10 +192,23 @@ impl<S: Stoppable> Conversation<S> {
     pub fn next_burst(&mut self) -> Result<Option<SentBurst>, AllocError>
         ensures { SendsIfBegun S.sends S.lends self.old.begun self.old self.new result }
     {
+        let mut nothing: Option<Watched> = None;
+        self.next_burst_by(&mut nothing)
+    }
+
+    /// The next burst, as `next_burst` gives it; a watch sees each of its frames.
+    pub fn next_burst_by<W: Watch>(
+        &mut self,
+        watch: &mut W,
+    ) -> Result<Option<SentBurst>, AllocError>
+        ensures gives { SendsIfBegun S.sends S.lends self.old.begun self.old self.new result }
+        ensures says { SawSent W.saw_said S.sends S.lends self.old.terminal.speaking
+            watch.old watch.new result }
+    {
         if !self.begun {
             return Ok(None);
         }
-        let sent = self.terminal.next_burst()?;
+        let sent = self.terminal.next_burst_by(watch)?;
         if sent.is_some() {
             self.clock = self.clock.sent();
         }

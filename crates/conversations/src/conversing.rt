@@ -2,7 +2,7 @@
 
 ghost use Rattle.conversations.specs.Conversations.{RefusesLine, TakesLine, behaviour};
 ghost use Rattle.conversations.specs.Conversing.{ConversesFollowed, StopsSo, lost_at, talk_state, talker, unanswered};
-ghost use Rattle.conversations.specs.Talking.{keeping};
+ghost use Rattle.conversations.specs.Talking.{following, keeping};
 ghost use Rattle.std.specs.Prelude.{◌≡◌, IfErr, IfOk, OnErr, OnOk};
 
 use crate::conversation::{Conversation, TakeFault};
@@ -26,7 +26,7 @@ pub enum Ending<E> {
 
 /// Why a conversation stopped before its end.
 #[derive(Clone, Copy, Debug, PartialEq, Eq, Drop)]
-pub enum ConverseFault<F> {
+pub enum ConverseFault {
     /// The line of this number, from 1, has more than 400,000 octets, isn't a line of a station, or can't come now. It has changed nothing
     /// but what is left to be read.
     Line(u64),
@@ -36,14 +36,12 @@ pub enum ConverseFault<F> {
     Reader(ErrorKind),
     /// The writer failed.
     Writer(ErrorKind),
-    /// The follower failed.
-    Follower(F),
     /// There were 2^64 - 2 lines.
     TooManyLines,
 }
 
 /// The fault of a conversation whose line of this number, from 1, isn't answered.
-fn unanswered<F>(fault: AnswerFault<F>, number: u64) -> ConverseFault<F>
+fn unanswered(fault: AnswerFault, number: u64) -> ConverseFault
     ensures { result ≡ unanswered fault number }
 {
     match fault {
@@ -52,7 +50,6 @@ fn unanswered<F>(fault: AnswerFault<F>, number: u64) -> ConverseFault<F>
         }
         AnswerFault::NoMemory => ConverseFault::NoMemory,
         AnswerFault::Writer(kind) => ConverseFault::Writer(kind),
-        AnswerFault::Follower(fault) => ConverseFault::Follower(fault),
     }
 }
 
@@ -76,7 +73,7 @@ fn lose<S: Stoppable>(conversation: &mut Conversation<S>) -> Result<(), AllocErr
 /// Reads line after line and answers each, as `answer` does, until the call is over, and returns how it ended. If no line is left before
 /// that, the station's line is lost at the time of the last one; if something that a line brought can't be kept, the conversation ends
 /// after the answer to that line. Errs with `Line` at the first line that is too long, isn't a line of a station, or that can't come now;
-/// with `NoMemory`; and with `Reader`, `Writer` or `Follower` if one of these fails. Holds one line at a time.
+/// with `NoMemory`; and with `Reader` or `Writer` if one of these fails. Holds one line at a time.
 pub fn converse<S: Stoppable, R: BufRead, K: Keeper<S>, W: Write, F: Follower>(
     alloc: Global,
     reader: &mut R,
@@ -84,11 +81,12 @@ pub fn converse<S: Stoppable, R: BufRead, K: Keeper<S>, W: Write, F: Follower>(
     keeper: &mut K,
     writer: &mut W,
     follower: &mut F,
-) -> Result<Ending<K::Refused>, ConverseFault<F::Failed>>
+) -> Result<Ending<K::Refused>, ConverseFault>
     ensures ends { IfOk result (λ ending.
         ConversesFollowed S K K.Refused F
         (talker (behaviour S.sends S.steps S.lends S.shows S.cut_off S.stop_says)
-        (keeping K.keeps K.takes K.tells) S.lends) F.notes
+        (keeping K.keeps K.takes K.tells) S.lends)
+        (following F.saw F.saw_said F.notes F.judges)
         (talk_state (R.remaining reader.old) conversation.old keeper.old (W.contents writer.old))
         (talk_state (R.remaining reader.new) conversation.new keeper.new (W.contents writer.new))
         follower.old follower.new ending) }

@@ -1,18 +1,18 @@
 //! What a line gives a station.
 
 ghost use Rattle.conversations.specs.Conversations.{begins, heard_given, line_gives, missed_given, over_given, plain_given, state_of};
-ghost use Rattle.conversations.specs.Conversations.{Gives, IsRefused, SeesGiven, behaviour, frames, is_check, nothing};
+ghost use Rattle.conversations.specs.Conversations.{Gives, IsRefused, SawGiven, SeesGiven, behaviour, frames, is_check, nothing};
 ghost use Rattle.terminals.specs.Clocks.{clock_at, most_step};
 ghost use Rattle.terminals.specs.Hearing.{check as heard_check};
 ghost use Rattle.std.specs.Prelude.{◌≡◌, ◌⊎◌, cond, true, IfOk, OnErr, OnOk};
-ghost use Rattle.terminals.specs.Watching.{Sees};
+ghost use Rattle.terminals.specs.Watching.{Sees, SeesBy};
 
 use crate::hearing::{Heard, heard_as};
 use crate::line::Said;
 use signals::Side;
 use stations::{Listening, Wait};
 use std::alloc::AllocError;
-use terminals::{Clock, Durations, LineState, Shown, Stoppable, Terminal, Watched};
+use terminals::{Clock, Durations, LineState, Shown, Stoppable, Terminal, Watch, Watched};
 
 /// The input that a line means for a station.
 #[derive(Clone, Copy, Debug, PartialEq, Eq)]
@@ -144,11 +144,12 @@ fn begins(said: &Said, at: u64) -> bool
     }
 }
 
-/// Gives the terminal an input, and sees what it brings. Returns true if it brought a good frame or an octet of the awaited training check.
-/// Errs if memory is refused.
-pub(crate) fn give<S: Stoppable>(
+/// Gives the terminal an input. What is watched, and a second watch, see what it brings. Returns true if it brought a good frame or an octet
+/// of the awaited training check. Errs if memory is refused.
+pub(crate) fn give<S: Stoppable, W: Watch>(
     terminal: &mut Terminal<S>,
     watched: &mut Option<Watched>,
+    watch: &mut W,
     given: Given<'_>,
 ) -> Result<bool, AllocError>
     ensures ok { IfOk result (λ brought.
@@ -158,10 +159,12 @@ pub(crate) fn give<S: Stoppable>(
     ensures sees { OnOk result (SeesGiven terminal.old.framing (plain_given given.entry) watched.old watched.new) }
     ensures refused { OnErr result ((watched.new ≡ watched.old) ⊎
         SeesGiven terminal.old.framing (plain_given given.entry) watched.old watched.new) }
+    ensures seen { OnOk result
+        (SawGiven W.saw terminal.old.framing (plain_given given.entry) watch.old watch.new) }
 {
     match given {
         Given::Nothing => Ok(false),
-        Given::Frames(octets) => hear(terminal, watched, octets),
+        Given::Frames(octets) => hear(terminal, watched, watch, octets),
         Given::Check(octets) => {
             terminal.hear_training(octets)?;
             Ok(has_octets(octets))
@@ -196,9 +199,10 @@ fn has_octets(check: &[u8]) -> bool
 }
 
 /// The terminal hears octets of frames, and each is seen. Returns true if they brought a good frame. Errs if memory is refused.
-fn hear<S: Stoppable>(
+fn hear<S: Stoppable, W: Watch>(
     terminal: &mut Terminal<S>,
     watched: &mut Option<Watched>,
+    watch: &mut W,
     octets: &[u8],
 ) -> Result<bool, AllocError>
     ensures ok { IfOk result (λ brought.
@@ -207,9 +211,11 @@ fn hear<S: Stoppable>(
         IsRefused (behaviour S.sends S.steps S.lends S.shows S.cut_off S.stop_says) terminal.old (frames octets.now) terminal.new) }
     ensures sees { OnOk result (Sees terminal.old.framing octets.now watched.old watched.new) }
     ensures refused { OnErr result ((watched.new ≡ watched.old) ⊎ Sees terminal.old.framing octets.now watched.old watched.new) }
+    ensures seen { OnOk result
+        (SeesBy W.saw terminal.old.framing octets.now watch.old watch.new) }
 {
     let before = terminal.good_frames();
-    match terminal.hear_watching(octets, watched) {
+    match terminal.hear_by(octets, watched, watch) {
         Ok(()) => Ok(before < terminal.good_frames()),
         Err(_) => Err(AllocError),
     }

@@ -9,7 +9,7 @@ use Rattle.conversations.specs.Conversations.{ConversationFields, SendsIfBegun, 
 use Rattle.conversations.specs.Conversing.{AnswersAll, AnswersNext, BreaksNext, Converses, FailsToRead, StopsSo, TalkState, talk_state}
 use Rattle.conversations.specs.Lines.{Says}
 use Rattle.conversations.specs.declared.conversing.ConverseFault.{ConverseFault}
-use Rattle.conversations.specs.declared.conversing.ConverseFault.TheVariants.{Line, NoMemory, Reader, Writer, Follower, TooManyLines}
+use Rattle.conversations.specs.declared.conversing.ConverseFault.TheVariants.{Line, NoMemory, Reader, Writer, TooManyLines}
 use Rattle.conversations.specs.declared.conversing.Ending.{Ending}
 use Rattle.conversations.specs.declared.conversing.Ending.TheVariants.{Over, Lost, Unkept}
 use Rattle.conversations.specs.declared.line.TimedLine.{TimedLine}
@@ -307,7 +307,7 @@ module _ (said : StoredIsSaid Folder FolderStores FolderRefuses) (heard : LineIs
       (lines : List (List ℕ)) × FilesWhatIsSaid caps lines old.keeper new.keeper
   fails_filed new h = (h.lines, same_filed h.lines h.last new.keeper h.answered (same_keeper h.last new h.rest))
 
-  stops_filed : (new : TalkState LimitedFields Folder) (fault : ConverseFault ToolFault) → StopsSo folder_talker old new fault →
+  stops_filed : (new : TalkState LimitedFields Folder) (fault : ConverseFault) → StopsSo folder_talker old new fault →
       (lines : List (List ℕ)) × FilesWhatIsSaid caps lines old.keeper new.keeper
   stops_filed new (Line number) h =
       (h.lines, same_filed h.lines h.last new.keeper h.answered (same_keeper h.last new h.refused.rest))
@@ -316,7 +316,6 @@ module _ (said : StoredIsSaid Folder FolderStores FolderRefuses) (heard : LineIs
   stops_filed new NoMemory (inr (inl h)) = (h.lines, same_filed h.lines h.last new.keeper h.answered h.keeper)
   stops_filed new NoMemory (inr (inr h)) = breaks_filed h.lines h.last new h.answered h.breaks
   stops_filed new (Writer kind) h = breaks_filed h.lines h.last new h.answered h.breaks
-  stops_filed new (Follower fault) h = breaks_filed h.lines h.last new h.answered h.breaks
   stops_filed new TooManyLines h = (h.lines, lines_filed h.lines new h.answered)
 
   next_filed : (lines : List (List ℕ)) (mid new : TalkState LimitedFields Folder) (line : List ℕ) (kept over : Bool) →
@@ -345,7 +344,7 @@ module _ (said : StoredIsSaid Folder FolderStores FolderRefuses) (heard : LineIs
   led_filed last kept ending h =
       ends_filed said heard caps (talk_state h.0 first folder h.2) is holds held (talk_state h.1 last kept h.3) ending h.4
 
-  stopped_filed : (last : ConversationFields LimitedFields) (kept : Folder) (fault : ConverseFault ToolFault) →
+  stopped_filed : (last : ConversationFields LimitedFields) (kept : Folder) (fault : ConverseFault) →
       StoppedAt folder_talker first folder last kept fault → (lines : List (List ℕ)) × FilesWhatIsSaid caps lines folder kept
   stopped_filed last kept fault h =
       stops_filed said heard caps (talk_state h.0 first folder h.2) is holds held (talk_state h.1 last kept h.3) fault h.4

@@ -6,6 +6,5 @@ mod FolderLemmas
 mod FolderSaid
 mod FromLemmas
 mod HeardData
-mod NoteLemmas
 mod TalkLemmas
 mod Sent

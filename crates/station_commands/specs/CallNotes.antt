@@ -1,5 +1,5 @@
 -- What is noted of a station's call while it runs, whether the call is whole, and what is told of it as JSON for programs.
-use Rattle.std.specs.Prelude.{◌≡◌, ◌≢◌, ◌⊎◌, ◌&&◌, ◌++◌, ◌-◌, ℕ, Bool, true, false, List, [], ◌∷◌, Option, Some, None, Result, Ok, Err}
+use Rattle.std.specs.Prelude.{◌≡◌, ◌≢◌, ◌⊎◌, ◌&&◌, ◌++◌, ◌+◌, ◌-◌, ℕ, Bool, true, false, List, [], ◌∷◌, Option, Some, None, Result, Ok, Err}
 use Rattle.std.specs.Prelude.{codes, cond, drop, length, nat_eq, not, take, if◌then◌else◌}
 use Rattle.std.specs.Fmt.{decimal}
 use Rattle.captures.specs.Missing.{lines_word}
@@ -23,7 +23,6 @@ use Rattle.raster.specs.Pages.{PagePixels}
 use Rattle.serde_json.specs.Data.{Data, boolean, member, no_members, object}
 use Rattle.signals.specs.Agreement.{agreed}
 use Rattle.signals.specs.Marks.{same_mark}
-use Rattle.signals.specs.Reading.{read_content}
 use Rattle.signals.specs.Reasons.{IsFirstReason}
 use Rattle.signals.specs.Signals.{PlainSignal, dis, fcd, mcf, pps}
 use Rattle.signals.specs.declared.fault.SignalFault.{SignalFault}
@@ -65,34 +64,17 @@ known_heard old (Ok signal) = old
 known_heard old (Err fault) = old
 
 -- the same with the figures
-abbrev pub noted_heard : Noted → List ℕ → Noted
-noted_heard old content =
-    record (known_heard old (read_content content)) { figures = figures_heard old.figures content (read_content content) }
+abbrev pub noted_heard : Noted → List ℕ → Result PlainSignal SignalFault → Noted
+noted_heard old content said = record (known_heard old said) { figures = figures_heard old.figures content said }
 
--- the same of contents in order
-abbrev pub noted_after : Noted → List (List ℕ) → Noted
-noted_after noted [] = noted
-noted_after noted (content ∷ contents) = noted_after (noted_heard noted content) contents
+-- a signal is MCF
+abbrev pub is_confirmation : PlainSignal → Bool
+is_confirmation mcf = true
+is_confirmation signal = false
 
--- a content that a station said is MCF
-abbrev pub is_confirmation : Result PlainSignal SignalFault → Bool
-is_confirmation (Ok mcf) = true
-is_confirmation (Ok signal) = false
-is_confirmation (Err fault) = false
-
--- the figures once a content that reads so was said
-abbrev pub figures_said : Figures → Result PlainSignal SignalFault → Figures
-figures_said f (Ok signal) = said_as f signal
-figures_said f (Err fault) = f
-
--- what is noted once a content was said
-abbrev pub noted_said : Noted → Result PlainSignal SignalFault → Noted
-noted_said old read = record old { confirms = is_confirmation read; figures = figures_said old.figures read }
-
--- the same of contents in order
-abbrev pub said_after : Noted → List (List ℕ) → Noted
-said_after noted [] = noted
-said_after noted (content ∷ contents) = said_after (noted_said noted (read_content content)) contents
+-- what is noted once a signal was said
+abbrev pub noted_said : Noted → PlainSignal → Noted
+noted_said old signal = record old { confirms = is_confirmation signal; figures = said_as old.figures signal }
 
 -- ---- the trace
 
@@ -106,6 +88,18 @@ abbrev pub frame_read : Result PlainSignal SignalFault → Option FrameRun
 frame_read (Ok (fcd number octets)) = Some (record { first = number; last = number; octets = length octets })
 frame_read (Ok signal) = None
 frame_read (Err fault) = None
+
+-- frames that follow each other, with one more if it is the next
+abbrev pub joined_run : Option FrameRun → Option FrameRun → Option FrameRun
+joined_run (Some run) (Some frame) =
+    cond (nat_eq (run.last + 1) frame.first) (Some (record { first = run.first; last = frame.last; octets = frame.octets })) None
+joined_run (Some run) None = None
+joined_run None frame = None
+
+-- the frames that have no line yet after a content: those before it and its own, if it goes on, or else its own, if it is one
+abbrev pub run_with : Option FrameRun → Option FrameRun → Option FrameRun
+run_with (Some more) frame = Some more
+run_with None frame = frame
 
 -- what a line says of frames that follow each other: of one its number and its octets of data, of several the first and the last number
 abbrev pub run_text : FrameRun → List ℕ

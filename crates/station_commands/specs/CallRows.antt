@@ -1,5 +1,5 @@
 -- Which answers come too late, and which calls are whole: rows worked by hand.
-use Rattle.std.specs.Prelude.{◌≡◌, ℕ, true, false, Some, None, Ok}
+use Rattle.std.specs.Prelude.{◌≡◌, ℕ, true, false, Some, None}
 use Rattle.signals.specs.Signals.{mcf, rnr}
 use Rattle.signals.specs.declared.mark.Mark.{Mark}
 use Rattle.signals.specs.declared.mark.Pps.{Pps}
@@ -40,7 +40,7 @@ asked ends = record { ends = ends; mark = first_block; last = 3 }
 
 -- what is noted once that PPS was heard, and MCF said
 abbrev pub confirmed : PageEnd → Noted
-confirmed ends = noted_said (with_pps no_notes (asked ends)) (Ok mcf)
+confirmed ends = noted_said (with_pps no_notes (asked ends)) mcf
 
 -- The law: a call is whole once the PPS of its last accepted block said EOP and MCF was said, if no page number was missing. A PPS that repeats
 -- a block that was confirmed changes nothing.
@@ -50,6 +50,6 @@ pub record WholeByFrames : Type 0 where
   pub missing : is_whole (confirmed Eop) (Some first_block) true ≡ false
   pub other : is_whole (confirmed Eop) (Some next_block) false ≡ false
   pub none : is_whole (confirmed Eop) None false ≡ false
-  pub unasked : is_whole (noted_said no_notes (Ok mcf)) (Some first_block) false ≡ false
-  pub busy : is_whole (noted_said (with_pps no_notes (asked Eop)) (Ok rnr)) (Some first_block) false ≡ false
+  pub unasked : is_whole (noted_said no_notes mcf) (Some first_block) false ≡ false
+  pub busy : is_whole (noted_said (with_pps no_notes (asked Eop)) rnr) (Some first_block) false ≡ false
   pub repeated : with_pps (confirmed Eop) (asked Mps) ≡ confirmed Eop

@@ -6,7 +6,7 @@ use Rattle.command_files.specs.Runs.{completeness_of}
 use Rattle.command_files.specs.declared.command.Completeness.{Completeness}
 use Rattle.command_files.specs.declared.command.Completeness.TheVariants.{Lacking}
 use Rattle.conversations.specs.declared.conversing.ConverseFault.{ConverseFault}
-use Rattle.conversations.specs.declared.conversing.ConverseFault.TheVariants.{Line, NoMemory, Reader, Writer, Follower, TooManyLines}
+use Rattle.conversations.specs.declared.conversing.ConverseFault.TheVariants.{Line, NoMemory, Reader, Writer, TooManyLines}
 use Rattle.faults.specs.Faults.{IsOutside, fault_of_io}
 use Rattle.faults.specs.declared.fault.ToolFault.{ToolFault}
 use Rattle.faults.specs.declared.fault.ToolFault.TheVariants.{No}
@@ -76,19 +76,18 @@ IsHalt (halted.Fault fault) = IsOutside fault
 abbrev pub IsFailure : Halted → Type 0
 IsFailure why = (fault : ToolFault) × (why ≡ halted.Fault fault) × IsOutside fault
 
--- the fault of a keeper or a follower, as the lines end by it: memory (9) stays, and any other is `Io` (8)
+-- the fault of a keeper, as the lines end by it: memory (9) stays, and any other is `Io` (8)
 abbrev pub as_outside : ToolFault → ToolFault
 as_outside (No number) = cond (nat_eq number 9) (No 9) (No 8)
 as_outside fault = No 8
 
 -- Why the lines go no further where a conversation stops for this fault: at a line that isn't answered, or by a fault. A line for which
 -- memory is refused is lost, and the call goes on, unless the rest of it can't be read then or `wait` can't be written.
-abbrev pub HaltsBy : ConverseFault ToolFault → Halted → Type 0
+abbrev pub HaltsBy : ConverseFault → Halted → Type 0
 HaltsBy (Line number) why = (at : ℕ) × (reason : NoLine) × (why ≡ halted.Line at reason)
 HaltsBy NoMemory why = IsFailure why
 HaltsBy (Reader kind) why = why ≡ halted.Fault (No 8)
 HaltsBy (Writer kind) why = why ≡ halted.Fault (fault_of_io kind)
-HaltsBy (Follower fault) why = why ≡ halted.Fault (as_outside fault)
 HaltsBy TooManyLines why = why ≡ halted.Fault (No 8)
 
 -- What a station's command gives: a fault that stopped its lines; or all was done if the call is whole and lacks its last DCN at most.

@@ -5,7 +5,7 @@
 use Rattle.std.specs.Prelude.{ℕ, zero, suc, ◌≡◌, ◌⊎◌, ◌-◌, ◌^◌, [], Bool, true, false, List, Option, Some, None, Result, Ok, Err, length}
 use Rattle.std.specs.Prelude.{◌||◌, nat_eq, not, option_map, string_bytes, unwrap_or}
 use Rattle.calls.specs.declared.options.CallOptions.{CallOptions}
-use Rattle.station_commands.specs.CallNotes.{is_whole}
+use Rattle.station_commands.specs.CallNotes.{IsMissing, is_whole}
 use Rattle.station_commands.specs.Folders.{KeepsLine, end_of, held_name, limits_of}
 use Rattle.station_commands.specs.Stations.{HaltsBy, IsFailure, IsNoDocument, SendsFrom, as_outside, ended_of, given_wait, millis_of, page_limit}
 use Rattle.command_files.specs.declared.command.Completeness.{Completeness}
@@ -19,8 +19,7 @@ use Rattle.station_commands.specs.declared.station.folder.Folder.{Folder}
 use Rattle.station_commands.specs.declared.station.folder.StoppedBy.{StoppedBy}
 use Rattle.station_commands.specs.declared.station.folder.StoppedBy.TheVariants.{Seconds}
 use Rattle.station_commands.specs.declared.station.given.GivenWaits.{GivenWaits}
-use Rattle.station_commands.specs.declared.station.notes.Notes.{Notes}
-use Rattle.station_commands.specs.Following.{IsNewFollower, station_follower}
+use Rattle.station_commands.specs.Following.{IsNewFollower, NotesFields, station_follower}
 use Rattle.conversations.specs.Answering.{limited_behaviour}
 use Rattle.conversations.specs.Conversations.{Behaviour, ConversationFields}
 use Rattle.conversations.specs.Conversing.{Converses, ConversesFollowed, StopsSo, Talker, talk_state, talker}
@@ -63,7 +62,7 @@ LedTo {S} {K} t old keeper new kept ending =
 
 -- lines are answered until the conversation stops for this fault
 abbrev pub StoppedAt :
-    {S K : Type 0} → Talker S K → ConversationFields S → K → ConversationFields S → K → ConverseFault ToolFault → Type 0
+    {S K : Type 0} → Talker S K → ConversationFields S → K → ConversationFields S → K → ConverseFault → Type 0
 StoppedAt {S} {K} t old keeper new kept fault =
     (unread : Option (List ℕ)) × (left : Option (List ℕ)) × (unsaid : Option (List ℕ)) × (said : Option (List ℕ))
     × StopsSo t (talk_state unread old keeper unsaid) (talk_state left new kept said) fault
@@ -82,19 +81,19 @@ abbrev pub EndsTalk : {S K : Type 0} → Talker S K → ℕ → ConversationFiel
 EndsTalk t lost old keeper new kept (Ok done) = LedTo t old keeper new kept Over ⊎ LedTo t old keeper new kept Lost
 EndsTalk t lost old keeper new kept (Err halted) =
     ((why : ToolFault) × LedTo t old keeper new kept (Unkept why) × (halted ≡ Fault (as_outside why)))
-    ⊎ (((fault : ConverseFault ToolFault) × StoppedAt t old keeper new kept fault × HaltsBy fault halted)
+    ⊎ (((fault : ConverseFault) × StoppedAt t old keeper new kept fault × HaltsBy fault halted)
     ⊎ ((new ≡ old) × (kept ≡ keeper) × (((lost ≡ 0) × IsFailure halted) ⊎ ((lost ≡ 2 ^ 64 - 1) × (halted ≡ Fault (No 9))))))
 
 -- lines are answered until the conversation ends so, and the follower notes each
-abbrev pub FollowedTo : {S K : Type 0} → Talker S K → ConversationFields S → K → Notes → ConversationFields S → K → Notes →
+abbrev pub FollowedTo : {S K : Type 0} → Talker S K → ConversationFields S → K → NotesFields → ConversationFields S → K → NotesFields →
     Ending ToolFault → Type 0
 FollowedTo {S} {K} t old keeper first new kept last ending =
     (unread : Option (List ℕ)) × (left : Option (List ℕ)) × (unsaid : Option (List ℕ)) × (said : Option (List ℕ))
-    × ConversesFollowed S K ToolFault Notes t station_follower (talk_state unread old keeper unsaid) (talk_state left new kept said) first last ending
+    × ConversesFollowed S K ToolFault NotesFields t station_follower (talk_state unread old keeper unsaid) (talk_state left new kept said) first last ending
 
 -- What the follower notes of a talk whose call is over, or whose line is lost: each line and each burst, in order, if no line was lost for
 -- want of memory.
-abbrev pub NotesTalk : {S K : Type 0} → Talker S K → ℕ → ConversationFields S → K → Notes → ConversationFields S → K → Notes →
+abbrev pub NotesTalk : {S K : Type 0} → Talker S K → ℕ → ConversationFields S → K → NotesFields → ConversationFields S → K → NotesFields →
     Result (Unit {0}) Halted → Type 0
 NotesTalk t lost old keeper first new kept last (Ok done) =
     lost ≡ 0 → FollowedTo t old keeper first new kept last Over ⊎ FollowedTo t old keeper first new kept last Lost
@@ -110,8 +109,8 @@ pub record Talks (S K : Type 0) (t : Talker S K) (old : ConversationFields S) (k
   pub ends : EndsTalk t lost mid held new kept ended
 
 -- a station, its keeper and its follower are led by lines
-abbrev pub TalksSo : {S K : Type 0} → Behaviour S → Keeping S K → BurstsOf S → ConversationFields S → K → Notes → ConversationFields S →
-    K → Notes → Result (Unit {0}) Halted → Type 0
+abbrev pub TalksSo : {S K : Type 0} → Behaviour S → Keeping S K → BurstsOf S → ConversationFields S → K → NotesFields → ConversationFields S →
+    K → NotesFields → Result (Unit {0}) Halted → Type 0
 TalksSo {S} {K} b k lends old keeper first new kept last ended =
     (talks : Talks S K (talker b k lends) old keeper new kept ended)
     × NotesTalk (talker b k lends) talks.lost old keeper first new kept last ended
@@ -172,7 +171,7 @@ abbrev pub last_mark : ConversationFields LimitedFields → Option Mark
 last_mark c = option_map (λ (accepted : Accepted). accepted.mark) c.terminal.speaking.station.station.accepted
 
 -- What comes of an answerer's command: a new conversation and its new folder are led by lines, and this is how the call stands then. It is
--- whole, and its last page unconfirmed, by what its follower noted.
+-- whole, and its last page unconfirmed, by what its follower noted of the frames that the station heard and said; so are its figures.
 pub record AnswerTalks (command : AnswerCommand) (talked : Talked) : Type 0 where
   pub first : ConversationFields LimitedFields
   pub begins : NewAnswering command first
@@ -188,12 +187,13 @@ pub record AnswerTalks (command : AnswerCommand) (talked : Talked) : Type 0 wher
   pub stopped : talked.stopped ≡ kept.stopped
   pub failed : talked.failed ≡ kept.failed
   pub pages : talked.pages ≡ kept.tally.pages
-  pub follower : Notes
+  pub follower : NotesFields
   pub is_new : IsNewFollower command.waits.late follower
-  pub notes : Notes
+  pub notes : NotesFields
   pub follows : NotesTalk folder_talker talks.lost first folder follower last kept notes ended
   pub whole : talked.whole ≡ is_whole notes.noted (last_mark last) kept.has_gap
   pub unconfirmed : talked.unconfirmed ≡ not notes.noted.confirms
+  pub figures : talked.figures ≡ notes.noted.figures
 
 -- a file or memory failed; or the lines were taken, and all was done if the call is whole and lacks its last DCN at most
 abbrev pub AnswerGives : AnswerCommand → Result Completeness ToolFault → Type 0
@@ -252,10 +252,12 @@ pub record DialTalks (command : DialCommand) (talked : Talked) : Type 0 where
       → talked.end ≡ call_end t.ending last.terminal.speaking.station.cut
   pub stopped : talked.stopped ≡ late_stop kept.late
   pub answers : talked.unconfirmed ≡ false
-  pub follower : Notes
+  pub follower : NotesFields
   pub is_new : IsNewFollower command.waits.late follower
-  pub notes : Notes
+  pub notes : NotesFields
   pub follows : NotesTalk confirmed_talker talks.lost first none follower last kept notes ended
+  pub missing : IsMissing notes.noted.caps (wish_of command.options) command.options.fine talked.missing
+  pub figures : talked.figures ≡ notes.noted.figures
   pub pages : (t : Caller) → Represents last.terminal.speaking.station.station t
       → (talked.pages ≡ confirmed t) × (talked.whole ≡ nat_eq (confirmed t) (length t.document))
 

@@ -16,7 +16,7 @@ ghost use Rattle.station_commands.specs.Stations.{HaltsBy, IsHalt, IsNoDocument,
 ghost use Rattle.station_commands.specs.Stations.{millis_of, stopped_word, table_word};
 ghost use Rattle.station_commands.specs.Talks.{AnswerTalks, DialTalks, NewAnswering, NewDialling, TalksSo, halt_of, says_of};
 ghost use Rattle.station_commands.specs.Talks.{wish_of};
-ghost use Rattle.station_commands.specs.declared.station.notes.Notes.{Notes as NotesValue};
+ghost use Rattle.station_commands.specs.Following.{NotesFields};
 ghost use Rattle.station_commands.specs.declared.station.Halted.{Halted as HaltedValue};
 ghost use Rattle.conversations.specs.Conversations.{behaviour};
 ghost use Rattle.conversations.specs.Talking.{keeping};
@@ -200,7 +200,7 @@ fn millis_of(seconds: Option<u32>) -> Option<u64>
     }
 }
 
-/// The fault of a follower or a keeper: `NoMemory` (9), or `Io` (8).
+/// The fault of a keeper: `NoMemory` (9), or `Io` (8).
 fn outside(fault: ToolFault) -> ToolFault
     ensures is { result ≡ as_outside fault }
     ensures outside { IsOutside result }
@@ -214,7 +214,7 @@ fn outside(fault: ToolFault) -> ToolFault
 /// Why the lines of a reader go no further. Why they can't be read is noted.
 fn halted_by<R: BufRead + Drop>(
     context: &mut Context<'_>,
-    fault: ConverseFault<ToolFault>,
+    fault: ConverseFault,
     reader: &LastLine<R>,
 ) -> Halted
     ensures by { HaltsBy fault result }
@@ -233,7 +233,6 @@ fn halted_by<R: BufRead + Drop>(
             Halted::Fault(FAILED)
         }
         ConverseFault::Writer(_) | ConverseFault::TooManyLines => Halted::Fault(FAILED),
-        ConverseFault::Follower(fault) => Halted::Fault(outside(fault)),
     }
 }
 
@@ -280,7 +279,7 @@ fn talk_out<S: Stoppable, K: Keeper<S, Refused = ToolFault>>(
     notes: &mut Notes<'_>,
 ) -> Result<Option<Halted>, ToolFault>
     ensures halted { IfOk result (λ halted. IfSome halted IsHalt) }
-    ensures talks { IfOk result (λ halted. (ended : Result (Unit {0}) HaltedValue) × (last : NotesValue)
+    ensures talks { IfOk result (λ halted. (ended : Result (Unit {0}) HaltedValue) × (last : NotesFields)
         × TalksSo
         (behaviour S.sends S.steps S.lends S.shows S.cut_off S.stop_says)
         (keeping K.keeps K.takes K.tells) S.lends

@@ -54,11 +54,11 @@ hears_some steps lends piece framing fed after old new feeds is takes before has
 
 pub sees : {W : Type 0} (saw : SeesOne W) (piece : List ℕ) (framing fed : DeframerState) (old new : W) → Feeds framing piece fed →
     new ≡ saw_all saw old fed.queue → SeesBy saw framing piece old new
-sees saw piece framing fed old new feeds is before has =
-    is ∙ ap (saw_all saw old) (octets_taken before piece framing fed has feeds).1
+sees saw piece framing fed old new feeds is =
+    (fed.queue, is, λ before has. (octets_taken before piece framing fed has feeds).1)
 
 -- what is seen by what is watched
 pub saw_watched : (piece : List ℕ) (framing fed : DeframerState) (old new : Option Watched) → Feeds framing piece fed →
     new ≡ saw_all seen_reading old fed.queue → Sees framing piece old new
 saw_watched piece framing fed old new feeds is before has =
-    sees seen_reading piece framing fed old new feeds is before has ∙ seen_is_saw old (new_contents before piece)
+    is ∙ (ap (saw_all seen_reading old) (octets_taken before piece framing fed has feeds).1 ∙ seen_is_saw old (new_contents before piece))

@@ -196,10 +196,10 @@ abbrev pub saw_all : {W : Type 0} → SeesOne W → W → List (List ℕ) → W
 saw_all saw w [] = w
 saw_all saw w (content ∷ contents) = saw_all saw (saw w content (read_content content)) contents
 
--- the contents that octets completed, which came after those before, were seen by this
+-- contents were seen by this, in order: those that octets completed which came after those before
 abbrev pub SeesBy : {W : Type 0} → SeesOne W → DeframerState → List ℕ → W → W → Type 0
-SeesBy saw framing octets old new =
-    (before : List ℕ) → HasHeard framing before → new ≡ saw_all saw old (new_contents before octets)
+SeesBy saw framing octets old new = (seen : List (List ℕ)) × (new ≡ saw_all saw old seen)
+    × ((before : List ℕ) → HasHeard framing before → seen ≡ new_contents before octets)
 
 -- they were, also if a step lost them; nothing was if no octet was taken
 abbrev pub SeesByIfTaken : {W : Type 0} → SeesOne W → DeframerState → List ℕ → W → W → Result (Unit {0}) HearFault → Type 0

@@ -90,24 +90,13 @@ impl<S: Station> Terminal<S> {
     pub fn hear(&mut self, octets: &[u8]) -> Result<(), HearFault>
         ensures { Hears S.steps S.lends self.old octets.now self.new result }
     {
-        let mut nothing = None;
-        self.hear_watching(octets, &mut nothing)
-    }
-
-    /// Hears octets as `hear` does; what is watched is seen in each good frame, also if the frame is lost to the station.
-    pub fn hear_watching(
-        &mut self,
-        octets: &[u8],
-        watched: &mut Option<Watched>,
-    ) -> Result<(), HearFault>
-        ensures hears { Hears S.steps S.lends self.old octets.now self.new result }
-        ensures sees { SeesIfTaken self.old.framing octets.now watched.old watched.new result }
-    {
         let mut nothing: Option<Watched> = None;
-        self.hear_by(octets, watched, &mut nothing)
+        let mut none: Option<Watched> = None;
+        self.hear_by(octets, &mut nothing, &mut none)
     }
 
-    /// Hears octets as `hear_watching` does; a second watch sees each good frame too, which is read once.
+    /// Hears octets as `hear` does. What is watched, and a second watch, see each good frame, read once, also if the frame is lost to the
+    /// station.
     pub fn hear_by<W: Watch>(
         &mut self,
         octets: &[u8],

@@ -1,13 +1,10 @@
 //! What is noted of a station's call while it runs, beside its trace, and what the other station says that is no signal of ours.
 
-ghost use Rattle.station_commands.specs.CallNotes.{IsLack, IsMissing, ends_all, ends_document, is_confirmation, is_of_mark, is_whole, noted_after};
-ghost use Rattle.station_commands.specs.CallNotes.{figures_said, known_heard, no_notes, noted_heard, noted_said, said_after, with_pps};
-ghost use Rattle.station_commands.specs.Following.{HearsOctets, HearsSome, SaysOctets, SaysSome, v21_heard, v21_said};
-ghost use Rattle.hdlc.specs.DeframerState.{IsAfter};
-ghost use Rattle.signals.specs.Reading.{read_content};
-ghost use Rattle.signals.specs.Signals.{plain_read};
+ghost use Rattle.station_commands.specs.CallNotes.{IsLack, IsMissing, ends_all, ends_document, is_confirmation, is_of_mark, is_whole};
+ghost use Rattle.station_commands.specs.CallNotes.{known_heard, no_notes, noted_heard, noted_said, with_pps};
+ghost use Rattle.signals.specs.Signals.{plain, plain_read};
 ghost use Rattle.faults.specs.Faults.{IsOutside};
-ghost use Rattle.std.specs.Prelude.{◌≡◌, ◌+◌, ◌-◌, ◌^◌, [], IfErr, None, Some, min, not, option_map};
+ghost use Rattle.std.specs.Prelude.{◌≡◌, ◌+◌, ◌-◌, ◌^◌, IfErr, None, Some, min, not};
 
 use crate::station::lateness::Lateness;
 use crate::station::records::{other_line, write_heard, write_heard_words, write_lost};
@@ -15,16 +12,14 @@ use crate::station::trace::Trace;
 use command_files::error_line::ErrorLine;
 use command_files::notices::notice_as;
 use command_files::streams::Streams;
-use conversations::{Channel, Follower, Kind, Said, TimedLine};
+use conversations::{Follower, Heard};
 use faults::ToolFault;
-use hdlc::Deframer;
-use signals::{
-    Caps, Mark, PageEnd, PageWidth, Pps, Reason, Signal, SignalFault, Wish, read, why_not,
-};
-use stations::{Carrier, Listening};
-use terminals::{Figures, SentBurst};
+use signals::{Caps, Mark, PageEnd, PageWidth, Pps, Reason, Signal, SignalFault, Wish, why_not};
+use stations::Carrier;
+use std::marker::Model;
+use terminals::{Figures, Watch};
 
-/// What is noted of the frames that a station heard by V.21, and of those that it said.
+/// What is noted of the frames that a station heard, and of those that it said.
 #[derive(Clone, Copy, Debug, PartialEq, Eq)]
 pub(crate) struct Noted {
     /// The last PPS that it heard.
@@ -46,25 +41,23 @@ impl Noted {
         figures: Figures::NONE,
     };
 
-    /// What is noted once a content was heard too.
-    fn heard(self, content: &[u8]) -> Noted
-        ensures { result ≡ noted_heard self content.now }
+    /// What is noted once a content was heard too, which says this.
+    fn heard(self, content: &[u8], said: Result<Signal<'_>, SignalFault>) -> Noted
+        ensures { result ≡ noted_heard self content.now (plain_read said.entry) }
     {
-        let said = read(content);
         Noted {
             figures: self.figures.heard(content, said),
             ..self.known(said)
         }
     }
 
-    /// What is noted once a content was said too.
-    fn said(self, content: &[u8]) -> Noted
-        ensures { result ≡ noted_said self (read_content content.now) }
+    /// What is noted once a signal was said too.
+    fn said(self, signal: Signal<'_>) -> Noted
+        ensures { result ≡ noted_said self (plain signal.entry) }
     {
-        let said = read(content);
         Noted {
-            confirms: is_confirmation(said),
-            figures: figures_said(self.figures, said),
+            confirms: is_confirmation(signal),
+            figures: self.figures.said(signal),
             ..self
         }
     }
@@ -178,24 +171,11 @@ fn ends_all(ends: PageEnd) -> bool
     }
 }
 
-/// Whether a content that says this is MCF.
-fn is_confirmation(said: Result<Signal<'_>, SignalFault>) -> bool
-    ensures { result ≡ is_confirmation (plain_read said.entry) }
+/// Whether a signal is MCF.
+fn is_confirmation(signal: Signal<'_>) -> bool
+    ensures { result ≡ is_confirmation (plain signal.entry) }
 {
-    match said {
-        Ok(Signal::Mcf) => true,
-        _ => false,
-    }
-}
-
-/// Returns the figures once a content that says this was said.
-fn figures_said(figures: Figures, said: Result<Signal<'_>, SignalFault>) -> Figures
-    ensures { result ≡ figures_said figures (plain_read said.entry) }
-{
-    match said {
-        Ok(signal) => figures.said(signal),
-        Err(_) => figures,
-    }
+    matches!(signal, Signal::Mcf)
 }
 
 /// Where what was heard at a time is told, if it is.
@@ -223,9 +203,9 @@ impl Teller<'_> {
         write_heard_words(self.at, content, &words, line)
     }
 
-    /// Tells of a content that is no signal of ours.
-    fn tell(self, content: &[u8]) {
-        let Ok(Signal::Other(octet)) = read(content) else {
+    /// Tells of a content that says this, if it is no signal of ours.
+    fn tell(self, content: &[u8], said: Result<Signal<'_>, SignalFault>) {
+        let Ok(Signal::Other(octet)) = said else {
             return;
         };
         let fields = content.get(3..).unwrap_or(&[]);
@@ -239,57 +219,6 @@ impl Teller<'_> {
     }
 }
 
-/// What is noted with the contents that wait, of which those that are no signals of ours are told.
-fn note_waiting(ear: &mut Deframer, before: Noted, teller: Teller<'_>) -> Noted
-    ensures notes { result ≡ noted_after before ear.old.queue }
-    ensures taken { ear.new ≡ record ear.old { queue = [] } }
-{
-    let mut noted = before;
-    while let Some(content) = ear.next() {
-        noted = noted.heard(content);
-        teller.tell(content);
-    }
-    noted
-}
-
-/// Notes the contents that wait to be said. Returns what is noted then.
-fn note_saying(mouth: &mut Deframer, before: Noted) -> Noted
-    ensures notes { result ≡ said_after before mouth.old.queue }
-    ensures taken { mouth.new ≡ record mouth.old { queue = [] } }
-{
-    let mut noted = before;
-    while let Some(content) = mouth.next() {
-        noted = noted.said(content);
-    }
-    noted
-}
-
-/// The octets of frames by V.21 that a line brings, if it does.
-fn v21_heard(said: &Said) -> Option<&[u8]>
-    ensures { option_map (λ octets. octets.now) result ≡ v21_heard said.now }
-{
-    match said {
-        Said::Received {
-            channel: Channel::V21,
-            kind: Kind::Frames,
-            octets,
-            ..
-        } => Some(octets.as_slice()),
-        _ => None,
-    }
-}
-
-/// The octets of a burst, if it goes by V.21.
-fn v21_said(burst: &SentBurst) -> Option<&[u8]>
-    ensures { option_map (λ octets. octets.now) result
-        ≡ v21_said burst.now.carrier burst.now.octets.items }
-{
-    match burst.carrier {
-        Carrier::V21 => Some(burst.octets.as_slice()),
-        Carrier::Training(_) | Carrier::Page(_) => None,
-    }
-}
-
 /// Observes a call: writes its trace, if one is asked for, and notes what is known of it at its end.
 #[derive(Drop)]
 pub(crate) struct Notes<'a> {
@@ -297,24 +226,61 @@ pub(crate) struct Notes<'a> {
     records: bool,
     trace: Trace<'a>,
     lateness: Lateness<'a>,
-    ear: Deframer,
-    mouth: Deframer,
+    // the time of the last line
+    at: u64,
     noted: Noted,
     lost: u64,
 }
 
+impl<'a> Model for Notes<'a> {
+    ghost use Rattle.station_commands.specs.Following.{NotesFields};
+
+    ghost Value = { NotesFields };
+
+    ghost view = { λ notes. record { noted = notes.noted; lateness = notes.lateness; lost = notes.lost } };
+}
+
+impl Watch for Notes<'_> {
+    ghost use Rattle.station_commands.specs.Following.{notes_heard, notes_said};
+
+    ghost saw = { notes_heard };
+
+    ghost saw_said = { notes_said };
+
+    fn see(&mut self, content: &[u8], said: Result<Signal<'_>, SignalFault>) {
+        self.noted = self.noted.heard(content, said);
+        self.trace.heard(self.at, content, said);
+        let teller = Teller {
+            streams: self.streams,
+            records: self.records,
+            at: self.at,
+        };
+        teller.tell(content, said);
+    }
+
+    fn see_said(&mut self, content: &[u8], signal: Signal<'_>) {
+        self.noted = self.noted.said(signal);
+        self.trace.said(self.at, content, signal);
+    }
+}
+
 impl Follower for Notes<'_> {
-    ghost use Rattle.station_commands.specs.Following.{station_follower};
+    ghost use Rattle.station_commands.specs.Following.{JudgesAnswer, MeetsLine};
 
-    ghost notes = { station_follower };
+    ghost notes = { λ old at new. MeetsLine old at new };
 
-    type Failed = ToolFault;
+    ghost judges = { λ old at late new. JudgesAnswer old at late new };
 
-    fn heard(&mut self, listens: Listening, line: &TimedLine) -> Result<(), ToolFault> {
-        self.lateness.note(line.at);
-        self.trace.heard(listens, line);
-        self.note_line(line);
-        Ok(())
+    fn begin_line(&mut self, at: u64, begun: bool) {
+        self.at = at;
+        if !begun {
+            return;
+        }
+        self.lateness.note(at);
+    }
+
+    fn end_line(&mut self, heard: Heard) {
+        self.trace.end_line(self.at, heard);
     }
 
     // Said on standard error, as nothing of the answer is sent.
@@ -326,10 +292,8 @@ impl Follower for Notes<'_> {
         is_late
     }
 
-    fn said(&mut self, at: u64, burst: &SentBurst) -> Result<(), ToolFault> {
-        self.trace.said(at, burst);
-        self.note_burst(burst);
-        Ok(())
+    fn end_burst(&mut self, carrier: Carrier) {
+        self.trace.end_burst(self.at, carrier);
     }
 }
 
@@ -342,17 +306,14 @@ impl<'a> Notes<'a> {
         lateness: Lateness<'a>,
     ) -> Notes<'a>
         ensures noted { result.noted ≡ no_notes }
-        ensures deframers { IsAfter result.ear [] 0 × IsAfter result.mouth [] 0 }
         ensures lateness { result.lateness ≡ lateness.entry }
     {
-        let alloc = streams.rt().alloc();
         Notes {
             streams,
             records,
             trace,
             lateness,
-            ear: Deframer::new(alloc),
-            mouth: Deframer::new(alloc),
+            at: 0,
             noted: Noted::NOTHING,
             lost: 0,
         }
@@ -404,51 +365,5 @@ impl<'a> Notes<'a> {
         ensures { result ≡ self.now.noted }
     {
         self.noted
-    }
-
-    /// Notes the frames by V.21 that a line brings, if it does.
-    fn note_line(&mut self, line: &TimedLine)
-        ensures { HearsSome (v21_heard line.now.said) self.old self.new }
-    {
-        let Some(octets) = v21_heard(&line.said) else {
-            return;
-        };
-        self.note_heard(line.at, octets);
-    }
-
-    /// Notes the frames of a burst, if it goes by V.21.
-    fn note_burst(&mut self, burst: &SentBurst)
-        ensures { SaysSome (v21_said burst.now.carrier burst.now.octets.items) self.old self.new }
-    {
-        let Some(octets) = v21_said(burst) else {
-            return;
-        };
-        self.note_said(octets);
-    }
-
-    /// Notes octets of frames that came by V.21 at a time. If memory is refused no PPS is known any more.
-    fn note_heard(&mut self, at: u64, octets: &[u8])
-        ensures { HearsOctets self.old octets.now self.new }
-    {
-        if self.ear.feed(octets).is_err() {
-            self.noted.pps = None;
-            return;
-        }
-        let teller = Teller {
-            streams: self.streams,
-            records: self.records,
-            at,
-        };
-        self.noted = note_waiting(&mut self.ear, self.noted, teller);
-    }
-
-    /// Notes octets of frames that are sent by V.21. If memory is refused nothing counts as confirmed.
-    fn note_said(&mut self, octets: &[u8])
-        ensures { SaysOctets self.old octets.now self.new }
-    {
-        match self.mouth.feed(octets) {
-            Ok(()) => self.noted = note_saying(&mut self.mouth, self.noted),
-            Err(_memory) => self.noted.confirms = false,
-        }
     }
 }

@@ -1,8 +1,8 @@
 //! What a station heard and said, as text with its time.
 
 ghost use Rattle.faults.specs.Faults.{IsOutside};
-ghost use Rattle.station_commands.specs.CallNotes.{frame_read, run_line, said_word};
-ghost use Rattle.signals.specs.Reading.{read_content};
+ghost use Rattle.station_commands.specs.CallNotes.{frame_read, joined_run, run_line, run_with, said_word};
+ghost use Rattle.signals.specs.Signals.{plain_read};
 ghost use Rattle.std.specs.Io.KnownBytes.{Appends};
 ghost use Rattle.std.specs.Prelude.{◌≡◌, ◌||◌, IfErr, None, OnOk, cond, nat_eq, ◌+◌};
 
@@ -13,17 +13,15 @@ use command_files::files::limited::SharedFile;
 use command_files::files::output::Rights;
 use command_files::notices::notice_as;
 use command_files::streams::Streams;
-use conversations::{Heard, Kind, Said, TimedLine, heard_as};
+use conversations::Heard;
 use faults::ToolFault;
-use hdlc::Deframer;
-use signals::{Signal, read};
-use stations::Listening;
+use signals::{Signal, SignalFault};
+use stations::Carrier;
 use std::alloc::Global;
 use std::fs::{File, OpenOptions, Permissions};
 use std::io;
 use std::io::{BufWriter, ErrorKind, Write};
 use std::os::unix::fs::{OpenOptionsExt, PermissionsExt};
-use terminals::SentBurst;
 
 /// More octets than a line of a trace has: the frame with the most words, NSF, has 300 octets. Each line is written by one call, so that
 /// stations that share a trace don't write into each other's lines.
@@ -36,27 +34,38 @@ pub(crate) struct Trace<'a> {
     file: Option<TraceFile>,
 }
 
-/// The file of a trace, and what was heard and said so far of frames that are not whole.
+/// The file of a trace, and the frames of a block that follow each other and have no line yet.
 #[derive(Drop)]
 struct TraceFile {
     alloc: Global,
     records: bool,
     frames: bool,
     writer: BufWriter<SharedFile>,
-    heard: Deframer,
-    said: Deframer,
+    run: Option<FrameRun>,
 }
 
 impl<'a> Trace<'a> {
-    /// Writes what a line brings to a station that listens so, if there is a trace.
-    pub(crate) fn heard(&mut self, listens: Listening, line: &TimedLine) {
-        let written = self.write_heard(listens, line);
+    /// Writes a content that is heard at a time and says this, if there is a trace.
+    pub(crate) fn heard(&mut self, at: u64, content: &[u8], said: Result<Signal<'_>, SignalFault>) {
+        let written = self.write_frame(at, false, content, said);
         self.end_after(written);
     }
 
-    /// Writes a burst that is sent in answer to the line of this time, if there is a trace.
-    pub(crate) fn said(&mut self, at: u64, burst: &SentBurst) {
-        let written = self.write_said(at, burst);
+    /// Writes a content that is said in answer to the line of this time, and its signal, if there is a trace.
+    pub(crate) fn said(&mut self, at: u64, content: &[u8], signal: Signal<'_>) {
+        let written = self.write_frame(at, true, content, Ok(signal));
+        self.end_after(written);
+    }
+
+    /// Writes what is left of a line of this time that the station hears so, if there is a trace.
+    pub(crate) fn end_line(&mut self, at: u64, heard: Heard) {
+        let written = self.write_end(at, false, matches!(heard, Heard::Check));
+        self.end_after(written);
+    }
+
+    /// Writes what is left of a burst by this carrier, in answer to the line of this time, if there is a trace.
+    pub(crate) fn end_burst(&mut self, at: u64, carrier: Carrier) {
+        let written = self.write_end(at, true, matches!(carrier, Carrier::Training(_)));
         self.end_after(written);
     }
 
@@ -91,8 +100,7 @@ impl<'a> Trace<'a> {
             records: context.is_json(),
             frames,
             writer: BufWriter::with_capacity(alloc, LONGEST_LINE, writer)?,
-            heard: Deframer::new(alloc),
-            said: Deframer::new(alloc),
+            run: None,
         };
         Ok(Trace {
             streams: context.streams(),
@@ -114,33 +122,37 @@ impl<'a> Trace<'a> {
         let _told = notice_as(self.streams, records, words);
     }
 
-    /// Writes what a line brings to a station that listens so. Errors: `Io` (8) from the file, `NoMemory` (9).
-    fn write_heard(&mut self, listens: Listening, line: &TimedLine) -> Result<(), ToolFault>
+    /// Writes the line of a content that says this, unless one line has it with the frames beside it. Errors: `Io` (8) from the file,
+    /// `NoMemory` (9).
+    fn write_frame(
+        &mut self,
+        at: u64,
+        said: bool,
+        content: &[u8],
+        signal: Result<Signal<'_>, SignalFault>,
+    ) -> Result<(), ToolFault>
         ensures { IfErr result IsOutside }
     {
-        let (
-            Some(file),
-            Said::Received {
-                channel,
-                kind,
-                octets,
-                ..
-            },
-        ) = (&mut self.file, &line.said)
-        else {
+        let Some(file) = &mut self.file else {
             return Ok(());
         };
-        match heard_as(listens, *channel, *kind) {
-            Heard::Frames => {
-                file.heard.feed(octets)?;
-                let lines = file.lines_at(line.at, false);
-                write_contents(&mut file.heard, lines, &mut file.writer)?;
-            }
-            Heard::Check => file.lines_at(line.at, false).write_check(&mut file.writer)?,
-            Heard::Nothing => {}
+        let lines = file.lines_at(at, said);
+        file.write_content(lines, content, lines.frame_of(signal))
+    }
+
+    /// Writes the line of a training check, or of frames that follow each other, where a line or a burst ends. Errors: `Io` (8) from the file,
+    /// `NoMemory` (9).
+    fn write_end(&mut self, at: u64, said: bool, checks: bool) -> Result<(), ToolFault>
+        ensures { IfErr result IsOutside }
+    {
+        let Some(file) = &mut self.file else {
+            return Ok(());
+        };
+        let lines = file.lines_at(at, said);
+        if checks {
+            lines.write_check(&mut file.writer)?;
         }
-        file.writer.flush()?;
-        Ok(())
+        file.end_run(lines)
     }
 
     /// Writes how many lines are lost. Errors: `Io` (8) from the file.
@@ -151,25 +163,6 @@ impl<'a> Trace<'a> {
             return Ok(());
         };
         write_lost(file.records, at, lines, &mut file.writer)?;
-        file.writer.flush()?;
-        Ok(())
-    }
-
-    /// Writes what a burst says. Errors: `Io` (8) from the file, `NoMemory` (9).
-    fn write_said(&mut self, at: u64, burst: &SentBurst) -> Result<(), ToolFault>
-        ensures { IfErr result IsOutside }
-    {
-        let Some(file) = &mut self.file else {
-            return Ok(());
-        };
-        match Kind::of(burst.carrier) {
-            Kind::Frames => {
-                file.said.feed(&burst.octets)?;
-                let lines = file.lines_at(at, true);
-                write_contents(&mut file.said, lines, &mut file.writer)?;
-            }
-            Kind::Check => file.lines_at(at, true).write_check(&mut file.writer)?,
-        }
         file.writer.flush()?;
         Ok(())
     }
@@ -218,6 +211,41 @@ impl TraceFile {
             said,
         }
     }
+
+    /// Writes the line of a content, or keeps it if it is a frame of a block that may go on. Errors: `Io` (8) from the file, `NoMemory` (9).
+    fn write_content(
+        &mut self,
+        lines: TraceLines,
+        content: &[u8],
+        frame: Option<FrameRun>,
+    ) -> Result<(), ToolFault>
+        ensures run { OnOk result
+            (self.new.run ≡ run_with (joined_run self.old.run frame) frame) }
+        ensures fault { IfErr result IsOutside }
+    {
+        if let Some(more) = joined_run(self.run, frame) {
+            self.run = Some(more);
+            return Ok(());
+        }
+        self.end_run(lines)?;
+        self.run = frame;
+        if frame.is_none() {
+            lines.write_content(content, &mut self.writer)?;
+            self.writer.flush()?;
+        }
+        Ok(())
+    }
+
+    /// Writes the line of the frames that have none yet, if there are some. Errors: `Io` (8) from the file.
+    fn end_run(&mut self, lines: TraceLines) -> Result<(), ToolFault>
+        ensures run { OnOk result (self.new.run ≡ None) }
+        ensures fault { IfErr result IsOutside }
+    {
+        lines.write_run(self.run, &mut self.writer)?;
+        self.run = None;
+        self.writer.flush()?;
+        Ok(())
+    }
 }
 
 /// The lines of what is said or heard at a time, as text or as records.
@@ -236,6 +264,16 @@ struct FrameRun {
     first: u8,
     last: u8,
     octets: usize,
+}
+
+/// Frames that follow each other, with one more if it is the next; None if it isn't.
+fn joined_run(run: Option<FrameRun>, frame: Option<FrameRun>) -> Option<FrameRun>
+    ensures { result ≡ joined_run run frame }
+{
+    match (run, frame) {
+        (Some(before), Some(frame)) if before.is_before(frame) => Some(before.with(frame)),
+        _ => None,
+    }
 }
 
 impl FrameRun {
@@ -265,14 +303,14 @@ impl TraceLines {
         if self.said { "said" } else { "heard" }
     }
 
-    /// The frame of a block that a content is, where such a one has no line of its own.
-    fn frame_of(self, content: &[u8]) -> Option<FrameRun>
-        ensures { result ≡ cond (self.records || self.frames) None (frame_read (read_content content.now)) }
+    /// The frame of a block that a content is which says this, where such a one has no line of its own.
+    fn frame_of(self, said: Result<Signal<'_>, SignalFault>) -> Option<FrameRun>
+        ensures { result ≡ cond (self.records || self.frames) None (frame_read (plain_read said.entry)) }
     {
         if self.records || self.frames {
             return None;
         }
-        match read(content) {
+        match said {
             Ok(Signal::Fcd { number, octets }) => Some(FrameRun {
                 first: number,
                 last: number,
@@ -328,32 +366,4 @@ impl TraceLines {
         writeln!(writer, "{} {} TRAINING", self.at, self.word())?;
         Ok(())
     }
-}
-
-/// Writes a line for each content that waits, or one for frames that follow each other. Errors: `Io` (8) from the writer, `NoMemory` (9).
-fn write_contents<W: Write>(
-    deframer: &mut Deframer,
-    lines: TraceLines,
-    writer: &mut W,
-) -> Result<(), ToolFault>
-    ensures fault { IfErr result IsOutside }
-{
-    let mut run: Option<FrameRun> = None;
-    while let Some(content) = deframer.next() {
-        match (run, lines.frame_of(content)) {
-            (Some(before), Some(frame)) if before.is_before(frame) => run = Some(before.with(
-                frame,
-            )),
-            (_, frame) => {
-                lines.write_run(run, writer)?;
-                writer.flush()?;
-                run = frame;
-                if frame.is_none() {
-                    lines.write_content(content, writer)?;
-                    writer.flush()?;
-                }
-            }
-        }
-    }
-    lines.write_run(run, writer)
 }

@@ -36,8 +36,6 @@ returns-clause-talks c =
       follower = c.new-notes.result;
       is_new = record {
         noted = c.new-notes.ensures.noted;
-        ear = c.new-notes.ensures.deframers.0;
-        mouth = c.new-notes.ensures.deframers.1;
         most_is = search rules;
         first = search rules;
       };
@@ -45,4 +43,5 @@ returns-clause-talks c =
       follows = talks.2.1;
       whole = search rules;
       unconfirmed = search rules;
+      figures = search rules;
     }

@@ -24,12 +24,12 @@ returns-clause-talks c document sends new =
       follower = c.new-notes.result;
       is_new = record {
         noted = c.new-notes.ensures.noted;
-        ear = c.new-notes.ensures.deframers.0;
-        mouth = c.new-notes.ensures.deframers.1;
         most_is = search rules;
         first = search rules;
       };
       notes = talks.1;
       follows = talks.2.1;
+      missing = search rules;
+      figures = search rules;
       pages = λ t stands. search rules;
     }
