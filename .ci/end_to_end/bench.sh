@@ -118,7 +118,10 @@ try_spandsp() {
     "$cc" -O2 -Wall -Wextra -Werror -o "$work/spandsp_station" "$top/docs/examples/spandsp_station.c" -lspandsp -ltiff ||
         fails "spandsp_station.c isn't compiled"
     for only in nothing lose-heard no-fcd; do
-        benches 0 --only "$only" --caller-command "$work/spandsp_station --call" --answerer-command "$work/spandsp_station --answer"
+        benches 0 --rules --only "$only" --caller-command "$work/spandsp_station --call" --answerer-command "$work/spandsp_station --answer"
+        # after PPR its PPS counts what is sent again
+        [ "$only" != lose-heard ] || grep -q '^| caller | lose-heard 3 | OK | 2 | wrong-count |$' "$work/output" ||
+            fails "bench.py --rules of libspandsp: $(cat "$work/output")"
     done
 }
 
@@ -135,9 +138,10 @@ try_bench() {
     try_logs
     try_converted
     try_seeds
-    benches 0
+    benches 0 --rules
     ! grep '\*' "$work/output" || fails "a call ends otherwise than the list says"
-    grep -q '^| caller | repeat-said 3 | normal | 2 |$' "$work/output" || fails "bench.py repeats no MCF"
+    grep -q '^| caller | repeat-said 3 | normal | 2 | - |$' "$work/output" || fails "bench.py repeats no MCF"
+    ! grep '^| [ca].*[^-] |$' "$work/output" || fails "a station of ours is the first one to break a rule"
     [ "$(grep -c '^| [ca]' "$work/output")" -ge 70 ] || fails "bench.py played few calls"
     benches 0 --only "caller rnr 21" --judge "grep 'answerer FF13EC'"
     grep -q '^| caller | rnr 21 | normal | 2 | 21 |$' "$work/output" || fails "bench.py with a judge: $(cat "$work/output")"
