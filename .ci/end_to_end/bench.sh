@@ -133,11 +133,31 @@ try_tsb85() {
     rm -r "$work/tsb85"
 }
 
+# tap.py at both ends of a call: without losses it logs the same at both, and with losses the caller's log has no broken rule.
+try_tap() {
+    tap=$top/docs/examples/tap.py
+    for lost in 0 10%; do
+        rm -rf "$work/stored"
+        mkdir "$work/stored"
+        timeout 300 python3 -B "$top/docs/examples/join.py" --lose-frames $lost --caller-command "python3 -B $tap $work/caller.log $program station --call" \
+            --answerer-command "python3 -B $tap $work/answerer.log $program station --answer" "$top/docs/examples/row.pbm" "$work/stored" > "$work/output" ||
+            fails "tap.py at both ends: $(cat "$work/output")"
+        gives 0 judge "$work/caller.log"
+        grep -q 'broken 0 readings 0 unread 0$' "$work/output" || fails "tap.py of a caller: $(cat "$work/output")"
+        for side in caller answerer; do
+            sed 's/^[0-9]* //' "$work/$side.log" > "$work/$side.said"
+        done
+        [ $lost != 0 ] || is_same "$work/caller.said" "$work/answerer.said" "what both ends log"
+        count=$((count + 1))
+    done
+}
+
 # Both stations end each call as their tables say, also where an MCF comes twice in one burst. A row that ends otherwise is seen.
 try_bench() {
     try_logs
     try_converted
     try_seeds
+    try_tap
     benches 0 --rules
     ! grep '\*' "$work/output" || fails "a call ends otherwise than the list says"
     grep -q '^| caller | repeat-said 3 | normal | 2 | - |$' "$work/output" || fails "bench.py repeats no MCF"
