@@ -59,6 +59,17 @@ try_spandsp_calls() {
     rm -r "$work/calls"
 }
 
+# A call of ours by a script, and one over a line that loses: no rule is broken.
+try_call_logs() {
+    for words in "--script $top/docs/examples/one_page.script" "--lose 20% --busy 20% --seed 7"; do
+        # the words are several
+        # shellcheck disable=SC2086
+        python3 -B "$top/docs/examples/call2log.py" --faxtool "$program" $words "$top/docs/examples/row.pbm" > "$work/log" || [ $? = 1 ] || fails "call2log.py $words"
+        gives 0 judge "$work/log"
+        grep -q '^frames [1-9][0-9]* broken 0 readings 0 unread 0$' "$work/output" || fails "judge of call2log.py $words: $(cat "$work/output")"
+    done
+}
+
 # Calls of a few frames, worked by hand.
 try_judged() {
     : > "$work/nothing"
@@ -136,6 +147,7 @@ try_judge() {
     try_judged
     try_tapped
     try_spandsp_calls
+    try_call_logs
     try_no_log_line
     try_long_log
     try_judge_alike
