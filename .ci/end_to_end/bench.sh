@@ -152,6 +152,19 @@ try_tap() {
     done
 }
 
+# Of the calls of bench.py with our stations, the first frame that breaks a rule is the one that bench/judge.py names, and none in the others:
+# the station that misbehaves says it.
+try_deviations_judged() {
+    number=0
+    grep -v '^#' "$top/docs/examples/deviations" | while IFS='|' read -r tested script _wanted; do
+        number=$((number + 1))
+        rule=$("$program" judge --json "$work/bench/call-$number/log" | sed -n '/"reading":false/{s/.*"by":"\([a-z]*\)".*"rule":"\([a-z-]*\)".*/\1 \2/p;q;}')
+        [ -z "$rule" ] || echo "$tested|$script| $rule"
+    done > "$work/judged"
+    is_same "$work/judged" "$data/judged_deviations.txt" "the first rule that is broken in each call of bench.py"
+    count=$((count + 1))
+}
+
 # Both stations end each call as their tables say, also where an MCF comes twice in one burst. A row that ends otherwise is seen.
 try_bench() {
     try_logs
@@ -162,6 +175,7 @@ try_bench() {
     ! grep '\*' "$work/output" || fails "a call ends otherwise than the list says"
     grep -q '^| caller | repeat-said 3 | normal | 2 | - |$' "$work/output" || fails "bench.py repeats no MCF"
     ! grep '^| [ca].*[^-] |$' "$work/output" || fails "a station of ours is the first one to break a rule"
+    try_deviations_judged
     [ "$(grep -c '^| [ca]' "$work/output")" -ge 70 ] || fails "bench.py played few calls"
     benches 0 --only "caller rnr 21" --judge "grep 'answerer FF13EC'"
     grep -q '^| caller | rnr 21 | normal | 2 | 21 |$' "$work/output" || fails "bench.py with a judge: $(cat "$work/output")"
