@@ -171,7 +171,7 @@ class Call:
             self.repeated = None
         if said.name == "RNR":
             self.is_busy = True
-        elif said.name in ("PPS", "CFR"):
+        elif said.name in ("PPS", "FCD", "CFR"):
             self.is_busy = False
 
     @property
@@ -195,8 +195,9 @@ def rule(name, *signals):
     return add
 
 
-@rule("wrong-side", "DIS", "CFR", "FTT", "MCF", "PPR", "RNR", "DCS", "FCD", "RCP", "PPS", "RR")
+@rule("wrong-side", "DIS", "CFR", "FTT", "MCF", "PPR", "RNR", "ERR", "CTR", "DCS", "FCD", "RCP", "PPS", "RR")
 def is_of_other_station(said, call):
+    """An ERR or a CTR of an answerer is let pass, and one of a caller is the answerer's."""
     return (said.by == "caller") != (said.name in ("DCS", "FCD", "RCP", "PPS", "RR"))
 
 

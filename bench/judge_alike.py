@@ -23,13 +23,13 @@ from pathlib import Path
 
 sys.dont_write_bytecode = True
 BENCH = Path(__file__).resolve().parent
-sys.path[:0] = [str(BENCH), str(BENCH / "fuzz")]
-from fuzz_calls import PROGRAM, random_image, random_options, remove_outputs  # noqa: E402
+sys.path[:0] = [str(BENCH), str(BENCH / "fuzz"), str(BENCH.parent / "docs" / "examples")]
+from call2log import BURST_ENDS, frames_of  # noqa: E402
+from fuzz_calls import PROGRAM, random_image, random_options  # noqa: E402
 from judge import ALL, RULES, judge  # noqa: E402
 
 LOGS_OF_A_CALL = 12
 SIDES = ["caller", "answerer"]
-BURST_ENDS = 4  # a burst's FCDs are followed by three RCPs and a PPS
 DIS, DCS, SMALL_DCS = (bytes.fromhex(text) for text in ["ff1380006efa44", "ff13830022f844", "ff13830022f84c"])
 CFR, MCF, RNR, ERR, CTR = (bytes([0xFF, 0x13, control]) for control in (0x84, 0x8C, 0xEC, 0x1C, 0xC4))
 RR, DCN, CTC, EOR, RCP = (bytes.fromhex(text) for text in ["ff136f", "ff13fb", "ff1313", "ff13cf2f", "ff0386"])
@@ -54,45 +54,14 @@ def ppr(asks):
 # Calls of the program's two stations.
 
 
-def contents_of(path):
-    """The contents of what a station sent in a call."""
-    ran = subprocess.run([PROGRAM, "frames", path], capture_output=True, text=True, check=True, timeout=120)
-    words = [line.split(" ") for line in ran.stdout.splitlines()]
-    return [bytes.fromhex(line[1]) for line in words if line[0].isdigit()]
-
-
-def turns_in(transcript):
-    """Who says how many frames, turn by turn. The answerer's first DIS comes before the first line."""
-    yield "answerer", 1
-    for line in transcript.splitlines():
-        number, event, *items = line.split(" ")
-        if not number.isdigit() or items[1] == "-":
-            continue
-        says, _, count = items[1].partition(":")
-        if says == "DCN":
-            yield "caller" if event in ("to-caller", "caller-timeout", "caller-t5") else "answerer", 1
-        elif count:
-            yield "caller", int(count) + BURST_ENDS
-        else:
-            yield "caller" if says in ("DCS", "PPS", "RR") else "answerer", 1
-
-
 def random_call(rand, folder):
     """What is said in a call of one to three pages over a line that loses."""
     page = os.path.join(folder, "page.pbm")
     Path(page).write_bytes(b"".join(random_image(rand) for _ in range(rand.randint(1, 3))))
     words = ["--lose", rand.choice(["2%", "5%", "10%", "20%"]), "--seed", str(rand.randrange(2**32)), *random_options(rand)]
     words += ["--spoil", "10%"] * (rand.random() < 0.3) + ["--busy", "30%"] * (rand.random() < 0.3)
-    remove_outputs(folder)
-    ran = subprocess.run([PROGRAM, "call", *words, "--bits", folder, page], capture_output=True, text=True, check=True, timeout=120)
-    said = {"caller": contents_of(os.path.join(folder, "to-answerer.bits")), "answerer": contents_of(os.path.join(folder, "to-caller.bits"))}
-    frames = []
-    for by, count in turns_in(ran.stdout):
-        frames += [(by, content) for content in said[by][:count]]
-        del said[by][:count]
-    if said["caller"] or said["answerer"]:
-        sys.exit(f"judge_alike.py: a call's stations said more than its transcript has: {words}")
-    return frames
+    _status, frames = frames_of(PROGRAM, [*words, page])
+    return [(by, bytes.fromhex(content)) for _line, by, content in frames]
 
 
 # Changed calls, and frames at random.

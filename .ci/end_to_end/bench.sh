@@ -118,7 +118,10 @@ try_spandsp() {
     "$cc" -O2 -Wall -Wextra -Werror -o "$work/spandsp_station" "$top/docs/examples/spandsp_station.c" -lspandsp -ltiff ||
         fails "spandsp_station.c isn't compiled"
     for only in nothing lose-heard no-fcd; do
-        benches 0 --only "$only" --caller-command "$work/spandsp_station --call" --answerer-command "$work/spandsp_station --answer"
+        benches 0 --rules --only "$only" --caller-command "$work/spandsp_station --call" --answerer-command "$work/spandsp_station --answer"
+        # after PPR its PPS counts what is sent again
+        [ "$only" != lose-heard ] || grep -q '^| caller | lose-heard 3 | OK | 2 | wrong-count |$' "$work/output" ||
+            fails "bench.py --rules of libspandsp: $(cat "$work/output")"
     done
 }
 
@@ -130,14 +133,49 @@ try_tsb85() {
     rm -r "$work/tsb85"
 }
 
+# tap.py at both ends of a call: without losses it logs the same at both, and with losses the caller's log has no broken rule.
+try_tap() {
+    tap=$top/docs/examples/tap.py
+    for lost in 0 10%; do
+        rm -rf "$work/stored"
+        mkdir "$work/stored"
+        timeout 300 python3 -B "$top/docs/examples/join.py" --lose-frames $lost --caller-command "python3 -B $tap $work/caller.log $program station --call" \
+            --answerer-command "python3 -B $tap $work/answerer.log $program station --answer" "$top/docs/examples/row.pbm" "$work/stored" > "$work/output" ||
+            fails "tap.py at both ends: $(cat "$work/output")"
+        gives 0 judge "$work/caller.log"
+        grep -q 'broken 0 readings 0 unread 0$' "$work/output" || fails "tap.py of a caller: $(cat "$work/output")"
+        for side in caller answerer; do
+            sed 's/^[0-9]* //' "$work/$side.log" > "$work/$side.said"
+        done
+        [ $lost != 0 ] || is_same "$work/caller.said" "$work/answerer.said" "what both ends log"
+        count=$((count + 1))
+    done
+}
+
+# Of the calls of bench.py with our stations, the first frame that breaks a rule is the one that bench/judge.py names, and none in the others:
+# the station that misbehaves says it.
+try_deviations_judged() {
+    number=0
+    grep -v '^#' "$top/docs/examples/deviations" | while IFS='|' read -r tested script _wanted; do
+        number=$((number + 1))
+        rule=$("$program" judge --json "$work/bench/call-$number/log" | sed -n '/"reading":false/{s/.*"by":"\([a-z]*\)".*"rule":"\([a-z-]*\)".*/\1 \2/p;q;}')
+        [ -z "$rule" ] || echo "$tested|$script| $rule"
+    done > "$work/judged"
+    is_same "$work/judged" "$data/judged_deviations.txt" "the first rule that is broken in each call of bench.py"
+    count=$((count + 1))
+}
+
 # Both stations end each call as their tables say, also where an MCF comes twice in one burst. A row that ends otherwise is seen.
 try_bench() {
     try_logs
     try_converted
     try_seeds
-    benches 0
+    try_tap
+    benches 0 --rules
     ! grep '\*' "$work/output" || fails "a call ends otherwise than the list says"
-    grep -q '^| caller | repeat-said 3 | normal | 2 |$' "$work/output" || fails "bench.py repeats no MCF"
+    grep -q '^| caller | repeat-said 3 | normal | 2 | - |$' "$work/output" || fails "bench.py repeats no MCF"
+    ! grep '^| [ca].*[^-] |$' "$work/output" || fails "a station of ours is the first one to break a rule"
+    try_deviations_judged
     [ "$(grep -c '^| [ca]' "$work/output")" -ge 70 ] || fails "bench.py played few calls"
     benches 0 --only "caller rnr 21" --judge "grep 'answerer FF13EC'"
     grep -q '^| caller | rnr 21 | normal | 2 | 21 |$' "$work/output" || fails "bench.py with a judge: $(cat "$work/output")"

@@ -42,6 +42,34 @@ try_tapped() {
     works judge --strict "$work/nothing"
 }
 
+# Twenty calls of libspandsp's T.30 with a station of ours, which says and hears too little: each frame breaks the rule that a second reading
+# names, by the number of the frame, its station and the rule.
+try_spandsp_calls() {
+    mkdir "$work/calls"
+    awk -v folder="$work/calls" '/^## /{n++} {print > folder "/" n}' "$data/spandsp_calls.log"
+    for number in $(seq 20); do
+        status=0
+        "$program" judge "$work/calls/$number" > "$work/output" 2> "$work/error" || status=$?
+        head -n 1 "$work/calls/$number"
+        sed -n 's/^\([0-9]*\) [^ ]* \([a-z]*\) .*\[\([a-z-]*\).*\]$/\1 \2 \3/p' "$work/output"
+        [ "$status" -le 1 ] && [ ! -s "$work/error" ] || fails "judge of call $number of libspandsp ended with status $status"
+        count=$((count + 1))
+    done > "$work/judged"
+    is_same "$work/judged" "$data/spandsp_calls.txt" "judge of libspandsp's calls"
+    rm -r "$work/calls"
+}
+
+# A call of ours by a script, and one over a line that loses: no rule is broken.
+try_call_logs() {
+    for words in "--script $top/docs/examples/one_page.script" "--lose 20% --busy 20% --seed 7"; do
+        # the words are several
+        # shellcheck disable=SC2086
+        python3 -B "$top/docs/examples/call2log.py" --faxtool "$program" $words "$top/docs/examples/row.pbm" > "$work/log" || [ $? = 1 ] || fails "call2log.py $words"
+        gives 0 judge "$work/log"
+        grep -q '^frames [1-9][0-9]* broken 0 readings 0 unread 0$' "$work/output" || fails "judge of call2log.py $words: $(cat "$work/output")"
+    done
+}
+
 # Calls of a few frames, worked by hand.
 try_judged() {
     : > "$work/nothing"
@@ -118,6 +146,8 @@ try_judge_alike() {
 try_judge() {
     try_judged
     try_tapped
+    try_spandsp_calls
+    try_call_logs
     try_no_log_line
     try_long_log
     try_judge_alike

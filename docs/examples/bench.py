@@ -1,18 +1,20 @@
 #!/usr/bin/env python3
 """Tests a T.30 station: plays a call for each line of `deviations`, in which the other station misbehaves, and prints a table.
 
-    bench.py [--caller-command COMMAND] [--answerer-command COMMAND] [--only TEXT] [--list FILE] [--judge COMMAND] [--seed N]
+    bench.py [--caller-command COMMAND] [--answerer-command COMMAND] [--only TEXT] [--list FILE] [--rules] [--judge COMMAND] [--seed N]
         [--faxtool PROGRAM] DIR
 
 Each call has a folder in DIR with the pages that are stored, and the `log` of misbehave.py, which says how a command has to behave. The document
 has two pages of random patterns. Of the station that isn't named ours is tested. A row has the deviation, the end, and the pages: those that
 a caller counts as confirmed, and how many of them were stored if that is fewer; or those that an answerer stored. With `*` the list has
 other pages, or for ours another end: those of a station that follows docs/STATION.md.
-With --judge a row also has how many lines COMMAND prints of the log that is put after it: the rules that the station broke.
+With --rules a row also has the rules that the station broke by `faxtool judge`, up to the first one that the other station broke: what comes
+after that may follow from it. With --judge it has how many lines COMMAND prints of the log that is put after it.
 
 The exit status is 0 if no row has a `*`, and no station was ended by a signal."""
 
 import argparse
+import json
 import os
 import random
 import shlex
@@ -45,6 +47,17 @@ def named(script):
     return "; ".join(script) or "nothing"
 
 
+def rules_broken(asked, log):
+    """The rules that the station under test broke before the other one broke any, each once, or nothing without --rules."""
+    if not asked.rules:
+        return ""
+    done = subprocess.run([asked.faxtool, "judge", "--json", log], stdout=subprocess.PIPE, text=True, check=False)
+    records = [record for record in map(json.loads, done.stdout.splitlines()) if "rule" in record]
+    others = [place for place, record in enumerate(records) if record["by"] != asked.test and not record["reading"]]
+    own = [record["rule"] for record in records[: others[0] if others else None] if record["by"] == asked.test]
+    return f" {', '.join(dict.fromkeys(own)) or '-'} |"
+
+
 def judged(command, log):
     """How many lines a judge prints of a log, or nothing without one."""
     if not command:
@@ -74,7 +87,7 @@ def row(asked, number, tested, script, wanted):
     # another station's ends have other names
     ends = " *" if end != wanted_end and not asked.command or status < 0 else ""
     others = " *" if pages != wanted_pages else ""
-    text = f"| {tested} | {named(script)} | {end}{ends} | {pages}{others} |{judged(asked.judge, path)}"
+    text = f"| {tested} | {named(script)} | {end}{ends} | {pages}{others} |{rules_broken(asked, path)}{judged(asked.judge, path)}"
     return text, not ends and not others
 
 
@@ -84,6 +97,7 @@ def main():
     parser.add_argument("--answerer-command")
     parser.add_argument("--only", default="", help="tests only deviations with this text")
     parser.add_argument("--list", default=os.path.join(os.path.dirname(os.path.abspath(__file__)), "deviations"))
+    parser.add_argument("--rules", action="store_true")
     parser.add_argument("--judge")
     parser.add_argument("--seed", type=int, default=1)
     parser.add_argument("--faxtool", default="faxtool")
@@ -92,7 +106,8 @@ def main():
     asked.most = 1800
     with open(os.path.join(asked.folder, "document.pbm"), "wb") as file:
         file.write(document())
-    print(f"| Tested | Deviation | End | Pages |{' Rules |' if asked.judge else ''}\n|---|---|---|---|{'---|' if asked.judge else ''}")
+    more = [name for name, is_asked in ((" Rules |", asked.rules), (" Lines |", asked.judge)) if is_asked]
+    print(f"| Tested | Deviation | End | Pages |{''.join(more)}\n|---|---|---|---|{'---|' * len(more)}")
     wrong = count = 0
     for tested, script, wanted in deviations(asked.list):
         if asked.only in f"{tested} {named(script)}":

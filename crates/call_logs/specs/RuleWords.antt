@@ -78,7 +78,7 @@ rule_words NotCome = codes "it doesn't ask for a frame that can't have come"
 rule_words AsksAgain = codes "it asks for a frame that had come"
 rule_words AsksNothing = codes "it asks for no frame of the block"
 rule_words BadMap = codes "its bit for a number beyond the block is 0"
-rule_words NotBusy = codes "no RNR was said since the last PPS"
+rule_words NotBusy = codes "no RNR was said since the last PPS and the last FCD"
 
 -- why that is a rule, with the section of T.30
 abbrev pub rule_reason : Rule → List ℕ

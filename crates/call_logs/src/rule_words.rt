@@ -91,7 +91,7 @@ pub(crate) fn rule_words(rule: Rule) -> &'static str
         Rule::AsksAgain => "it asks for a frame that had come",
         Rule::AsksNothing => "it asks for no frame of the block",
         Rule::BadMap => "its bit for a number beyond the block is 0",
-        Rule::NotBusy => "no RNR was said since the last PPS",
+        Rule::NotBusy => "no RNR was said since the last PPS and the last FCD",
     }
 }
 

@@ -111,7 +111,7 @@ first_has block some = at block.frames refl
 
 -- ---- frames stay
 
-put_stays : (frames : Frames) (number : ℕ) (octets : List ℕ) (n : ℕ) → has_frame frames n ≡ true →
+pub put_stays : (frames : Frames) (number : ℕ) (octets : List ℕ) (n : ℕ) → has_frame frames n ≡ true →
     has_frame (slice_set frames number (Some octets)) n ≡ true
 put_stays [] number octets n h = h
 put_stays (frame ∷ frames) zero octets zero h = refl

@@ -8,7 +8,7 @@ use Rattle.referee.specs.declared.rule.Rule.{Rule}
 use Rattle.judged_calls.specs.SaidCalls.{Keeps, NoRuleIsBroken, RuleIsKept, RuleIsKeptOfPages, RuleIsKeptWithMemory}
 
 -- no element of a list is found by a test that holds of none
-none_found : {A : Type 0} (test : A → Bool) (xs : List A) → ((x : A) → test x ≡ false) → find test xs ≡ None
+pub none_found : {A : Type 0} (test : A → Bool) (xs : List A) → ((x : A) → test x ≡ false) → find test xs ≡ None
 none_found test [] h = refl
 none_found test (x ∷ xs) h = rw (h x) (none_found test xs h)
 

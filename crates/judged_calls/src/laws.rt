@@ -1,5 +1,6 @@
 //! The laws: of each rule that it keeps, that no call of the two stations breaks it. Nothing runs.
 
+ghost use Rattle.judged_calls.specs.AnyCaller.{AnswerersAreNotFirst, AnswerersKeepAlways, AreSaidFairly};
 ghost use Rattle.judged_calls.specs.SaidCalls.{NoRuleIsBroken, RuleIsKept, RuleIsKeptOfPages, RuleIsKeptWithMemory};
 ghost use Rattle.referee.specs.declared.rule.Rule.TheVariants.{
   AsksAgain,
@@ -169,4 +170,21 @@ pub fn no_rule_is_broken()
     frames_stay_told();
     pprs_ask();
     busy_are_asked();
+}
+
+/// Whoever calls an answerer that follows its table, and whatever of a call is lost: the answerer is never the first to break a rule.
+pub fn never_first()
+    ensures law { AnswerersAreNotFirst }
+    ensures callers { AreSaidFairly }
+{}
+
+/// Whatever the caller of an answerer says, which may break any rule: the answerer says its own signals alone, nothing after DCN, and no
+/// answer without its command.
+pub fn answers_any_caller()
+    ensures side { AnswerersKeepAlways WrongSide }
+    ensures ended { AnswerersKeepAlways Ended }
+    ensures training { AnswerersKeepAlways NotTrained }
+    ensures blocks { AnswerersKeepAlways NoCommand }
+{
+    stations::laws::always_answered();
 }

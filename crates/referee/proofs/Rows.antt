@@ -11,6 +11,7 @@ pub broken_before_pages : BrokenBeforePages
 unfolding some_number
 broken_before_pages = record {
   wrong_side = refl;
+  wrong_answer = refl;
   ended = refl;
   other_ended = refl;
   not_offered = refl;
@@ -37,6 +38,7 @@ broken_by_callers = record {
   not_repeated = refl;
   wrong_counts = refl;
   not_busy = refl;
+  not_busy_now = refl;
 }
 
 pub broken_by_answerers : BrokenByAnswerers

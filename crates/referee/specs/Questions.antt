@@ -145,10 +145,11 @@ abbrev pub follows_by : ℕ → ℕ → PlainSignal → Option Bool
 follows_by p b (pps ends page block last) = Some (follows ends page block p b)
 follows_by p b _ = None
 
--- since the last PPS the answerer has said that it is busy
+-- The answerer has said that it is busy since the last PPS and the last FCD. A caller that bursts has heard another answer.
 abbrev pub busy_by : PlainSignal → Option Bool
 busy_by rnr = Some true
 busy_by (pps ends page block last) = Some false
+busy_by (fcd number octets) = Some false
 busy_by cfr = Some false
 busy_by _ = None
 

@@ -2,7 +2,7 @@
 use Rattle.std.specs.Prelude.{ℕ, ◌≡◌, true, false, List, [], ◌∷◌, Some, None, map}
 use Rattle.std.specs.List.{range_with_len}
 use Rattle.raster.specs.declared.coding.Coding.TheVariants.{T6}
-use Rattle.signals.specs.Signals.{PlainSignal, dis, dcs, cfr, ftt, fcd, rcp, pps, ppr, mcf, rnr, rr, dcn}
+use Rattle.signals.specs.Signals.{PlainSignal, dis, dcs, cfr, ftt, fcd, rcp, pps, ppr, mcf, rnr, rr, dcn, other}
 use Rattle.signals.specs.declared.params.Caps.{Caps}
 use Rattle.signals.specs.declared.params.Modems.TheVariants.{V27, V17}
 use Rattle.signals.specs.declared.params.PageWidth.TheVariants.{W1728}
@@ -80,6 +80,7 @@ pub record NoneIsBroken : Type 0 where
 -- The law: what the stations say before a page, and after its end, breaks these.
 pub record BrokenBeforePages : Type 0 where
   pub wrong_side : broken (calls mcf) [] ≡ Some WrongSide
+  pub wrong_answer : broken (calls (other 0x1C)) [] ≡ Some WrongSide
   pub ended : broken (calls (dcs wide)) (calls dcn ∷ trained) ≡ Some Ended
   pub other_ended : broken (answers mcf) (calls dcn ∷ whole_block) ≡ None
   pub not_offered : broken (calls (dcs wide)) (answers (dis slow) ∷ []) ≡ Some NotOffered
@@ -106,6 +107,7 @@ pub record BrokenByCallers : Type 0 where
   pub not_repeated : broken (calls (pps Mps 0 0 1)) whole_block ≡ Some NotRepeated
   pub wrong_counts : broken (calls (pps Eop 1 0 1)) two_frames ≡ Some WrongCounts
   pub not_busy : broken (calls rr) whole_block ≡ Some NotBusy
+  pub not_busy_now : broken (calls rr) (calls (fcd 0 (0x33 ∷ [])) ∷ answers mcf ∷ calls rr ∷ answers rnr ∷ whole_block) ≡ Some NotBusy
 
 -- The law: what an answerer says to a block breaks these.
 pub record BrokenByAnswerers : Type 0 where
