@@ -16,7 +16,7 @@ PYTHONDONTWRITEBYTECODE=1 FAXTOOL=build/faxtool G3FAX=build STREAM=$work/stream_
 export KIT PYTHONDONTWRITEBYTECODE FAXTOOL G3FAX STREAM
 [ -x "$KIT/bin/rt" ] || { echo "test: there is no Rattle kit in $KIT: unpack it there, or say by KIT where it is" >&2; exit 1; }
 # what waits for the program and the library comes before what doesn't
-set -- packaging/try.sh "packaging/try.sh --library" "packaging/build_unproved.sh crates/stream_tool $STREAM" \
+set -- packaging/try.sh "packaging/try.sh --library" "packaging/build_unproved.sh crates/stream_tool '$STREAM'" \
     "after 1 3: .ci/end_to_end.sh --share files build/faxtool" "after 1: .ci/end_to_end.sh --share pages build/faxtool" \
     "after 1: .ci/end_to_end.sh --share calls build/faxtool" "after 1: .ci/end_to_end.sh --share stations build/faxtool" \
     "after 2: .ci/bindings.sh --share softfax" "after 2: .ci/bindings.sh --share library" "after 2: .ci/worst.py build" \
