@@ -4,8 +4,10 @@
     .ci/beside.py COMMAND..
 
 Each is one word with its own words in it. What the first one says is printed as it says it; what another one says, when it ends, with the
-minutes that it took. The first one that fails ends all the others, and this with status 1."""
+minutes that it took, by the clock and of processors. One that begins with `after 1 2:` waits until the first and the second have passed. The first one that fails ends all
+the others, and this with status 1."""
 import os
+import re
 import shlex
 import signal
 import subprocess
@@ -26,13 +28,16 @@ class Beside:
 
     def has_ended(self):
         """Whether it has ended. What it said is printed then."""
-        if self.run.poll() is None:
+        ended, status, used = os.wait4(self.run.pid, os.WNOHANG)
+        if not ended:
             return False
+        self.run.returncode = os.waitstatus_to_exitcode(status)
         if self.said:
             self.said.seek(0)
             sys.stdout.write(self.said.read().decode(errors="replace"))
         how = f"failed, with status {self.run.returncode}," if self.run.returncode else "passed"
-        print(f"beside: {self.command} {how} after {(time.monotonic() - self.begun) / 60:.1f} minutes", flush=True)
+        minutes, of_processors = (time.monotonic() - self.begun) / 60, (used.ru_utime + used.ru_stime) / 60
+        print(f"beside: {self.command} {how} after {minutes:.1f} minutes, {of_processors:.1f} of processors", flush=True)
         return True
 
     def end(self):
@@ -44,17 +49,30 @@ class Beside:
         self.run.wait()
 
 
+def needs_of(command):
+    """The numbers of the commands that one waits for, and what is run then."""
+    after = re.match(r"after ([0-9 ]+): *", command)
+    return {int(number) for number in after[1].split()} if after else set(), command[after.end() :] if after else command
+
+
 def main(commands):
-    running = [Beside(command, number == 0) for number, command in enumerate(commands)]
+    waiting = [(number, *needs_of(command)) for number, command in enumerate(commands, 1)]
+    running, passed = {}, set()
     try:
-        while running:
-            ended = [it for it in running if it.has_ended()]
-            running = [it for it in running if it not in ended]
-            if any(it.run.returncode for it in ended):
+        while running or waiting:
+            ready = [it for it in waiting if it[1] <= passed]
+            waiting = [it for it in waiting if it not in ready]
+            running |= {number: Beside(command, number == 1) for number, _, command in ready}
+            if not running:
+                sys.exit(f"beside: {waiting[0][2]} waits for what isn't there")
+            ended = {number for number, it in running.items() if it.has_ended()}
+            if any(running[number].run.returncode for number in ended):
                 return 1
+            running = {number: it for number, it in running.items() if number not in ended}
+            passed |= ended
             time.sleep(0.2)
     finally:
-        for it in running:
+        for it in running.values():
             it.end()
     return 0
 

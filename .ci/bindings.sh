@@ -4,18 +4,23 @@
 # bindings/README.md, tries the fax terminal and the archive over the library, and tests the module for Python. Ends with status 1 at the
 # first difference.
 #
-#     .ci/bindings.sh [CALLS]
+#     .ci/bindings.sh [--share library|softfax] [CALLS]
 #
-# CALLS is how many random calls are made, 200000 where it isn't said. G3FAX names the folder of a library that is built, as `make lib-try`
-# leaves it without proof; else the proved one is built. It needs the kit and Python's standard library alone; calls over real modems are
-# tried where libspandsp-dev is installed.
+# With --share the fax terminal is tried alone, or all but it. CALLS is how many random calls are made, 200000 where it isn't said. G3FAX
+# names the folder of a library that is built, as `make lib-try` leaves it without proof; else the proved one is built. It needs the kit and
+# Python's standard library alone; calls over real modems are tried where libspandsp-dev is installed.
 set -e
 top=$(cd "$(dirname "$0")/.." && pwd)
 kit=${KIT:-/opt/rattle}
 data=$top/.ci/data
 work=$(mktemp -d)
 trap 'rm -rf "$work"' EXIT
-runs=0
+runs=0 share=
+if [ "${1-}" = --share ]; then
+    share=$2
+    shift 2
+    [ "$share" = library ] || [ "$share" = softfax ] || { echo "bindings.sh: no share has the name $share" >&2; exit 2; }
+fi
 
 fails() {
     echo "bindings: FAILED: $*" >&2
@@ -69,11 +74,17 @@ is_same() {
     difference=$(cmp "$1" "$2" 2>&1) || fails "$3: other octets: $difference"
 }
 
+# takes_library: it is in the work folder.
+takes_library() {
+    if [ -n "$G3FAX" ]; then cp "$G3FAX"/libg3fax.* "$G3FAX"/g3fax.* "$work/"; else "$top/bindings/build.sh" "$work"; fi
+}
+
+[ "$share" != softfax ] || { takes_library; "$top/.ci/softfax.sh" "$work"; exit; }
 "$top/docs/man/make_library.py" --check || fails "man pages"
 for part in exports record; do "$top/bindings/from_header.py" $part > "$work/$part"; done
 "$top/bindings/from_header.py" calls > "$work/random_calls.h"
 "$top/.ci/library.sh"
-if [ -n "$G3FAX" ]; then cp "$G3FAX"/libg3fax.* "$G3FAX"/g3fax.* "$work/"; else "$top/bindings/build.sh" "$work"; fi
+takes_library
 for name in encode decode raster frames signals call answer own misuse; do builds "c/$name.c"; done
 for name in memory random readers; do builds "tests/$name.c" --wrap=malloc --wrap=realloc --wrap=free; done
 for name in pages rows terminals signals; do builds "tests/statuses_$name.c"; done
@@ -342,7 +353,7 @@ esac
 "$top/.ci/installed.sh" "$work"
 "$top/.ci/readme_programs.sh" "$work"
 "$top/.ci/wheel.sh" "$work"
-"$top/.ci/softfax.sh" "$work"
+[ "$share" = library ] || "$top/.ci/softfax.sh" "$work"
 "$top/.ci/archive.py" "$work"
 
 # the module for Python, over the shared library

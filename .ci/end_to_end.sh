@@ -1,9 +1,9 @@
 #!/bin/sh
 # Runs each command of the built program on real files, and compares octets, texts and exit statuses:
 #
-#     .ci/end_to_end.sh [--share files|pages|calls] [PROGRAM..]
+#     .ci/end_to_end.sh [--share files|pages|calls|stations] [PROGRAM..]
 #
-# With --share a third of the cases is run, which can run beside the others. With no program these are the programs of crates/faxtool/out
+# With --share a part of the cases is run, which can run beside the others. With no program these are the programs of crates/faxtool/out
 # that `rt ci` leaves, by each compiler. The programs of crates/stream_tool/out, or the one that STREAM names, are tried likewise, with the
 # files; if there is none, one is built without proof. The cases are in .ci/end_to_end, a file for each command; what is compared with is in
 # .ci/data, the calls in .ci/calls. Ends with status 1 at the first difference.
@@ -17,7 +17,7 @@ trap 'rm -rf "$work"' EXIT
 # An image of one white row of 1,728 pixels.
 white="50 34 0A 31 37 32 38 20 31 0A$(seq 216 | sed 's/.*/ 00/' | tr -d '\n')"
 count=0
-# How many runs of the program there are at least, so that cases that go missing are seen; and the cases, in three shares.
+# How many runs of the program there are at least, so that cases that go missing are seen; and the cases, in four shares.
 fewest=2900
 of_files="try_small try_page try_frames try_gaps try_signal_words try_records try_identify try_each try_several try_judge try_made
     try_images try_data try_standard"
@@ -26,14 +26,16 @@ of_pages="try_apart try_told try_told_records try_codes try_large_pages try_litt
     try_lost_page try_used_number try_words try_helps try_version try_environment try_memory try_endless try_no_image try_rtc
     try_strips try_outputs try_closed"
 of_calls="try_calls_fail try_taken try_limits try_scripts try_calls try_call_memory try_counts try_drives try_bits try_diagrams
-    try_stations try_joins try_bench try_drivers try_first try_reference try_readme try_recipes try_archive"
-all_cases="$of_files $of_pages $of_calls" all_streams=1
+    try_joins try_first try_reference try_readme try_recipes try_archive"
+of_stations="try_stations try_bench try_drivers"
+all_cases="$of_files $of_pages $of_calls $of_stations" all_streams=1
 if [ "${1-}" = --share ]; then
     [ "$2" = files ] || all_streams=
     case $2 in
     files) all_cases=$of_files ;;
     pages) all_cases=$of_pages ;;
     calls) all_cases=$of_calls ;;
+    stations) all_cases=$of_stations ;;
     *) echo "end_to_end.sh: no share has the name $2" >&2; exit 2 ;;
     esac
     fewest=900

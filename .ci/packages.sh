@@ -3,13 +3,20 @@
 # README in the installed examples, an example in C, tarballs that are the same twice, and Debian's packages where its tools are. Holds
 # docs/PROOF.md against the kit and the built files. Ends with status 1 at the first difference.
 #
-#     .ci/packages.sh
+#     .ci/packages.sh [--share installed|packed]
 #
-# The program and the library are those that .ci/run has proved and built; FAXTOOL and G3FAX name others, as for `make install`. It needs
-# the kit, GNU tar and Python's standard library; what it doesn't find of make, cc, pkg-config and dpkg it names, and leaves that out.
+# With --share the packages are tried alone, or all but them. The program and the library are those that .ci/run has proved and built;
+# FAXTOOL and G3FAX name others, as for `make install`. It needs the kit, GNU tar and Python's standard library; what it doesn't find of
+# make, cc, pkg-config and dpkg it names, and leaves that out.
 set -e
 top=$(cd "$(dirname "$0")/.." && pwd)
 cd "$top"
+case ${1-}${2-} in
+'') tried="refused install program library packed" said_too="installed and removed with nothing left; packed twice, the same octets" ;;
+--shareinstalled) tried="refused install program library" said_too="installed and removed with nothing left" ;;
+--sharepacked) tried=packed said_too="packed twice, the same octets" ;;
+*) echo "usage: packages.sh [--share installed|packed]" >&2; exit 2 ;;
+esac
 work=$(mktemp -d)
 trap 'rm -rf "$work"' EXIT
 # a folder with a space, since nothing must depend on there being none
@@ -174,9 +181,5 @@ command -v make > /dev/null || { echo "packages: not run, there is no make"; exi
 . packaging/common.sh
 said=$(cat VERSION) built=
 is_proved "${FAXTOOL:-crates/faxtool/out/faxtool}" "${G3FAX:-bindings/build}" || said="$said, built without proof" built=+unproved
-try_refused
-try_install
-try_program
-try_library
-try_packed
-echo "packages: installed and removed with nothing left; $commands command lines in the installed examples; packed twice, the same octets"
+for what in $tried; do "try_$what"; done
+echo "packages: $said_too${commands:+; $commands command lines in the installed examples}"

@@ -10,17 +10,16 @@ cd "$top"
 # what `make` hands on for `make install` is for that alone
 unset PREFIX DESTDIR LIBDIR MAKEFLAGS MAKEOVERRIDES MAKELEVEL
 KIT=${KIT:-/opt/rattle}
-PYTHONDONTWRITEBYTECODE=1 FAXTOOL=build/faxtool G3FAX=build
-export KIT PYTHONDONTWRITEBYTECODE FAXTOOL G3FAX
-[ -x "$KIT/bin/rt" ] || { echo "test: there is no Rattle kit in $KIT: unpack it there, or say by KIT where it is" >&2; exit 1; }
 work=$(mktemp -d)
 trap 'rm -rf "$work"' EXIT
-packaging/try.sh > "$work/said" 2>&1 || { cat "$work/said" >&2; exit 1; }
-packaging/try.sh --library > "$work/said" 2>&1 || { cat "$work/said" >&2; exit 1; }
-# without proof the largest page takes more than the minute that a test has by itself, and half an hour on a machine that does much else
-set --
-for crate in crates/*_tests; do
-    set -- "$@" "sh -c 'cd $crate && \"$KIT/bin/rt\" try --test --seconds 3600 || { echo test: FAILED: $crate >&2; exit 1; }'"
-done
-.ci/beside.py ".ci/end_to_end.sh --share files build/faxtool" ".ci/end_to_end.sh --share pages build/faxtool" \
-    ".ci/end_to_end.sh --share calls build/faxtool" .ci/bindings.sh "$@" .ci/growths.py ".ci/worst.py build" .ci/packages.sh
+PYTHONDONTWRITEBYTECODE=1 FAXTOOL=build/faxtool G3FAX=build STREAM=$work/stream_tool
+export KIT PYTHONDONTWRITEBYTECODE FAXTOOL G3FAX STREAM
+[ -x "$KIT/bin/rt" ] || { echo "test: there is no Rattle kit in $KIT: unpack it there, or say by KIT where it is" >&2; exit 1; }
+# what waits for the program and the library comes before what doesn't
+set -- packaging/try.sh "packaging/try.sh --library" "packaging/build_unproved.sh crates/stream_tool '$STREAM'" \
+    "after 1 3: .ci/end_to_end.sh --share files build/faxtool" "after 1: .ci/end_to_end.sh --share pages build/faxtool" \
+    "after 1: .ci/end_to_end.sh --share calls build/faxtool" "after 1: .ci/end_to_end.sh --share stations build/faxtool" \
+    "after 2: .ci/bindings.sh --share softfax" "after 2: .ci/bindings.sh --share library" "after 2: .ci/worst.py build" \
+    "after 1 2: .ci/packages.sh --share installed" "after 1 2: .ci/packages.sh --share packed" "nice -n 5 .ci/growths.py"
+for crate in crates/*_tests; do set -- "$@" "nice -n 5 .ci/crate_tests.sh ${crate##*/}"; done
+.ci/beside.py "$@"

@@ -4,6 +4,7 @@
 
 import re
 from dataclasses import dataclass, field
+from functools import cache
 from pathlib import Path
 
 # A name is a word, or an operator: its words and signs with a hole for each operand.
@@ -111,12 +112,17 @@ def named_by(found):
     return {here.strip() or there: (found[1], found[2], there) for there, _, here in words}
 
 
+@cache
+def signs_of(name):
+    """What stands in a text that has a name: it, or of an operator all its signs."""
+    if "◌" not in name:
+        return [re.compile(rf"(?<![\w.']){re.escape(name)}(?![\w'])(?!\s*=(?!=))")]
+    return [re.compile(rf"(?<!{SIGN_EDGE}){re.escape(sign)}(?!{SIGN_EDGE})") for sign in name.split("◌") if sign]
+
+
 def stands_in(name, text):
     """A name stands in a text; an operator does where all its signs do."""
-    if "◌" not in name:
-        return re.search(rf"(?<![\w.']){re.escape(name)}(?![\w'])(?!\s*=(?!=))", text) is not None
-    signs = [sign for sign in name.split("◌") if sign]
-    return all(re.search(rf"(?<!{SIGN_EDGE}){re.escape(sign)}(?!{SIGN_EDGE})", text) for sign in signs)
+    return all(sign.search(text) for sign in signs_of(name))
 
 
 def bound_in(text, name=""):

@@ -1,25 +1,25 @@
 #!/bin/sh
-# Builds the program of a crate with no proof, to try it and for scripts that only run it; with --test its tests, with --library the
-# static library of a crate that exports functions to C:
+# Builds the program of a crate with no proof, to try it and for scripts that only run it; with --test its tests, with --checked these under
+# the address sanitizer, with --library the static library of a crate that exports functions to C:
 #
-#     packaging/build_unproved.sh FOLDER OUT [--test | --library]
+#     packaging/build_unproved.sh FOLDER OUT [--test | --checked | --library]
 #
 # FOLDER is the crate's, below crates/ of a copy of this repository, and OUT the file that is made. It needs the kit alone, KIT if not
 # /opt/rattle. After each 10 seconds a line says what is being done.
 #
 # `rt try` builds a program but keeps no file. So it is called by the front of a copy of the kit (links to it, in a temporary folder), whose
-# compiler and linker leave out the sanitizer and keep what was made, and whose checker, which would only look for names that a check
-# refuses, does nothing. A library is compiled as a program that calls each exported function.
+# compiler and linker leave out the sanitizer, but with --checked, and keep what was made, and whose checker, which would only look for names
+# that a check refuses, does nothing. A library is compiled as a program that calls each exported function.
 #
 # What is built is a copy of the sources, in which crates/commands/src/version.rt says that it was built without proof.
 set -e
 folder=$1 out=$2 kind=$3
 case $kind in
-'' | --test | --library) ;;
+'' | --test | --checked | --library) ;;
 *) folder= ;;
 esac
 if [ ! -d "$folder/src" ] || [ -z "$out" ] || [ $# -gt 3 ]; then
-    echo "usage: packaging/build_unproved.sh FOLDER OUT [--test | --library]" >&2
+    echo "usage: packaging/build_unproved.sh FOLDER OUT [--test | --checked | --library]" >&2
     exit 2
 fi
 here=$(cd "$(dirname "$0")" && pwd)
@@ -61,6 +61,9 @@ case " \$* " in
 esac
 exec "$kit/bin/rattle" "\$@"
 CHECKER
+# how far the compiler optimizes, and what it and the linker leave out; with the sanitizer that takes a tenth of the time that -O0 does
+level=O3 uncompiled=' -fsanitize=address ' unlinked=' --whole-archive [^ ]* --no-whole-archive '
+[ "$kind" != --checked ] || level=O1 uncompiled=' nothing ' unlinked=' nothing ' kind=--test
 if [ "$kind" = --library ]; then
     # The functions of the module get the names that they are exported by. It ends with status 1, so that nothing is linked. Another
     # module, which has the sanitizer's options, comes first, and is compiled as it is.
@@ -88,14 +91,14 @@ else
     cat > "$copy/toolchain/bin/clang" << COMPILER
 #!/bin/sh
 echo "compiles all of it" > "$copy/step"
-words=\$(printf ' %s ' "\$*" | sed 's/ -fsanitize=address / /; s/ -O0 / -O3 /')
+words=\$(printf ' %s ' "\$*" | sed 's/$uncompiled/ /; s/ -O0 / -$level /')
 exec "$kit/toolchain/bin/clang" \$words
 COMPILER
 fi
 # It ends with status 1, so that nothing is run.
 cat > "$copy/toolchain/bin/ld.lld" << LINKER
 #!/bin/sh
-words=\$(printf ' %s ' "\$*" | sed 's/ --whole-archive [^ ]* --no-whole-archive / /')
+words=\$(printf ' %s ' "\$*" | sed 's/$unlinked/ /')
 "$kit/toolchain/bin/ld.lld" \$words && cp program "$copy/made"
 exit 1
 LINKER

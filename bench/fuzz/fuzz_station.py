@@ -86,9 +86,7 @@ def random_waits(rand):
     values = {"--t1": [1, 500, 20000, 60000], "--t2": [1, 700, 5000], "--t4": [1, 100, 2550, 3450], "--t5": [1, 3000, 10000, 65000]}
     for wait, times in (("--t1", 25), ("--t2", 25), ("--t4", 25), ("--t5", 6)):
         words += [wait, str(rand.choice(values[wait]))] if rand.random() * times < 1 else []
-    # a chance of its own, so that the conversations of a seed stay
-    chance = random.Random(repr(rand.getstate()))
-    words += ["--most-seconds", str(chance.choice([1, 10, 30, 60, 120, 600]))] if chance.random() < 0.1 else []
+    words += ["--most-seconds", str(rand.choice([1, 10, 30, 60, 120, 600]))] if rand.random() < 0.1 else []
     return words
 
 
@@ -127,13 +125,13 @@ def written_document(rand, folder):
 
 
 def random_name(rand):
-    """An information field of CSI or TSI: mostly 20 signs of a telephone, with spaces on either side but not alone; one may be no sign."""
+    """An information field of CSI or TSI: mostly 20 signs of a telephone, with spaces beside; one may be no sign, or all are spaces."""
     signs = "".join(rand.choice(SIGNS) for _ in range(rand.choice([1, 5, 12, 20]))) + "0"
     text = (" " * rand.choice([0, 2, 8]) + signs + " " * rand.choice([0, 3, 20]))[: rand.choice([20, 20, 20, 20, 19, 21])]
     octets = bytearray(text.rjust(20).encode()[::-1])
     if rand.random() < 0.3:
-        octets[rand.randrange(len(octets))] = rand.randrange(33, 256)
-    return bytes(octets)
+        octets[rand.randrange(len(octets))] = rand.randrange(256)
+    return bytes(octets) if rand.random() < 0.9 else b" " * 20
 
 
 def random_aside(rand, side):
