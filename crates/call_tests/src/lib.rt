@@ -2,8 +2,6 @@
 #![tactic(auto)]
 
 #[cfg(test)]
-mod begins;
-#[cfg(test)]
 mod losses;
 #[cfg(test)]
 mod seams;
@@ -11,3 +9,5 @@ mod seams;
 mod sizes;
 #[cfg(test)]
 mod stream;
+#[cfg(test)]
+mod whole_call;

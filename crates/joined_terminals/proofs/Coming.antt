@@ -1,44 +1,30 @@
 -- What is sent comes.
-use Rattle.std.proofs.Common.{◌≡◌, ◌++◌, ◌∷◌, ◌∙◌, ◌⊎◌, inl, inr, ℕ, suc, zero, List, [], map, ap, refl, sym, subst}
-use Rattle.std.specs.Prelude.{◌≢◌, drop, Ok, Some}
-use Rattle.std.proofs.lemmas.List.{append-nil}
-use Rattle.std.specs.declared.alloc.AllocError.{AllocError}
+use Rattle.std.proofs.Common.{◌≡◌, ◌≤◌, ◌++◌, ◌∷◌, ◌∙◌, inl, inr, ℕ, suc, zero, List, [], map, length, ap, refl, sym, subst, arith}
+use Rattle.std.specs.Prelude.{◌≢◌, drop}
 use Rattle.hdlc.specs.DeframerState.{DeframerState, IsAfter}
 use Rattle.hdlc.specs.Flags as Flags
 use Rattle.raster.specs.Packed as Packed
-use Rattle.signals.specs.Signals.{PlainSignal, dis}
+use Rattle.signals.specs.Signals.{PlainSignal}
 use Rattle.signals.specs.declared.params.Speed.{Speed}
 use Rattle.signals.specs.declared.signal.Side.TheVariants.{Caller as CallerSide, Answerer as AnswererSide}
 use Rattle.stations.specs.AnswererStep.{Answerer, answerer_items}
-use Rattle.stations.specs.Bursts.{PlainBurst, TurnsCut, bursts_of, items_of}
+use Rattle.stations.specs.Bursts.{PlainBurst, TurnsCut, bursts_of}
 use Rattle.stations.specs.CallerFields.{CallerFields, Represents}
-use Rattle.stations.specs.CallerStep.{Caller, caller_items}
-use Rattle.stations.specs.Inputs.{PlainItem, framed, checked}
+use Rattle.stations.specs.CallerStep.{Caller}
+use Rattle.stations.specs.Inputs.{PlainItem, framed}
 use Rattle.stations.specs.Laws.{Each}
 use Rattle.stations.specs.declared.carrier.Carrier.{Carrier}
 use Rattle.stations.specs.declared.carrier.Carrier.TheVariants.{Training, V21}
-use Rattle.signals.specs.declared.params.Caps.{Caps}
-use Rattle.signals.specs.declared.params.Wish.{Wish}
-use Rattle.stations.specs.Layers.{Document}
-use Rattle.stations.specs.Limiting.{LimitedFields}
-use Rattle.stations.specs.Stopping.{StoppableCallerFields}
-use Rattle.stations.specs.declared.limiting.Limits.{Limits}
 use Rattle.stations.specs.declared.turn.Turn.{Turn}
-use Rattle.stations.specs.declared.turn.Turn.TheVariants.{Dis}
-use Rattle.terminals.specs.Runs.{Hears, TerminalFields}
-use Rattle.terminals.specs.Saying.{stoppable_lends}
-use Rattle.terminals.specs.Speaking.{Speaking}
-use Rattle.terminals.specs.Hearing.{HasHeard, PlainInput, contents, heard_of, said}
-use Rattle.terminals.specs.Sending.{IsSent, Sends}
+use Rattle.terminals.specs.Hearing.{CutsChangeNothing, HasHeard, PlainInput, contents, heard_of, said}
+use Rattle.terminals.specs.Sending.{IsSent}
 use Rattle.terminals.specs.Stations.{AnswererLends, CallerLends}
 use Rattle.terminals.specs.Writable.{AnswerersSendWhole, CallersSendWhole, HasWholeMap}
 use Rattle.terminals.specs.declared.sending.SentBurst.{SentBurst}
-use Rattle.joined_terminals.specs.Calls.{AreNew, at_rest}
-use Rattle.joined_terminals.specs.Coming.{DisComes, SentBurstsCome}
-use Rattle.joined_terminals.specs.Joining.{CallerMakes, Joined, caller_begins}
+use Rattle.joined_terminals.specs.Coming.{CutPiecesCome, SentBurstsCome}
 use Rattle.joined_terminals.specs.Happening.{AreLeft}
-use Rattle.joined_terminals.specs.Happening.AreLeft.{none, kept}
-use Rattle.joined_terminals.specs.Octets.{BurstsAreHeard, BurstsArePieces, HearingTakes, SendingSends, TakesSo, Terminals, IsFramed, IsPiece, IsPieceOrCheck, NoneOpen, PieceComes, said_of}
+use Rattle.joined_terminals.specs.Happening.AreLeft.{none, kept, lost}
+use Rattle.joined_terminals.specs.Octets.{BurstsAreHeard, BurstsArePieces, IsFramed, IsPiece, IsPieceOrCheck, NoneOpen, PieceComes, said_of}
 use Rattle.joined_terminals.specs.Steps.{IsOneAtMost}
 
 -- what holds of each holds of the first after some
@@ -129,79 +115,66 @@ sent_bursts_come heard pieces callers answerers cut = record {
       answerer_comes heard pieces answerers cut s turn bursts later taken burst sent before others;
 }
 
--- ---- the DIS that a call begins with
+-- ---- a burst that is cut
 
-dis_alone : (speed : Speed) (caps : Caps) → bursts_of speed (framed (dis caps) ∷ []) ≡
-    record { carrier = V21; items = framed (dis caps) ∷ [] } ∷ []
-unfolding bursts_of
-dis_alone speed caps = refl
+none_left : (items : List PlainItem) → AreLeft [] items
+none_left [] = none
+none_left (item ∷ items) = lost (none_left items)
 
-one_of : (signals : List PlainSignal) (signal : PlainSignal) → map framed signals ≡ framed signal ∷ [] → signals ≡ signal ∷ []
-one_of [] signal e = absurd (cc)
-one_of (x ∷ []) signal e = cc
-one_of (x ∷ y ∷ more) signal e = absurd (cc)
+left_of_left : {some more all : List PlainItem} → AreLeft some more → AreLeft more all → AreLeft some all
+left_of_left {some} {more} {all} h none = h
+left_of_left {some} {more} {all} h (lost k) = lost (left_of_left h k)
+left_of_left {some} {more} {all} (kept h) (kept k) = kept (left_of_left h k)
+left_of_left {some} {more} {all} (lost h) (kept k) = lost (left_of_left h k)
 
-first_of : (xs : List PlainBurst) (x y : PlainBurst) (rest : List PlainBurst) → xs ≡ x ∷ [] → xs ≡ y ∷ rest → y ≡ x
-first_of xs x y rest e f = cc
+-- the first of some signals
+record IsFront (heard : List PlainInput) (signals : List PlainSignal) : Type 0 where
+  pub some : List PlainSignal
+  pub are : heard ≡ map said some
+  pub left : AreLeft (map framed some) (map framed signals)
+  pub piece : IsPiece signals → IsPiece some
 
-pub dis_comes : SentBurstsCome → SendingSends → HearingTakes → (document : Document) (wish : Wish) (caps : Caps) (limits : Limits)
-    (caller heard : TerminalFields StoppableCallerFields) (answerer : TerminalFields LimitedFields) (speaking : Speaking LimitedFields)
-    (sent : SentBurst) → AreNew document wish caps limits caller.speaking answerer.speaking → HasHeard caller.framing [] →
-    Sends {E = AllocError} AnswererSide (λ v turn bursts. AnswererLends v.station turn bursts) answerer.speaking speaking (Ok (Some sent)) →
-    Hears CallerMakes stoppable_lends caller sent.octets.items heard (Ok tt) → DisComes document wish caps limits
-dis_comes law sending hearing document wish caps limits caller heard answerer speaking sent begins silent sends hears =
-    let j : Joined = at_rest caller.speaking answerer.speaking in
-    let s = sending.answerer j speaking sent sends in
-    let first : Terminals =
-    record { joined = j; caller_framing = caller.framing; answerer_framing = answerer.framing } in
-    let mid : Terminals =
-    record { joined = s.0; caller_framing = caller.framing; answerer_framing = answerer.framing } in
-    let turn : answerer.speaking.turn ≡ Dis = ap (λ (x : Joined). x.answerer.turn) begins.is in
-    let taken : answerer.speaking.taken ≡ 0 = ap (λ (x : Joined). x.answerer.taken) begins.is in
-    let its_caps : answerer.speaking.station.station.caps ≡ caps = ap (λ (x : Joined). x.answerer.station.station.caps) begins.is in
-    let all : s.1.bursts ≡ record { carrier = V21; items = framed (dis caps) ∷ [] } ∷ [] =
-    s.1.lent ∙
-    (ap (λ t. bursts_of answerer.speaking.station.station.params.speed (answerer_items answerer.speaking.station.station t)) turn ∙
-    (ap (λ c. bursts_of answerer.speaking.station.station.params.speed (framed (dis c) ∷ [])) its_caps ∙
-    dis_alone answerer.speaking.station.station.params.speed caps)) in
-    let whole : HasWholeMap answerer.speaking.turn = subst HasWholeMap (sym turn) tt in
-    let r = law.answerer answerer.speaking.station.station answerer.speaking.turn s.1.bursts s.1.later answerer.speaking.taken s.1.burst sent
-    [] [] whole s.1.lent s.1.next s.3 law.begins in
-    let burst : s.1.burst ≡ record { carrier = V21; items = framed (dis caps) ∷ [] } =
-    first_of s.1.bursts (record { carrier = V21; items = framed (dis caps) ∷ [] }) s.1.burst s.1.later all
-    (ap (λ n. drop n s.1.bursts) (sym taken) ∙ s.1.next) in
-    let on_line : s.1.burst.items ++ [] ≡ mid.joined.to_caller =
-    append-nil s.1.burst.items ∙ sym (ap (λ (x : Joined). x.to_caller) s.1.is) in
-    let comes = subst (λ items. (comes : PieceComes items (heard_of [] sent.octets.items) []) × IsOneAtMost comes.signals
-    × (s.1.burst.items ≡ map framed comes.signals)) on_line (r.0, r.1, r.2) in
-    let same : s.0.caller ≡ caller.speaking = ap (λ (x : Joined). x.caller) s.1.is in
-    let takes = hearing.caller caller heard sent.octets.items [] (Ok tt) hears silent in
+left_short : {some all : List PlainItem} → AreLeft some all → length some ≤ length all
+left_short {some} {all} none = omega arith
+left_short {some} {all} (kept h) = omega (arith, left_short h)
+left_short {some} {all} (lost h) = omega (arith, left_short h)
+
+nothing_left : (item : PlainItem) (some : List PlainItem) → AreLeft (item ∷ some) [] → ⊥
+nothing_left item some h = omega (arith, left_short h)
+
+front_more : (signal : PlainSignal) (heard : List PlainInput) (signals : List PlainSignal) → IsFront heard signals →
+    IsFront (said signal ∷ heard) (signal ∷ signals)
+front_more signal heard signals f = record {
+  some = signal ∷ f.some;
+  are = ap (λ l. said signal ∷ l) f.are;
+  left = kept f.left;
+  piece = at f.some signals f.left f.piece;
+}
+  where
+    at : (some signals : List PlainSignal) → AreLeft (map framed some) (map framed signals) → (IsPiece signals → IsPiece some) →
+        IsPiece (signal ∷ signals) → IsPiece (signal ∷ some)
+    at [] signals l p is = tt
+    at (x ∷ some) [] l p is = absurd (nothing_left (framed x) (map framed some) l)
+    at (x ∷ some) (y ∷ signals) l p is = (is.0, p is.1)
+
+front_of : (front rest : List PlainInput) (signals : List PlainSignal) → front ++ rest ≡ map said signals → IsFront front signals
+front_of [] rest signals e = record { some = []; are = refl; left = none_left (map framed signals); piece = λ is. tt }
+front_of (x ∷ front) rest [] e = absurd (cc)
+front_of (x ∷ front) rest (signal ∷ signals) e =
+    let same : x ≡ said signal = cc in
+    let more : front ++ rest ≡ map said signals = cc in
+    subst (λ i. IsFront (i ∷ front) (signal ∷ signals)) (sym same) (front_more signal front signals (front_of front rest signals more))
+
+pub cut_pieces_come : CutsChangeNothing → CutPiecesCome
+cut_pieces_come cuts items others before front rest comes =
+    let f = front_of (heard_of before front) (heard_of (before ++ front) rest) comes.signals (sym (cuts before front rest) ∙ comes.are) in
     record {
-      first = first;
-      begins = begins;
-      mid = mid;
-      sends = s.1;
-      last = record mid {
-        joined = caller_begins takes.0 (record s.0 { caller = heard.speaking; to_caller = [] });
-        caller_framing = heard.framing;
-      };
-      hears = record {
-        octets = sent.octets.items;
-        before = [];
-        heard_before = silent;
-        caller = heard;
-        result = Ok tt;
-        hears = subst (λ (v : Speaking StoppableCallerFields). Hears CallerMakes stoppable_lends (record { framing = caller.framing; speaking = v })
-            sent.octets.items heard (Ok tt)) (sym same) hears;
-        others = [];
-        comes = comes.0;
-        one = comes.1;
-        silent = takes.0;
-        taken = subst (λ (v : Speaking StoppableCallerFields). TakesSo CallerMakes v (heard_of [] sent.octets.items) heard.speaking takes.0)
-            (sym same) takes.1;
-        is = refl;
-      };
-      heard = one_of comes.0.signals (dis caps) (sym comes.2 ∙ ap (λ (b : PlainBurst). b.items) burst);
+      signals = f.some;
+      piece = f.piece comes.piece;
+      front = comes.front;
+      first = comes.first;
+      left = left_of_left f.left comes.left;
+      are = f.are;
     }
 
 -- a new terminal has heard nothing

@@ -29,3 +29,6 @@ pub mod HeldAnswers
 pub mod HeldPromised
 pub mod OnePage
 pub mod Coming
+pub mod KeptTurns
+pub mod CallChecks
+pub mod WholeCall

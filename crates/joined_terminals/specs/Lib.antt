@@ -12,3 +12,4 @@ pub mod Promised
 pub mod Held
 pub mod HeldAnswers
 pub mod Coming
+pub mod WholeCall

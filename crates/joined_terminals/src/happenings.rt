@@ -3,7 +3,6 @@
 
 ghost use Rattle.joined_terminals.specs.Calls.{AnswererGives, AreNew, CallerGives, CheckComes, HappensToAnswerer, HappensToCaller, TakesOut};
 ghost use Rattle.joined_terminals.specs.Calls.{HappensToHearingAnswerer, HappensToHearingCaller};
-ghost use Rattle.joined_terminals.specs.Coming.{DisComes};
 ghost use Rattle.hdlc.specs.DeframerState.{IsAfter};
 ghost use Rattle.joined_terminals.specs.Happening.Happening.{answerer_hangs_up, answerer_lost, answerer_stops, answerer_waits};
 ghost use Rattle.joined_terminals.specs.Happening.Happening.{caller_hangs_up, caller_lost, caller_stops, caller_waits, program_says};
@@ -36,30 +35,6 @@ pub fn new_terminals(
     let caller = Terminal::new(alloc, StoppableCaller::new(caller), Turn::Silent);
     let (answerer, first) = LimitedAnswerer::new(alloc, caps, limits);
     Ok((caller, Terminal::new(alloc, answerer, first)))
-}
-
-/// A call begins: the answerer's terminal gives its DIS, and the caller's hears it. True if that was done, false if memory is refused or
-/// the document has no width of a call.
-pub fn dis_comes(alloc: Global, document: Document, wish: Wish, caps: Caps, limits: Limits) -> bool
-    requires receiver { caps.receiver ≡ true }
-    requires ecm { caps.ecm ≡ true }
-    requires pages { 0 < limits.pages }
-    requires octets { 0 < limits.octets }
-    ensures { result ≡ true → DisComes document wish caps limits }
-{
-    crate::laws::bursts_are_pieces();
-    crate::laws::sent_bursts_come();
-    crate::laws::terminals_are_safe();
-    let Ok((mut caller, mut answerer)) = new_terminals(alloc, document, wish, caps, limits) else {
-        return false;
-    };
-    let Ok(Some(sent)) = answerer.next_burst() else {
-        return false;
-    };
-    match caller.hear(&sent.octets) {
-        Ok(()) => true,
-        Err(_) => false,
-    }
 }
 
 /// Calls `hear` of a caller's terminal, with its faults: what happens when the octets bring a piece of the line.

@@ -2,7 +2,7 @@
 
 ghost use Rattle.joined_terminals.specs.Answered.{AnswersAreSteps};
 ghost use Rattle.joined_terminals.specs.Promised.{CallersAnswer, CallersBreakOff, StoringAnswers, StoringBreaksOff};
-ghost use Rattle.joined_terminals.specs.Coming.{SentBurstsCome};
+ghost use Rattle.joined_terminals.specs.Coming.{CutPiecesCome, SentBurstsCome};
 ghost use Rattle.joined_terminals.specs.DrivenSafety.{ConversationsAreSafe};
 ghost use Rattle.joined_terminals.specs.Held.{HeldAreDriven, HeldAreStored, OnePageIsStored};
 ghost use Rattle.joined_terminals.specs.HeldAnswers.{HeldAnswersAreSteps, HoldingAnswers, HoldingBreaksOff};
@@ -63,6 +63,13 @@ pub fn sent_bursts_come()
     bursts_are_pieces();
     terminals::laws::turns_are_sent_whole();
     stations::laws::bursts_cut();
+}
+
+/// A burst that is cut comes too: its first frames are heard, and the others are lost.
+pub fn cut_bursts_come()
+    ensures { CutPiecesCome }
+{
+    terminals::laws::cuts_change_nothing();
 }
 
 /// A driver joins two conversations of such stations, as `docs/STATION.md` says. Whatever happens, the pages stored are the first of the

@@ -3,3 +3,4 @@
 
 pub mod happenings;
 pub mod laws;
+pub mod whole_call;
