@@ -186,7 +186,7 @@ def links():
 def witnesses():
     """A premise that nothing gives any more, an entry of the list that isn't needed, and a type of which no law speaks."""
     laws, others = given.cited_by(BOOK.crates, BOOK.specs)
-    coming = {key for key in laws | others if key[1] == "Coming"}
+    coming = {key for key in laws | others if key[1] in ("Coming", "WholeCall")}
 
     def premises(without, listed=given.NOT_GIVEN):
         return given.premise_faults(BOOK.specs, laws - without, others - without, listed)
