@@ -23,13 +23,15 @@ const CAPS: Caps = Caps {
     ecm: true,
 };
 
-/// Returns limits of so many pages, and of 8 MiB of rows.
-fn room_for(pages: u64) -> Limits {
-    Limits {
-        pages,
-        octets: 8_388_608,
-    }
-}
+const TWO_PAGES: Limits = Limits {
+    pages: 2,
+    octets: 8_388_608,
+};
+
+const ONE_PAGE: Limits = Limits {
+    pages: 1,
+    octets: 8_388_608,
+};
 
 /// Returns a document of one page, with one white row.
 fn one_page(alloc: Global) -> Result<Document, RasterFault> {
@@ -41,8 +43,8 @@ fn one_page(alloc: Global) -> Result<Document, RasterFault> {
 #[test]
 fn a_whole_call_comes(rt: HostRuntime) -> Result<(), Fail> {
     let alloc = rt.alloc();
-    assert!(rt; call_comes(alloc, one_page(alloc)?, WISH, CAPS, room_for(2)));
+    assert!(rt; call_comes(alloc, one_page(alloc)?, WISH, CAPS, TWO_PAGES));
     // an answerer with room for one page says RNR in place of MCF, until that is taken out
-    assert!(rt; !call_comes(alloc, one_page(alloc)?, WISH, CAPS, room_for(1)));
+    assert!(rt; !call_comes(alloc, one_page(alloc)?, WISH, CAPS, ONE_PAGE));
     Ok(())
 }
