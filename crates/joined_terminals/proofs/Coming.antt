@@ -28,7 +28,7 @@ use Rattle.joined_terminals.specs.Octets.{BurstsAreHeard, BurstsArePieces, IsFra
 use Rattle.joined_terminals.specs.Steps.{IsOneAtMost}
 
 -- what holds of each holds of the first after some
-at_drop : {A : Type 0} (P : A → Type 0) (n : ℕ) (xs : List A) (x : A) (rest : List A) → Each P xs → drop n xs ≡ x ∷ rest → P x
+pub at_drop : {A : Type 0} (P : A → Type 0) (n : ℕ) (xs : List A) (x : A) (rest : List A) → Each P xs → drop n xs ≡ x ∷ rest → P x
 at_drop P zero [] x rest h e = absurd (cc)
 at_drop P zero (y ∷ ys) x rest h e = subst P (cc) h.0
 at_drop P (suc n) [] x rest h e = absurd (cc)

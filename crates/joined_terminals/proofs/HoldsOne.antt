@@ -196,7 +196,7 @@ module _ (known : HoldersKnown) where
       at None is says = quiet_holds old one station turn is h.1 says
       at (Some got) is says = subst (λ t. HoldsOne (spoken old station t)) (sym says) (table_holds old one got station is h.1)
 
-  takes_hold : (old : Speaking LimitedFields) (x : PlainInput) (new : Speaking LimitedFields) →
+  pub takes_hold : (old : Speaking LimitedFields) (x : PlainInput) (new : Speaking LimitedFields) →
       Takes LimitedFields AnswererMakes old x new → HoldsOne old → HoldsOne new
   takes_hold old x new h one =
       subst HoldsOne (sym h.is) (steps_hold old one old.station.cut x h.station h.turn h.steps_so)

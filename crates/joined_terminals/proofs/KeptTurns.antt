@@ -204,7 +204,8 @@ spoke old station Silent h map before = (
 spoke old station turn (inl e) map before = absurd (cc)
 spoke old station turn (inr reply) map before = (map, (λ none. reply station.station none, refl))
 
-one_kept : MapsAreWhole → (input : PlainInput) (old new : Speaking LimitedFields) (takes : Takes LimitedFields AnswererMakes old input new) →
+-- one input that is taken
+pub one_kept : MapsAreWhole → (input : PlainInput) (old new : Speaking LimitedFields) (takes : Takes LimitedFields AnswererMakes old input new) →
     HasWholeMap old.turn → KeptWhole (is_silent takes.turn) old new
 one_kept maps input old new takes before =
     subst (λ (n : Speaking LimitedFields). KeptWhole (is_silent takes.turn) old n) (sym takes.is)
@@ -237,11 +238,6 @@ takes_kept maps [] old new silent h before =
     (subst (λ (n : Speaking LimitedFields). KeptWhole true old n) (sym h.0) (before, (λ none. none, λ none. none, refl)))
 takes_kept maps (input ∷ inputs) old new silent h before =
     took maps input inputs old h.0 new silent h.1 h.2 h.3 (λ m. takes_kept maps inputs m new h.1) before
-
--- one input that is taken
-pub check_kept : MapsAreWhole → (input : PlainInput) (old new : Speaking LimitedFields) (takes : Takes LimitedFields AnswererMakes old input new) →
-    HasWholeMap old.turn → KeptWhole (is_silent takes.turn) old new
-check_kept = one_kept
 
 -- ---- what is left of a caller's turn
 

@@ -62,7 +62,8 @@ left_after c next l true taken turn = at (l.items turn)
 pub all_left : CutByCarrier → (t : Caller) (turn : Turn) → caller_left true 0 turn t ≡ caller_items t turn
 all_left cut t turn = (cut t.params.speed (caller_items t turn)).joined
 
-drop_next : {A : Type 0} (n : ℕ) (xs : List A) (y : A) (ys : List A) → drop n xs ≡ y ∷ ys → drop (suc n) xs ≡ ys
+-- after the next one are the others
+pub drop_next : {A : Type 0} (n : ℕ) (xs : List A) (y : A) (ys : List A) → drop n xs ≡ y ∷ ys → drop (suc n) xs ≡ ys
 drop_next zero xs y ys e = ap (drop 1) e
 drop_next (suc n) [] y ys e = cc
 drop_next (suc n) (x ∷ xs) y ys e = drop_next n xs y ys e

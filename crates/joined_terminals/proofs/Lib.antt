@@ -28,6 +28,7 @@ pub mod HoldsOne
 pub mod HeldAnswers
 pub mod HeldPromised
 pub mod OnePage
+pub mod HeldPages
 pub mod Coming
 pub mod KeptTurns
 pub mod CallChecks

@@ -68,7 +68,7 @@ module _ (known : HoldersKnown) where
           (lost_holds known d.answerer.terminal h.answerer.terminal d.to_answerer p.1.others p.1.silent
           (gives limited_behaviour d.answerer h.refuses.shown line) p.0 p.1.comes p.1.turns well) p.1.is
 
-  stays_well : (step : Step) (d new : Driven) → IsWell d → Does step d new → IsWell new
+  pub stays_well : (step : Step) (d new : Driven) → IsWell d → Does step d new → IsWell new
   stays_well (caller_line line) d new well h = caller_so h.given.silent d new h.caller h.given.others well h.given.is
   stays_well (answerer_line line) d new well h =
       answerer_so h.given.silent d new h.answerer h.given.others well

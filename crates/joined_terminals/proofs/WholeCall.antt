@@ -48,24 +48,14 @@ use Rattle.joined_terminals.specs.Safety.{TerminalsAreSafe}
 use Rattle.joined_terminals.specs.Steps.{IsOneAtMost}
 use Rattle.joined_terminals.specs.WholeCall.{CallComes, CallerHasNone, GoesOn, HearsBy, IsSoFar, with_free_line}
 use Rattle.joined_terminals.proofs.CallChecks.{IsFramesOrCheck, callers_say, check_arrives}
-use Rattle.joined_terminals.proofs.KeptTurns.{HasNone, Kept, caller_kept, check_kept, takes_kept}
+use Rattle.joined_terminals.proofs.Coming.{at_drop}
+use Rattle.joined_terminals.proofs.KeptTurns.{HasNone, Kept, caller_kept, one_kept, takes_kept}
+use Rattle.joined_terminals.proofs.Left.{drop_next}
 
 -- what happens first, and then
 leads_on : (xs ys : List LineHappening) (a b c : Terminals) → LeadsTerminals xs a b → LeadsTerminals ys b c → LeadsTerminals (xs ++ ys) a c
 leads_on [] ys a b c h k = subst (λ (x : Terminals). LeadsTerminals ys x c) h k
 leads_on (x ∷ xs) ys a b c h k = (h.0, h.1, leads_on xs ys h.0 b c h.2 k)
-
--- what holds of each holds of the first after some
-at_drop : {A : Type 0} (P : A → Type 0) (n : ℕ) (xs : List A) (x : A) (rest : List A) → Each P xs → drop n xs ≡ x ∷ rest → P x
-at_drop P zero [] x rest h e = absurd (cc)
-at_drop P zero (y ∷ ys) x rest h e = subst P (cc) h.0
-at_drop P (suc n) [] x rest h e = absurd (cc)
-at_drop P (suc n) (y ∷ ys) x rest h e = at_drop P n ys x rest h.1 e
-
-drop_next : {A : Type 0} (n : ℕ) (xs : List A) (y : A) (ys : List A) → drop n xs ≡ y ∷ ys → drop (suc n) xs ≡ ys
-drop_next zero xs y ys e = ap (drop 1) e
-drop_next (suc n) [] y ys e = cc
-drop_next (suc n) (x ∷ xs) y ys e = drop_next n xs y ys e
 
 -- of one at most none is left after one
 none_after : {A : Type 0} (n : ℕ) (xs : List A) (y : A) (ys : List A) → length xs ≤ 1 → drop n xs ≡ y ∷ ys → drop (suc n) xs ≡ []
@@ -309,7 +299,7 @@ module _ (document : Document) (wish : Wish) (caps : Caps) (limits : Limits) (la
       let its_next : drop caller.speaking.taken its ≡ burst ∷ later =
       ap (λ l. drop caller.speaking.taken l) (sym (lent s.tuple s.represents)) ∙ next in
       let clear : s.caller_clear ≡ true = is_clear s.caller_clear caller.speaking.taken its burst later s.caller_sends its_next in
-      let k = check_kept maps (check sent.octets.items) answerer.speaking new takes s.map in
+      let k = one_kept maps (check sent.octets.items) answerer.speaking new takes s.map in
       let silent : Bool = is_silent takes.turn in
       let arrives = check_arrives params burst later sent speed carrier items is in
       let mid : Terminals = caller_gave caller answerer s.caller_clear s.answerer_clear burst.items in

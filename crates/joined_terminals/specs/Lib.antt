@@ -11,5 +11,6 @@ pub mod Answered
 pub mod Promised
 pub mod Held
 pub mod HeldAnswers
+pub mod HeldPages
 pub mod Coming
 pub mod WholeCall

@@ -23,11 +23,11 @@ use Rattle.terminals.specs.Writable.{HasWholeMap}
 use Rattle.joined_terminals.specs.Joining.{AnswererMakes, Begins}
 use Rattle.joined_terminals.specs.Octets.{LeadsTerminals, LineHappening, NoneOpen, Terminals}
 
--- nothing of a caller's turn is left after so many of its bursts
+-- a caller's turn has no burst after those that were taken
 abbrev pub CallerHasNone : Caller → Turn → ℕ → Type 0
 CallerHasNone t turn taken = drop taken (bursts_of t.params.speed (caller_items t turn)) ≡ []
 
--- nothing of an answerer's turn is left after so many of its bursts
+-- an answerer's turn has no burst after those that were taken
 abbrev pub AnswererHasNone : Answerer → Turn → ℕ → Type 0
 AnswererHasNone s turn taken = drop taken (bursts_of s.params.speed (answerer_items s turn)) ≡ []
 

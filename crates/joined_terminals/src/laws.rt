@@ -6,6 +6,7 @@ ghost use Rattle.joined_terminals.specs.Coming.{CutPiecesCome, SentBurstsCome};
 ghost use Rattle.joined_terminals.specs.DrivenSafety.{ConversationsAreSafe};
 ghost use Rattle.joined_terminals.specs.Held.{HeldAreDriven, HeldAreStored, OnePageIsStored};
 ghost use Rattle.joined_terminals.specs.HeldAnswers.{HeldAnswersAreSteps, HoldingAnswers, HoldingBreaksOff};
+ghost use Rattle.joined_terminals.specs.HeldPages.{HeldPageStays};
 ghost use Rattle.joined_terminals.specs.Kept.{ConfirmedAreStored, KeptAreDriven};
 ghost use Rattle.joined_terminals.specs.Octets.{BurstsAreHeard, BurstsArePieces, HearingTakes, SendingSends};
 ghost use Rattle.joined_terminals.specs.Safety.{JoinedAreSafe, TerminalsAreSafe};
@@ -135,6 +136,18 @@ pub fn held_answers_are_steps()
     ensures { HeldAnswersAreSteps }
 {
     terminals_are_safe();
+    conversations::laws::held_is_not_confirmed();
+    stations::laws::limited_serves();
+    stations::laws::answerers_keep();
+    stations::laws::always_answered();
+}
+
+/// The page of an answerer that takes one page at a time stays there, the only one, whatever is heard and said, until it is stored.
+pub fn held_page_stays()
+    ensures { HeldPageStays }
+{
+    terminals_are_safe();
+    stations::laws::stored_is_read();
     conversations::laws::held_is_not_confirmed();
     stations::laws::limited_serves();
     stations::laws::answerers_keep();

@@ -12,7 +12,7 @@ use stations::{CallEnd, Carrier, End, LimitedAnswerer, Limits, StoppableCaller};
 use std::alloc::Global;
 use terminals::{SentBurst, Terminal};
 
-/// More than the bursts of a call of a thousand blocks, each of which is asked for again as often as may be.
+/// More than the bursts of a call of three thousand blocks, each of which takes two.
 const MOST_TURNS: u32 = 10_000;
 
 /// A whole call, from the answerer's DIS to the caller's DCN, over a line that loses nothing. True if both stations ended normally, so that

@@ -1,4 +1,4 @@
--- What is told of the block under way, frame by frame, and what an answerer knows of it.
+-- What was said of the block under way, frame by frame, and what an answerer knows of it.
 use Rattle.std.proofs.Common.{◌≡◌, ◌⊎◌, ℕ, ◌≤◌, ◌<◌, Bool, true, false, cond, ◌&&◌, ◌||◌, List, [], ◌∷◌, refl, sym, ap, subst, inl, inr, ◌∙◌, rules}
 use Rattle.std.specs.Prelude.{Option, Some, None, unwrap_or, not, nat_eq, nat_le, nat_lt}
 use Rattle.std.proofs.lemmas.Bool.{eqb-true}
@@ -20,7 +20,7 @@ clash e = absurd (cc)
 pub none_some : {A B : Type 0} (x : A) → None ≡ Some x → B
 none_some x e = absurd (cc)
 
--- ---- what is told
+-- ---- what was said
 
 -- the mark of the last PPS of the block under way
 abbrev pub mark_by : Bool → PlainSignal → Option Mark → Option Mark
@@ -31,7 +31,7 @@ abbrev pub last_mark : Bool → List PlainSaid → Option Mark
 last_mark begun [] = None
 last_mark begun (said ∷ before) = mark_by begun said.signal (last_mark (begun || is_fcd said.signal) before)
 
--- what the frames of the block tell of each number, and the mark of its last PPS
+-- what was said of each number of the block, and the mark of its last PPS
 pub record View : Type 0 where
   pub sent : ℕ → Bool
   pub may : ℕ → Bool
@@ -51,7 +51,7 @@ view begun before = record {
   mark = last_mark begun before;
 }
 
--- nothing is said of the block
+-- before the first PPS nobody has said that a frame is missing, or that one has come
 abbrev pub empty : View
 empty = record { sent = λ n. false; may = λ n. false; sure = λ n. false; below = λ n. false; reaches = λ n. false; mark = None }
 
@@ -98,7 +98,7 @@ with_ppr marks v = record {
 
 -- ---- what an answerer knows of it
 
--- what holds of an answerer and of what is told of the block under way
+-- what holds of an answerer and of what was said of the block under way
 pub record Fits (s : Answerer) (v : View) : Type 0 where
   -- a frame that it has may have come, unless it wasn't sent in the block or is beyond it
   pub came : (n : ℕ) → has_frame s.frames n ≡ true → v.sent n ≡ true → v.below n ≡ false → v.may n ≡ true

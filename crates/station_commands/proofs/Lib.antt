@@ -2,6 +2,7 @@
 mod EndData
 mod FolderBooks
 mod FolderHeld
+mod HeldBooks
 mod FolderLemmas
 mod FolderSaid
 mod FromLemmas

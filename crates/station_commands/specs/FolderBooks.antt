@@ -3,7 +3,7 @@
 --
 -- What a call that writes, syncs or names a file does to a disk isn't said: no clause of the system's calls speaks of files. So "stored" is
 -- that `store` returned `Ok`, which it does only after each of these calls has.
-use Rattle.std.specs.Prelude.{ℕ, ◌≡◌, ◌≤◌, ◌-◌, ◌^◌, ◌++◌, ◌+◌, ◌∷◌, [], Bool, true, false, List, Option, None, length}
+use Rattle.std.specs.Prelude.{ℕ, ◌≡◌, ◌<◌, ◌≤◌, ◌-◌, ◌^◌, ◌++◌, ◌+◌, ◌∷◌, [], Bool, true, false, List, Option, None, length}
 use Rattle.conversations.specs.Answering.{pages_of}
 use Rattle.conversations.specs.Conversations.{ConversationFields, gives, hung_up_so, refused_so, with_pages_taken}
 use Rattle.conversations.specs.Answering.{limited_behaviour}
@@ -23,6 +23,7 @@ use Rattle.raster.specs.Pages.{PagePixels}
 use Rattle.signals.specs.declared.params.Caps.{Caps}
 use Rattle.signals.specs.declared.params.Wish.{Wish}
 use Rattle.station_commands.specs.Folders.{KeepsLine, StoresPage}
+use Rattle.station_commands.specs.HeldBooks.{KeepsOn, KeptBetween, StandsBy}
 use Rattle.station_commands.specs.Talks.{AnswerTalks, IsNewFolder, NewAnswering, NewDialling, confirmed_talker, folder_talker, receiving, wish_of}
 use Rattle.station_commands.specs.Stations.{page_limit}
 use Rattle.station_commands.specs.declared.station.DialCommand.{DialCommand}
@@ -222,7 +223,7 @@ CommandsBegin =
 -- ---- pages that others keep
 
 -- An answer of the answerer whose pages are handed over: by these steps no page is confirmed that is still in it, so only once a line says
--- that it is kept; and the folder counts at most those.
+-- that it is kept; and the folder counts at most those. The page that it holds is the answerer's, and each that it counts was held.
 pub record FolderHolds (line : TimedLine) (old : Driven) (folder : Folder) (new : Driven) (kept_in : Folder) : Type 0 where
   pub kept : Bool
   pub hangs : Bool
@@ -231,6 +232,8 @@ pub record FolderHolds (line : TimedLine) (old : Driven) (folder : Folder) (new 
   pub counts : kept_in.tally.pages ≤ length new.stored
   pub stays : HolderStays old new
   pub hands : kept_in.holds ≡ true
+  pub keeps : (since : Tally) → StandsBy folder.held folder.limits since folder.tally old → KeepsOn since old folder new kept_in
+  pub limits : kept_in.limits ≡ folder.limits
 
 -- The law: what `answer` promises of a line, where the keeper is a folder whose pages are handed over and the answerer takes one page at a
 -- time, is such an answer, if the line comes of what is on its way.
@@ -275,6 +278,22 @@ ConfirmedAreKept =
     (document : Document) (wish : Wish) (caps : Caps) (limits : Limits) (events : List Event) (first last : Driven) (empty folder : Folder) →
     Each IsFullPage document → Begins document wish caps limits (joined first) → empty.tally.pages ≡ 0 →
     HappenAllHeld events first empty last folder → HasKept document last folder
+
+-- The files of a folder whose pages are handed over: those of the pages that the store has, in order, each of which a line said is kept; and
+-- that of the page which is held, if one is: the answerer's only one.
+pub record HoldsBook (first : Folder) (d : Driven) (folder : Folder) : Type 0 where
+  pub since : Tally
+  pub kept : KeptBetween first.limits first.tally d.stored since
+  pub stands : StandsBy folder.held folder.limits since folder.tally d
+  pub limits : folder.limits ≡ first.limits
+
+-- The law: from two new conversations and a folder that holds none, whatever happens leads to where each page that counts as kept was
+-- handed over in a file of its own, and the file that is held has the answerer's page.
+abbrev pub KeptAreFiled : Type 0
+KeptAreFiled =
+    (document : Document) (wish : Wish) (caps : Caps) (limits : Limits) (events : List Event) (first last : Driven) (empty folder : Folder) →
+    Begins document wish caps limits (joined first) → limits.pages ≡ 1 → 0 < limits.octets → empty.held ≡ None →
+    HappenAllHeld events first empty last folder → HoldsBook empty last folder
 
 -- the pages that the answerer accepted of lines that it answered, in order: those that it has after each line, before anything is stored
 abbrev pub accepted_in : (lines : List (List ℕ)) (old new : TalkState LimitedFields Folder) → AnswersAll folder_talker lines old new →

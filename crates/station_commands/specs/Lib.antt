@@ -6,6 +6,7 @@ pub mod Files
 pub mod FolderBooks
 pub mod Folders
 pub mod Following
+pub mod HeldBooks
 pub mod Lateness
 pub mod NoLines
 pub mod Sent

@@ -3,7 +3,7 @@
 ghost use Rattle.station_commands.specs.CallRows.{LateByTimes, WholeByFrames};
 ghost use Rattle.station_commands.specs.FolderBooks.{AcceptedAreFiled, AnswerersAreNew, AnswersAreFolders, AnswersAreHeld};
 ghost use Rattle.station_commands.specs.FolderBooks.{BreaksAreFolders, CommandsBegin, CommandsHoldOne, ConfirmedAreFiled, ConfirmedAreKept};
-ghost use Rattle.station_commands.specs.FolderBooks.{DialledAnswer, FolderIsSaid, FolderKeepsAll, StationsFileWhatIsSaid};
+ghost use Rattle.station_commands.specs.FolderBooks.{DialledAnswer, FolderIsSaid, FolderKeepsAll, KeptAreFiled, StationsFileWhatIsSaid};
 ghost use Rattle.station_commands.specs.Folders.{FolderIsStore};
 ghost use Rattle.station_commands.specs.Sent.{NoneIsWithheld};
 
@@ -67,13 +67,18 @@ pub fn answers_are_held()
     ensures one { CommandsHoldOne }
 {
     joined_terminals::laws::held_answers_are_steps();
+    joined_terminals::laws::held_page_stays();
 }
 
-/// From two new conversations and a folder whose pages are handed over, whatever happens leads to where each confirmed page is kept.
+/// From two new conversations and a folder whose pages are handed over, whatever happens leads to where each confirmed page is kept. Each
+/// page that counts as kept was handed over in a file of its own, and the file that is held has the answerer's page.
 pub fn confirmed_are_kept()
-    ensures { ConfirmedAreKept }
+    ensures kept { ConfirmedAreKept }
+    ensures filed { KeptAreFiled }
 {
     joined_terminals::laws::held_are_stored();
+    joined_terminals::laws::held_answers_are_steps();
+    joined_terminals::laws::held_page_stays();
 }
 
 /// Where a command names no time by which an answer may be late, each burst of each answer is sent.
