@@ -13,7 +13,7 @@ use crate::refusing::{CallerWatch, MORE, StopCause, is_given_up, is_late};
 use crate::writing::Says;
 use raster::Page;
 use signals::Caps;
-use stations::{CallEnd, LimitedAnswerer, StoppableCaller};
+use stations::{Answerer, CallEnd, Caller, LimitedAnswerer, StoppableCaller};
 use std::alloc::AllocError;
 use std::marker::Model;
 use terminals::{
@@ -87,6 +87,13 @@ impl Conversation<StoppableCaller> {
             watch: CallerWatch::NONE,
         }
     }
+
+    /// Returns the caller itself: its pages, and how many are confirmed.
+    pub fn caller(&self) -> &Caller
+        ensures { result.now ≡ self.now.terminal.speaking.station.station }
+    {
+        self.terminal.station().station()
+    }
 }
 
 impl Conversation<LimitedAnswerer> {
@@ -125,6 +132,13 @@ impl Conversation<LimitedAnswerer> {
         ensures left { self.new ≡ with_pages_taken self.old }
     {
         self.terminal.take_pages()
+    }
+
+    /// Returns the answerer itself: its stored pages, and what it knows of its caller.
+    pub fn answerer(&self) -> &Answerer
+        ensures { result.now ≡ self.now.terminal.speaking.station.station }
+    {
+        self.terminal.station().station()
     }
 }
 

@@ -431,7 +431,7 @@ impl AnswerCommand {
         if let Some(kind) = folder.failed() {
             context.blame(Part::Output, kind);
         }
-        let progress = conversation.terminal().station().station().progress();
+        let progress = conversation.answerer().progress();
         let noted = notes.noted();
         Ok(Talked {
             end: conversation.end(),
@@ -585,7 +585,7 @@ impl DialCommand {
         );
         let mut confirmed = Confirmed::new(streams, records);
         let halted = talk_out(context, &mut conversation, &mut confirmed, &mut notes)?;
-        let progress = conversation.terminal().station().station().progress();
+        let progress = conversation.caller().progress();
         let noted = notes.noted();
         Ok(Talked {
             end: conversation.end(),

@@ -109,7 +109,7 @@ impl Keeper<StoppableCaller> for Confirmed<'_> {
         conversation: &mut Conversation<StoppableCaller>,
         _said: &Said,
     ) -> Option<ToolFault> {
-        let confirmed = conversation.terminal().station().station().confirmed();
+        let confirmed = conversation.caller().confirmed();
         self.tell(conversation.clock().now, confirmed);
         self.told = confirmed;
         let (late, given_up) = (conversation.is_late(), conversation.is_given_up());

@@ -495,7 +495,7 @@ impl Keeper<LimitedAnswerer> for Folder<'_> {
         said: &Said,
     ) -> Option<ToolFault> {
         self.at = conversation.clock().now;
-        self.params = conversation.terminal().station().station().peer();
+        self.params = conversation.answerer().peer();
         self.told.clear();
         self.tell_gap(conversation.gap());
         let refused = self.keep_by(conversation, said);
