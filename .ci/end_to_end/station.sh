@@ -190,18 +190,19 @@ end stopped pages 0" --limit 1 --most-octets "$((first - 1))"
     try_carriers
 }
 
-# A call of 60 s at most is stopped where a carrier has just ended, and on one that doesn't end ten seconds later: an answerer's and a caller's.
+# A call of 60 s at most is stopped where a carrier has just ended, and on one that doesn't end it is given up ten seconds later: an answerer's
+# and a caller's.
 # Four hours are the most if nothing is said, and 0 is no limit.
 try_carriers() {
     { echo "quiet 1000"; for at in $(seq 2000 5000 200000); do echo "rx $at v21 hdlc 74 7E7EDF47A85AD6FAF901"; done; } > "$work/lines"
     is_stopped_at 62 60 --answer --out "$work/stored"
     is_stopped_at 62 60 --call "$top/.ci/conversations/reference_no_line_at_all.pbm"
     { echo "quiet 1000"; for at in $(seq 2000 1000 200000); do echo "busy $at"; done; } > "$work/lines"
-    is_stopped_at 70 60 --answer --out "$work/stored"
-    is_stopped_at 70 60 --call "$top/.ci/conversations/reference_no_line_at_all.pbm"
+    is_given_up_at 70 60 --answer --out "$work/stored"
+    is_given_up_at 70 60 --call "$top/.ci/conversations/reference_no_line_at_all.pbm"
     { echo "quiet 1000"; for at in $(seq 10000 300000 14710000); do echo "busy $at"; done; } > "$work/lines"
-    is_stopped_at 14410 '' --answer --out "$work/stored"
-    is_stopped_at 14410 '' --call "$top/.ci/conversations/reference_no_line_at_all.pbm"
+    is_given_up_at 14410 '' --answer --out "$work/stored"
+    is_given_up_at 14410 '' --call "$top/.ci/conversations/reference_no_line_at_all.pbm"
     for side in "--answer --out $work/stored" "--call $top/.ci/conversations/reference_no_line_at_all.pbm"; do
         ends 1 station --most-seconds 0 $side < "$work/lines"
         grep -q '^end line-lost' "$work/error" || fails "--most-seconds 0 stops a call"
@@ -211,13 +212,26 @@ try_carriers() {
 
 # A station stops its call at this second, and says DCN, then done. Arguments: the second, the limit or nothing, the words of the station.
 is_stopped_at() {
-    second=$1 most=$2
-    shift 2
+    ends_late_at stopped "the call is stopped: --most-seconds" "$@"
+    tail -n 2 "$work/output" | grep -q '^tx ' || fails "--most-seconds: $*: no DCN"
+}
+
+# A station gives its call up at this second, and says nothing more than done.
+is_given_up_at() {
+    ends_late_at never-quiet "the call is given up, as its line never fell quiet: --most-seconds" "$@"
+    tail -n 2 "$work/output" | grep -q '^tx ' && fails "--most-seconds: $*: DCN on a carrier"
+    [ "$(grep -c '^done$' "$work/output")" = 1 ] || fails "--most-seconds: $*: no done"
+}
+
+# A call that lasts too long ends so, with these words, at this second.
+ends_late_at() {
+    name=$1 words=$2 second=$3 most=$4
+    shift 4
     ends 1 station ${most:+--most-seconds "$most"} "$@" < "$work/lines"
-    grep -qx "the call is stopped: --most-seconds" "$work/error" || fails "--most-seconds: $*: no word of it"
-    grep -q "^$second s; " "$work/error" || fails "--most-seconds: $*: stopped at $(grep -o '^[0-9]* s; ' "$work/error"), not $second s"
-    grep -qE '^end stopped (pages|confirmed) 0$' "$work/error" || fails "--most-seconds: $*: $(tail -n 1 "$work/error")"
-    [ "$(tail -n 1 "$work/output")" = "done" ] && tail -n 2 "$work/output" | grep -q '^tx ' || fails "--most-seconds: $*: no DCN"
+    [ "$(grep -cx "$words" "$work/error")" = 1 ] || fails "--most-seconds: $*: no word of it"
+    grep -q "^$second s; " "$work/error" || fails "--most-seconds: $*: ended at $(grep -o '^[0-9]* s; ' "$work/error"), not $second s"
+    grep -qE "^end $name (pages|confirmed) 0$" "$work/error" || fails "--most-seconds: $*: $(tail -n 1 "$work/error")"
+    [ "$(tail -n 1 "$work/output")" = "done" ] || fails "--most-seconds: $*: not done"
 }
 
 # A folder that can't be written, as root can't write /proc, is found before a line is read; and nothing is left of looking.

@@ -340,16 +340,19 @@ class Ending:
             self.cut, self.turn = "stopped", ("DCN",)
 
     def end_late(self, word):
-        """A call that has lasted as long as it may is stopped where the other side hears that, or ten seconds later."""
-        more = 0 if word in ("quiet", "rx") else 10000
-        if self.most and not self.name() and self.at >= self.most + more:
-            self.late = True
+        """A call that has lasted as long as it may is stopped where the other side hears that, or given up in silence ten seconds later."""
+        is_heard = word in ("quiet", "rx")
+        if self.most and not self.name() and self.at >= self.most + (0 if is_heard else 10000):
+            self.late = is_heard
             self.stop()
             # an answerer that hasn't begun says nothing
-            self.turn = self.turn if getattr(self, "has_begun", True) else SILENT
+            self.turn = self.turn if is_heard and getattr(self, "has_begun", True) else SILENT
+            self.cut = "stopped" if is_heard else "never-quiet"
 
     def reason(self):
-        """The line that says why the call was stopped, if it lasted too long."""
+        """The line that says why the call was stopped or given up, if it lasted too long."""
+        if self.cut == "never-quiet":
+            return "the call is given up, as its line never fell quiet: --most-seconds\n"
         return "the call is stopped: --most-seconds\n" if self.late else ""
 
     def on_quiet(self, said):

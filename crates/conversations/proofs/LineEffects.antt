@@ -206,12 +206,12 @@ refused_again : {S : Type 0} (b : Behaviour S) (new : ConversationFields S) (w :
     w.used.again ≡ again → new.watch.watched ≡ Some w → new.watch.refuses ≡ true → second_refusal w.refused ≡ Some why →
     (refused_so b new).terminal.speaking ≡ stopped b.cut_off b.stop_says new.terminal.speaking
 refused_again b new w why false again watched refuses second =
-    ap (λ (it : Option Refusal). (stopped_for b (stop_for it new.watch.late) new).terminal.speaking)
+    ap (λ (it : Option Refusal). (stopped_for b (stop_for it new.watch.late new.watch.given_up) new).terminal.speaking)
     (ap (λ (so : Bool). refusal_seen so new.watch.watched) refuses ∙
     (ap (λ (seen : Option Watched). refusal_seen true seen) watched ∙
     (ap (λ (so : Bool). refusal_for (second_refusal w.refused) so) again ∙ second)))
 refused_again b new w why true again watched refuses second =
-    ap (λ (it : Option Refusal). (stopped_for b (stop_for it new.watch.late) new).terminal.speaking)
+    ap (λ (it : Option Refusal). (stopped_for b (stop_for it new.watch.late new.watch.given_up) new).terminal.speaking)
     (ap (λ (so : Bool). refusal_seen so new.watch.watched) refuses ∙
     (ap (λ (seen : Option Watched). refusal_seen true seen) watched ∙
     ap (λ (so : Bool). refusal_for (second_refusal w.refused) so) again))

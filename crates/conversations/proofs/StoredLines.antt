@@ -7,9 +7,10 @@ use Rattle.conversations.proofs.ServedLines.{AreAmong, Serves, all_read_among, b
 use Rattle.conversations.proofs.ServedLines.{serves_more, step_serves, taken_serves}
 use Rattle.conversations.specs.Answering.{StoreStep, StoresEach, limited_behaviour, pages_of}
 use Rattle.conversations.specs.Conversations.{ConversationFields, Gives, PlainGiven, SendsIfBegun, TakesLine, gives, heard_given, line_gives}
-use Rattle.conversations.specs.Conversations.{missed_given, refused_so, state_of, stopped_for}
+use Rattle.conversations.specs.Conversations.{missed_given, refused_so, silenced_so, state_of, stopped_for, stopped_so}
 use Rattle.conversations.specs.Refusing.{stop_in}
 use Rattle.conversations.specs.declared.refusing.StopCause.{StopCause}
+use Rattle.conversations.specs.declared.refusing.StopCause.TheVariants.{Refused, TooLong, NeverQuiet}
 use Rattle.conversations.specs.Conversations.{over_given, nothing, stopping, losing, frames, input}
 use Rattle.conversations.specs.Conversing.{AnswersAll, AnswersNext, TalkState}
 use Rattle.conversations.specs.Lines.{Says}
@@ -249,17 +250,29 @@ record HeardLine (caps : Caps) (params : Params) (line octets : List ℕ) (new :
   of_it : AreOfLine line here
   stands : Stands caps params new (octets ++ here)
 
--- a call that is stopped since a DCS was refused has heard the same, and its answerer has come to the same
-stopped_stands : (caps : Caps) (params : Params) (c : ConversationFields LimitedFields) (octets : List ℕ) (why : Option StopCause) →
-    Stands caps params c.terminal octets → Stands caps params (stopped_for limited_behaviour why c).terminal octets
-stopped_stands caps params c octets None h = h
-stopped_stands caps params c octets (Some why) h = record {
+-- a call that is stopped with DCN has heard the same, and its answerer has come to the same
+dcn_stands : (caps : Caps) (params : Params) (c : ConversationFields LimitedFields) (octets : List ℕ) →
+    Stands caps params c.terminal octets → Stands caps params (stopped_so limited_behaviour c).terminal octets
+dcn_stands caps params c octets h = record {
   heard = h.heard;
   serves =
       cut_serves caps params c.terminal.speaking.station
-      (stopped_for limited_behaviour (Some why) c).terminal.speaking.station octets StopCut h.serves
+      (stopped_so limited_behaviour c).terminal.speaking.station octets StopCut h.serves
       (spoken_by c.terminal.speaking (limited_cut_off StopCut c.terminal.speaking.station)
       (limited_stop_says c.terminal.speaking.station));
+}
+
+-- a call that is stopped for a reason, if there is one, has heard the same, and its answerer has come to the same
+stopped_stands : (caps : Caps) (params : Params) (c : ConversationFields LimitedFields) (octets : List ℕ) (why : Option StopCause) →
+    Stands caps params c.terminal octets → Stands caps params (stopped_for limited_behaviour why c).terminal octets
+stopped_stands caps params c octets None h = h
+stopped_stands caps params c octets (Some (Refused why)) h = dcn_stands caps params c octets h
+stopped_stands caps params c octets (Some TooLong) h = dcn_stands caps params c octets h
+stopped_stands caps params c octets (Some NeverQuiet) h = record {
+  heard = h.heard;
+  serves =
+      cut_serves caps params c.terminal.speaking.station
+      (silenced_so limited_behaviour c).terminal.speaking.station octets Loss h.serves refl;
 }
 
 heard_line : CutsChangeNothing → (caps : Caps) (params : Params) (line octets : List ℕ) (timed : TimedLine)

@@ -1,7 +1,7 @@
 -- A line that was taken, from what each step of the code leaves.
 use Rattle.std.proofs.Common.{◌≡◌, ◌⊎◌, ◌∙◌, Bool, true, ap, refl, subst}
 use Rattle.std.specs.Prelude.{◌||◌, Option, cond}
-use Rattle.conversations.specs.Refusing.{ends_by}
+use Rattle.conversations.specs.Refusing.{ends_by, gives_up}
 use Rattle.conversations.specs.Conversations.{Behaviour, ConversationFields, Gives, IsInTime, IsRefused, PlainGiven, RefusesLine, SawGiven}
 use Rattle.conversations.specs.Conversations.{SawLine, SeesGiven, TakesLine, begins, gives, line_gives, state_of}
 use Rattle.conversations.specs.declared.line.TimedLine.{TimedLine}
@@ -37,12 +37,14 @@ line_seen b saw old line clock given shown side was is shows side_is clock_is gi
 
 pub line_taken :
     {S : Type 0} (b : Behaviour S) (old : ConversationFields S) (line : TimedLine) (terminal : TerminalFields S) (clock heard asked : Clock)
-    (begun brought : Bool) (given : PlainGiven) (shown later : Shown) (side : Side) (watched : Option Watched) (done : Option Timeout) (late : Bool) →
+    (begun brought : Bool) (given : PlainGiven) (shown later : Shown) (side : Side) (watched : Option Watched) (done : Option Timeout)
+    (late given_up : Bool) →
     IsInTime old line → b.shows old.terminal.speaking.station shown → side ≡ b.side → clock ≡ clock_at old.clock (state_of line.said) line.at →
     given ≡ line_gives old.begun side shown clock old.durations line.said → Gives b old.terminal given terminal brought →
     b.shows terminal.speaking.station later → heard ≡ heard_now brought clock → asked ≡ asked_since later.longer heard →
     begun ≡ cond old.begun true (begins line.said line.at) → SeesGiven old.terminal.framing given (noted shown.accepted old.watch.watched) watched →
     done ≡ timeout (state_of line.said) side later asked old.durations old.watch.limit → late ≡ (old.watch.late || ends_by done) →
+    given_up ≡ (old.watch.given_up || gives_up done) →
     TakesLine S b old line
     (record {
       terminal = terminal;
@@ -50,10 +52,12 @@ pub line_taken :
       durations = old.durations;
       begun = begun;
       says = old.says;
-      watch = record old.watch { watched = watched; late = late };
+      watch = record old.watch { watched = watched; late = late; given_up = given_up };
     })
-line_taken b old line terminal clock heard asked begun brought given shown later side watched done late in_time shows side_is clock_is given_is
-    gave shows_later heard_is asked_is begun_is seen done_is late_is =
+line_taken b old line terminal clock heard asked begun brought given shown later side watched done late given_up in_time shows side_is clock_is given_is
+    gave shows_later heard_is asked_is begun_is seen done_is late_is given_up_is =
+    let same : done ≡ timeout (state_of line.said) b.side later asked old.durations old.watch.limit =
+    done_is ∙ ap (λ s. timeout (state_of line.said) s later asked old.durations old.watch.limit) side_is in
     record {
       shown = shown;
       later = later;
@@ -75,8 +79,8 @@ line_taken b old line terminal clock heard asked begun brought given shown later
           (gives_is b old line clock given shown side side_is clock_is given_is)
           seen;
       limit = refl;
-      late = late_is ∙ ap (λ d. old.watch.late || ends_by d)
-          (done_is ∙ ap (λ s. timeout (state_of line.said) s later asked old.durations old.watch.limit) side_is);
+      late = late_is ∙ ap (λ d. old.watch.late || ends_by d) same;
+      given_up = given_up_is ∙ ap (λ d. old.watch.given_up || gives_up d) same;
     }
 
 -- a line for which memory was refused, from what each step of the code leaves
@@ -100,6 +104,6 @@ line_refused b old line terminal clock given shown side watched in_time shows si
       subst (λ g. (watched ≡ noted shown.accepted old.watch.watched) ⊎ SeesGiven old.terminal.framing g (noted shown.accepted old.watch.watched) watched)
       (gives_is b old line clock given shown side side_is clock_is given_is)
       seen;
-  lasts = (refl, refl);
+  lasts = (refl, refl, refl);
   rest = refl;
 }

@@ -1,7 +1,7 @@
 -- The conversation of a station as a process: what each line gives the station, and when its waits are over.
 use Rattle.std.specs.Prelude.{ℕ, ◌≡◌, ◌⊎◌, ◌||◌, ◌<◌, ◌≤◌, ◌+◌, ◌++◌, [], ◌∷◌, Bool, true, false, cond, nat_le, nat_lt, List, Option, Some, None, Result, Ok, Err}
 use Rattle.conversations.specs.Hearing.{heard_as}
-use Rattle.conversations.specs.Refusing.{ends_by, no_watch, stop_in}
+use Rattle.conversations.specs.Refusing.{ends_by, gives_up, no_watch, stop_in}
 use Rattle.conversations.specs.declared.conversation.TakeFault.{TakeFault}
 use Rattle.conversations.specs.declared.conversation.TakeFault.TheVariants.{OutOfTime, NoMemory}
 use Rattle.conversations.specs.declared.giving.Given.{Given}
@@ -15,6 +15,7 @@ use Rattle.conversations.specs.declared.line.Said.TheVariants.{Quiet, Busy, Rece
 use Rattle.conversations.specs.declared.line.TimedLine.{TimedLine}
 use Rattle.conversations.specs.declared.refusing.CallerWatch.{CallerWatch}
 use Rattle.conversations.specs.declared.refusing.StopCause.{StopCause}
+use Rattle.conversations.specs.declared.refusing.StopCause.TheVariants.{Refused, TooLong, NeverQuiet}
 use Rattle.conversations.specs.declared.writing.Says.{Says}
 use Rattle.hdlc.specs.DeframerState.{DeframerState}
 use Rattle.signals.specs.declared.signal.Side.{Side}
@@ -232,6 +233,8 @@ pub record TakesLine (S : Type 0) (b : Behaviour S) (old : ConversationFields S)
   pub limit : new.watch.limit ≡ old.watch.limit
   pub late : new.watch.late ≡ (old.watch.late
       || ends_by (timeout (state_of line.said) b.side later new.clock old.durations old.watch.limit))
+  pub given_up : new.watch.given_up ≡ (old.watch.given_up
+      || gives_up (timeout (state_of line.said) b.side later new.clock old.durations old.watch.limit))
 
 -- a watch saw each good frame that a line gives the terminal of a conversation, by what its station shows
 pub record SawLine (S W : Type 0) (b : Behaviour S) (saw : SeesOne W) (old : ConversationFields S) (line : TimedLine) (was is : W) :
@@ -251,7 +254,7 @@ pub record RefusesLine (S : Type 0) (b : Behaviour S) (old : ConversationFields 
   pub refuses : new.watch.refuses ≡ old.watch.refuses
   pub sees : (new.watch.watched ≡ noted shown.accepted old.watch.watched) ⊎
       SeesGiven old.terminal.framing (gives b old shown line) (noted shown.accepted old.watch.watched) new.watch.watched
-  pub lasts : (new.watch.limit ≡ old.watch.limit) × (new.watch.late ≡ old.watch.late)
+  pub lasts : (new.watch.limit ≡ old.watch.limit) × (new.watch.late ≡ old.watch.late) × (new.watch.given_up ≡ old.watch.given_up)
   pub rest : new ≡ record old { terminal = new.terminal; watch = new.watch }
 
 -- a line was taken; or its time can't follow that of the line before it, and nothing has changed; or memory was refused
@@ -288,10 +291,16 @@ hung_up_so cut_off old =
 abbrev pub stopped_so : {S : Type 0} → Behaviour S → ConversationFields S → ConversationFields S
 stopped_so b old = record old { terminal = record old.terminal { speaking = stopped b.cut_off b.stop_says old.terminal.speaking } }
 
--- a conversation whose call is stopped for a reason, if there is one
+-- a conversation whose call is given up in silence, as at a line `end`
+abbrev pub silenced_so : {S : Type 0} → Behaviour S → ConversationFields S → ConversationFields S
+silenced_so b old = record old { terminal = record old.terminal { speaking = silenced b.cut_off old.terminal.speaking } }
+
+-- a conversation whose call is stopped for a reason, if there is one: in silence if its line never fell quiet, else with DCN
 abbrev pub stopped_for : {S : Type 0} → Behaviour S → Option StopCause → ConversationFields S → ConversationFields S
 stopped_for b None old = old
-stopped_for b (Some why) old = stopped_so b old
+stopped_for b (Some (Refused why)) old = stopped_so b old
+stopped_for b (Some TooLong) old = stopped_so b old
+stopped_for b (Some NeverQuiet) old = silenced_so b old
 
 -- a conversation whose call is stopped if it is refused, or has lasted as long as it may
 abbrev pub refused_so : {S : Type 0} → Behaviour S → ConversationFields S → ConversationFields S

@@ -3,7 +3,7 @@
 use Rattle.std.specs.Prelude.{ℕ, Bool, true, false, Option, Some, None}
 use Rattle.conversations.specs.declared.refusing.CallerWatch.{CallerWatch}
 use Rattle.conversations.specs.declared.refusing.StopCause.{StopCause}
-use Rattle.conversations.specs.declared.refusing.StopCause.TheVariants.{Refused, TooLong}
+use Rattle.conversations.specs.declared.refusing.StopCause.TheVariants.{Refused, TooLong, NeverQuiet}
 use Rattle.signals.specs.declared.params.Caps.{Caps}
 use Rattle.terminals.specs.Watching.{nothing_watched, refusal_for, refusal_of_seen}
 use Rattle.terminals.specs.declared.timeout.Limit.{Limit}
@@ -12,7 +12,8 @@ use Rattle.terminals.specs.declared.timeout.Timeout.TheVariants.{Over, Stop, Giv
 use Rattle.terminals.specs.declared.watching.Refusal.{Refusal}
 use Rattle.terminals.specs.declared.watching.Watched.{Watched}
 
--- how long a call lasts at most; after that DCN is said at the first line at which the other side can hear it, or else ten seconds later
+-- how long a call lasts at most; after that DCN is said at the first line at which the other side can hear it, or else the call is given up
+-- in silence ten seconds later
 abbrev pub limit_of : Option ℕ → Limit
 limit_of most = record { most = most; more = 10000 }
 
@@ -22,11 +23,11 @@ no_limit = limit_of None
 
 -- nothing is watched
 abbrev pub no_watch : CallerWatch
-no_watch = record { watched = None; refuses = false; limit = no_limit; late = false }
+no_watch = record { watched = None; refuses = false; limit = no_limit; late = false; given_up = false }
 
 -- a watch of an answerer with these capabilities that has seen nothing
 abbrev pub new_watch : Caps → Bool → CallerWatch
-new_watch caps refuses = record { watched = Some (nothing_watched caps); refuses = refuses; limit = no_limit; late = false }
+new_watch caps refuses = record no_watch { watched = Some (nothing_watched caps); refuses = refuses }
 
 -- what is to be done is the end of a call that has lasted as long as it may
 abbrev pub ends_by : Option Timeout → Bool
@@ -34,6 +35,13 @@ ends_by None = false
 ends_by (Some (Over wait)) = false
 ends_by (Some Stop) = true
 ends_by (Some GiveUp) = true
+
+-- what is to be done is the end of such a call in silence, since its line didn't fall quiet
+abbrev pub gives_up : Option Timeout → Bool
+gives_up None = false
+gives_up (Some (Over wait)) = false
+gives_up (Some Stop) = false
+gives_up (Some GiveUp) = true
 
 -- why a call is refused by what was seen, where DCSs are refused or aren't
 abbrev pub refusal_seen : Bool → Option Watched → Option Refusal
@@ -45,15 +53,16 @@ refusal_seen false (Some w) = refusal_for None w.used.again
 abbrev pub refusal_in : CallerWatch → Option Refusal
 refusal_in watch = refusal_seen watch.refuses watch.watched
 
--- why a call is stopped: it is refused, or has lasted as long as it may
-abbrev pub stop_for : Option Refusal → Bool → Option StopCause
-stop_for (Some why) late = Some (Refused why)
-stop_for None true = Some TooLong
-stop_for None false = None
+-- why a call is stopped: it is refused, or has lasted as long as it may (first Bool), and is given up if its line didn't fall quiet (second)
+abbrev pub stop_for : Option Refusal → Bool → Bool → Option StopCause
+stop_for (Some why) late given_up = Some (Refused why)
+stop_for None late true = Some NeverQuiet
+stop_for None true false = Some TooLong
+stop_for None false false = None
 
 -- why a call is stopped, if it is
 abbrev pub stop_in : CallerWatch → Option StopCause
-stop_in watch = stop_for (refusal_in watch) watch.late
+stop_in watch = stop_for (refusal_in watch) watch.late watch.given_up
 
 -- the first page number that jumped, of those that were seen
 abbrev pub gap_seen : Option Watched → Option ℕ

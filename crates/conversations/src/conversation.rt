@@ -9,11 +9,11 @@ ghost use Rattle.terminals.specs.declared.stopping.Shown.{Shown as AnyShown};
 
 use crate::giving::{clock_at, give, has_begun, line_gives, most_step, state_of};
 use crate::line::TimedLine;
-use crate::refusing::{CallerWatch, MORE, StopCause, is_late};
+use crate::refusing::{CallerWatch, MORE, StopCause, is_given_up, is_late};
 use crate::writing::Says;
 use raster::Page;
 use signals::Caps;
-use stations::{CallEnd, LimitedAnswerer, StoppableCaller};
+use stations::{Answerer, CallEnd, Caller, LimitedAnswerer, StoppableCaller};
 use std::alloc::AllocError;
 use std::marker::Model;
 use terminals::{
@@ -87,6 +87,13 @@ impl Conversation<StoppableCaller> {
             watch: CallerWatch::NONE,
         }
     }
+
+    /// Returns the caller itself: its pages, and how many are confirmed.
+    pub fn caller(&self) -> &Caller
+        ensures { result.now ≡ self.now.terminal.speaking.station.station }
+    {
+        self.terminal.station().station()
+    }
 }
 
 impl Conversation<LimitedAnswerer> {
@@ -126,6 +133,13 @@ impl Conversation<LimitedAnswerer> {
     {
         self.terminal.take_pages()
     }
+
+    /// Returns the answerer itself: its stored pages, and what it knows of its caller.
+    pub fn answerer(&self) -> &Answerer
+        ensures { result.now ≡ self.now.terminal.speaking.station.station }
+    {
+        self.terminal.station().station()
+    }
 }
 
 impl<S: Stoppable> Conversation<S> {
@@ -139,7 +153,7 @@ impl<S: Stoppable> Conversation<S> {
     }
 
     /// The conversation, whose call is stopped once it has lasted so many milliseconds and DCN can be said, on a quiet line or where a carrier
-    /// has just ended; else ten seconds later.
+    /// has just ended; else it is given up in silence ten seconds later.
     pub fn lasting(self, most: Option<u64>) -> Conversation<S>
         ensures { result ≡ record self { watch = record self.watch { limit = limit_of most } } }
     {
@@ -184,6 +198,7 @@ impl<S: Stoppable> Conversation<S> {
         self.clock = now;
         self.begun = has_begun(self.begun, &line.said, line.at);
         self.watch.late = is_late(self.watch.late, done);
+        self.watch.given_up = is_given_up(self.watch.given_up, done);
         Ok(())
     }
 
@@ -231,12 +246,15 @@ impl<S: Stoppable> Conversation<S> {
         self.terminal.stop();
     }
 
-    /// Stops the call, as a line `stop` does, if it is refused, or has lasted as long as it may.
+    /// Stops the call, as a line `stop` does, if it is refused, or has lasted as long as it may. A call whose line didn't fall quiet is given
+    /// up in silence, as at a line `end`.
     pub fn refuse(&mut self)
         ensures { self.new ≡ refused_so (behaviour S.sends S.steps S.lends S.shows S.cut_off S.stop_says) self.old }
     {
-        if self.stop_cause().is_some() {
-            self.stop();
+        match self.stop_cause() {
+            Some(StopCause::NeverQuiet) => self.terminal.lost(),
+            Some(StopCause::Refused(_) | StopCause::TooLong) => self.stop(),
+            None => {}
         }
     }
 
@@ -252,6 +270,13 @@ impl<S: Stoppable> Conversation<S> {
         ensures { result ≡ self.now.watch.late }
     {
         self.watch.late
+    }
+
+    /// Returns true if the call has lasted as long as it may and ten seconds more, and its line didn't fall quiet: it is given up in silence.
+    pub fn is_given_up(&self) -> bool
+        ensures { result ≡ self.now.watch.given_up }
+    {
+        self.watch.given_up
     }
 
     /// Returns why the call is refused: a second DCS wasn't allowed, and such a call is refused, or a page came under the number of the last

@@ -72,7 +72,7 @@ pub fn can_come<P: PageHolder>(holder: &P, said: &Said) -> bool
 fn count_page<P: PageHolder>(conversation: &Conversation<LimitedAnswerer>, holder: &mut P)
     ensures { CountsFirst P.stores (pages_of conversation.now) holder.old holder.new }
 {
-    if let Some(page) = conversation.terminal().station().station().pages().first() {
+    if let Some(page) = conversation.answerer().pages().first() {
         holder.count(page);
     }
 }
@@ -88,7 +88,7 @@ fn hand_page<P: PageHolder>(
     if holder.held().is_some() {
         return None;
     }
-    let Some(page) = conversation.terminal().station().station().pages().first() else {
+    let Some(page) = conversation.answerer().pages().first() else {
         return None;
     };
     match holder.hand_over(page) {

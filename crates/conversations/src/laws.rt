@@ -8,6 +8,7 @@ ghost use Rattle.conversations.specs.Holding.{HeldIsNotConfirmed};
 ghost use Rattle.conversations.specs.Led.{AnswerersAreLed, CallersAreLed, caller_behaviour};
 ghost use Rattle.conversations.specs.LineEffects.{BeginsWhenNamedOf, BlocksAreInTimeOf, LinesTellOf, NamedBegins};
 ghost use Rattle.conversations.specs.LineEffects.{NamesWhatIsHeld};
+ghost use Rattle.conversations.specs.LimitRows.{LimitEndsOf};
 ghost use Rattle.conversations.specs.StoredLines.{LastIsSaid, LineIsSaid, RefusedIsLast, StoredIsSaid};
 ghost use Rattle.stations.specs.Limiting.{LimitedFields};
 ghost use Rattle.stations.specs.Stopping.{StoppableCallerFields};
@@ -66,6 +67,12 @@ pub fn lines_name_what_is_held()
 pub fn dcn_is_given()
     ensures caller { CallersHangUp }
     ensures answerer { AnswerersHangUp }
+{}
+
+/// A call that has lasted as long as it may ends with DCN; one that is given up ends in silence.
+pub fn limits_end()
+    ensures caller { LimitEndsOf StoppableCallerFields caller_behaviour }
+    ensures answerer { LimitEndsOf LimitedFields limited_behaviour }
 {}
 
 /// After a line that was taken each station stands where its table leads by what the line gives it, whoever is on the line, unless its call

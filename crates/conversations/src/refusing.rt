@@ -1,6 +1,6 @@
 //! What is watched of a call: its caller, and how long it lasts; and why it is stopped.
 
-ghost use Rattle.conversations.specs.Refusing.{ends_by, gap_in, new_watch, no_watch, refusal_in, stop_in};
+ghost use Rattle.conversations.specs.Refusing.{ends_by, gap_in, gives_up, new_watch, no_watch, refusal_in, stop_in};
 ghost use Rattle.std.specs.Prelude.{◌≡◌, ◌||◌};
 
 use signals::Caps;
@@ -16,6 +16,8 @@ pub enum StopCause {
     Refused(Refusal),
     /// It has lasted as long as it may.
     TooLong,
+    /// It has lasted so much longer, and its line didn't fall quiet.
+    NeverQuiet,
 }
 
 /// What is watched of a call: its caller, in the frames that its answerer's terminal hears, and how long it lasts.
@@ -29,6 +31,8 @@ pub struct CallerWatch {
     pub limit: Limit,
     /// Whether it has lasted as long.
     pub late: bool,
+    /// Whether it has lasted so much longer, and its line didn't fall quiet.
+    pub given_up: bool,
 }
 
 /// Returns true if a call has lasted as long as it may, by what is to be done at a line, or had before.
@@ -36,6 +40,23 @@ pub(crate) fn is_late(was: bool, done: Option<Timeout>) -> bool
     ensures { result ≡ (was || ends_by done) }
 {
     was || ends_by(done)
+}
+
+/// Returns true if a call is given up, by what is to be done at a line, or was before.
+pub(crate) fn is_given_up(was: bool, done: Option<Timeout>) -> bool
+    ensures { result ≡ (was || gives_up done) }
+{
+    was || gives_up(done)
+}
+
+/// Returns true if what is to be done is the end of a call in silence, since its line didn't fall quiet.
+fn gives_up(done: Option<Timeout>) -> bool
+    ensures { result ≡ gives_up done }
+{
+    match done {
+        Some(Timeout::GiveUp) => true,
+        Some(Timeout::Over(_) | Timeout::Stop) | None => false,
+    }
 }
 
 /// Returns true if what is to be done is the end of a call that has lasted as long as it may.
@@ -58,6 +79,7 @@ impl CallerWatch {
             more: MORE,
         },
         late: false,
+        given_up: false,
     };
 
     /// A watch of a caller that has seen nothing, for which a call is refused or not; it lasts as long as it wants.
@@ -83,12 +105,13 @@ impl CallerWatch {
         }
     }
 
-    /// Why the call is stopped, if it is: it is refused, or has lasted as long as it may.
+    /// Why the call is stopped, if it is: it is refused, or has lasted as long as it may, and is given up if its line didn't fall quiet.
     pub(crate) fn stop_cause(self) -> Option<StopCause>
         ensures { result ≡ stop_in self }
     {
         match self.refusal() {
             Some(why) => Some(StopCause::Refused(why)),
+            None if self.given_up => Some(StopCause::NeverQuiet),
             None if self.late => Some(StopCause::TooLong),
             None => None,
         }

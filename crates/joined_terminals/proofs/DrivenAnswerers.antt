@@ -3,7 +3,8 @@ use Rattle.std.proofs.Common.{◌≡◌, ◌++◌, ◌∷◌, ◌+◌, [], List,
 use Rattle.std.proofs.Common.{append_assoc, append-nil}
 use Rattle.std.specs.Prelude.{◌&&◌}
 use Rattle.conversations.specs.Answering.{limited_behaviour, pages_of}
-use Rattle.conversations.specs.Conversations.{ConversationFields, Gives, LosesFrames, PlainGiven, gives, hung_up_so, stopped_for, stopped_so}
+use Rattle.conversations.specs.Conversations.{ConversationFields, Gives, LosesFrames, PlainGiven, gives, hung_up_so, silenced_so, stopped_for}
+use Rattle.conversations.specs.Conversations.{stopped_so}
 use Rattle.conversations.specs.Conversations.{nothing, stopping, losing, frames, input}
 use Rattle.conversations.specs.Refusing.{stop_in}
 use Rattle.conversations.specs.declared.line.TimedLine.{TimedLine}
@@ -21,6 +22,7 @@ use Rattle.terminals.specs.Stopping.{with_pages_taken as without_its_pages}
 use Rattle.terminals.specs.declared.fault.HearFault.TheVariants.{FrameLost}
 use Rattle.terminals.specs.declared.sending.SentBurst.{SentBurst}
 use Rattle.conversations.specs.declared.refusing.StopCause.{StopCause}
+use Rattle.conversations.specs.declared.refusing.StopCause.TheVariants.{Refused, TooLong, NeverQuiet}
 use Rattle.joined_terminals.specs.Happening.Happening.{answerer_hangs_up, answerer_lost, answerer_sends, answerer_stops, answerer_waits}
 use Rattle.joined_terminals.specs.Happening.Happening.{comes_to_answerer, lines_lose, pages_taken, program_says}
 use Rattle.joined_terminals.specs.Joining.{AnswererMakes, answerer_begins, if_clear}
@@ -231,12 +233,22 @@ module _ (d : Driven) where
       (after_answerer d d.answerer.terminal.framing (stopped limited_cut_off limited_stop_says d.answerer.terminal.speaking) d.to_answerer silent)
       (refl, refl, refl))
 
+  -- the call is given up in silence
+  gives_up_so : Way (terminals d) (terminals (record d { answerer = silenced_so limited_behaviour d.answerer }))
+  gives_up_so =
+      subst (λ t. Way (terminals d) t) (sym (spoke true d (silenced_so limited_behaviour d.answerer) d.to_answerer))
+      (by (other answerer_lost) (terminals d)
+      (after_answerer d d.answerer.terminal.framing (silenced limited_cut_off d.answerer.terminal.speaking) d.to_answerer true)
+      (refl, refl, refl))
+
   watched_so : (why : Option StopCause) → Way (terminals d)
       (terminals
       (answerer_speaks (silent_unless why (is_silent (limited_behaviour.stop_says d.answerer.terminal.speaking.station)))
       (record d { answerer = stopped_for limited_behaviour why d.answerer })))
   watched_so None = stays (terminals d) (terminals d) refl
-  watched_so (Some why) = stops_so
+  watched_so (Some (Refused why)) = stops_so
+  watched_so (Some TooLong) = stops_so
+  watched_so (Some NeverQuiet) = gives_up_so
 
   pub watches : (new : Driven) →
       new ≡

@@ -1,7 +1,8 @@
 -- What happens to the caller's conversation happens to its terminal.
 use Rattle.std.proofs.Common.{◌≡◌, ◌++◌, ◌+◌, List, Bool, true, false, Option, Some, None, Ok, Err, inl, inr, ◌⊎◌, refl, ap, sym, subst, ◌∙◌}
 use Rattle.std.specs.Prelude.{◌&&◌}
-use Rattle.conversations.specs.Conversations.{ConversationFields, Gives, LosesFrames, PlainGiven, SendsIfBegun, gives, stopped_for}
+use Rattle.conversations.specs.Conversations.{ConversationFields, Gives, LosesFrames, PlainGiven, SendsIfBegun, gives, silenced_so, stopped_for}
+use Rattle.conversations.specs.Conversations.{stopped_so}
 use Rattle.conversations.specs.Conversations.{nothing, stopping, losing, frames, input}
 use Rattle.conversations.specs.Led.{caller_behaviour}
 use Rattle.conversations.specs.Refusing.{stop_in}
@@ -25,6 +26,7 @@ use Rattle.terminals.specs.Stopping.{CallerStepsUnlessCut, caller_cut_off, calle
 use Rattle.terminals.specs.declared.fault.HearFault.TheVariants.{FrameLost}
 use Rattle.terminals.specs.declared.sending.SentBurst.{SentBurst}
 use Rattle.conversations.specs.declared.refusing.StopCause.{StopCause}
+use Rattle.conversations.specs.declared.refusing.StopCause.TheVariants.{Refused, TooLong, NeverQuiet}
 use Rattle.joined_terminals.specs.Happening.Happening.{comes_to_caller, caller_lost, caller_stops, caller_waits, lines_lose}
 use Rattle.joined_terminals.specs.Happening.Happening.{caller_sends}
 use Rattle.joined_terminals.specs.Joining.{CallerMakes, caller_begins, if_clear}
@@ -257,18 +259,35 @@ module _ (d : Driven) where
           (subst (λ t. Way (terminals d) t) (sym (spoke p.1.silent d h.caller p.1.others))
           (lost_so h.caller.terminal (gives caller_behaviour d.caller h.refuses.shown line) p.1.others p.1.silent p.0 p.1.comes p.1.turns))
 
-  -- the call is stopped if it is refused
+  -- the call is stopped
+  stops_so : Way (terminals d)
+      (terminals
+      (caller_speaks (is_silent (caller_behaviour.stop_says d.caller.terminal.speaking.station))
+      (record d { caller = stopped_so caller_behaviour d.caller })))
+  stops_so =
+      let silent : Bool = is_silent (caller_stop_says d.caller.terminal.speaking.station) in
+      subst (λ t. Way (terminals d) t) (sym (spoke silent d (stopped_so caller_behaviour d.caller) d.to_caller))
+      (by (other caller_stops) (terminals d)
+      (after_caller d d.caller.terminal.framing (stopped caller_cut_off caller_stop_says d.caller.terminal.speaking) d.to_caller silent)
+      (refl, refl, refl))
+
+  -- the call is given up in silence
+  gives_up_so : Way (terminals d) (terminals (record d { caller = silenced_so caller_behaviour d.caller }))
+  gives_up_so =
+      subst (λ t. Way (terminals d) t) (sym (spoke true d (silenced_so caller_behaviour d.caller) d.to_caller))
+      (by (other caller_lost) (terminals d)
+      (after_caller d d.caller.terminal.framing (silenced caller_cut_off d.caller.terminal.speaking) d.to_caller true)
+      (refl, refl, refl))
+
+  -- the call is stopped if it is refused, or has lasted as long as it may
   watched_so : (why : Option StopCause) → Way (terminals d)
       (terminals
       (caller_speaks (silent_unless why (is_silent (caller_behaviour.stop_says d.caller.terminal.speaking.station)))
       (record d { caller = stopped_for caller_behaviour why d.caller })))
   watched_so None = stays (terminals d) (terminals d) refl
-  watched_so (Some why) =
-      let silent : Bool = is_silent (caller_stop_says d.caller.terminal.speaking.station) in
-      subst (λ t. Way (terminals d) t) (sym (spoke silent d (stopped_for caller_behaviour (Some why) d.caller) d.to_caller))
-      (by (other caller_stops) (terminals d)
-      (after_caller d d.caller.terminal.framing (stopped caller_cut_off caller_stop_says d.caller.terminal.speaking) d.to_caller silent)
-      (refl, refl, refl))
+  watched_so (Some (Refused why)) = stops_so
+  watched_so (Some TooLong) = stops_so
+  watched_so (Some NeverQuiet) = gives_up_so
 
   pub watches : (new : Driven) →
       new ≡

@@ -1,5 +1,5 @@
--- An answerer that has DCN to say, and whose call has ended or was cut off, goes on so.
-use Rattle.std.proofs.Common.{◌≡◌, ◌⊎◌, inl, inr, Bool, Option, Some, None, List, [], ◌∷◌, refl, ap, sym, subst, ◌∙◌}
+-- An answerer that has no MCF to say, and whose call has ended or was cut off, goes on so.
+use Rattle.std.proofs.Common.{◌≡◌, ◌≢◌, ◌⊎◌, inl, inr, Bool, Option, Some, None, List, [], ◌∷◌, refl, ap, sym, subst, ◌∙◌}
 use Rattle.std.specs.Prelude.{◌&&◌}
 use Rattle.conversations.specs.Answering.{limited_behaviour}
 use Rattle.conversations.specs.Conversations.{ConversationFields, LosesFrames, PlainGiven, stopped_for}
@@ -10,16 +10,18 @@ use Rattle.stations.specs.Limiting.{LimitedFields}
 use Rattle.stations.specs.Stopping.{cut_by, stop_turn}
 use Rattle.stations.specs.declared.limiting.Limits.{Limits}
 use Rattle.stations.specs.declared.stopping.Cut.{Cut}
-use Rattle.stations.specs.declared.stopping.Cut.TheVariants.{Stop}
+use Rattle.stations.specs.declared.stopping.Cut.TheVariants.{Stop, Loss}
 use Rattle.stations.specs.declared.turn.End.{End}
 use Rattle.stations.specs.declared.turn.Turn.{Turn}
-use Rattle.stations.specs.declared.turn.Turn.TheVariants.{Silent, Dcn}
+use Rattle.stations.specs.declared.turn.Turn.TheVariants.{Silent, Dcn, Mcf}
 use Rattle.terminals.specs.Hearing.{PlainInput, heard_of}
 use Rattle.terminals.specs.Runs.{TerminalFields}
 use Rattle.terminals.specs.Speaking.{Speaking, Takes, is_silent, spoken}
 use Rattle.terminals.specs.Stations.{answerer_takes}
-use Rattle.terminals.specs.Stopping.{LimitedStepsUnlessCut, hung_up, limited_answers, limited_cut_off, limited_stop_says, stopped}
+use Rattle.terminals.specs.Stopping.{LimitedStepsUnlessCut, hung_up, limited_answers, limited_cut_off, limited_stop_says, silenced}
+use Rattle.terminals.specs.Stopping.{stopped}
 use Rattle.conversations.specs.declared.refusing.StopCause.{StopCause}
+use Rattle.conversations.specs.declared.refusing.StopCause.TheVariants.{Refused, TooLong, NeverQuiet}
 use Rattle.joined_terminals.specs.Joining.{AnswererMakes}
 use Rattle.joined_terminals.specs.Octets.{IsPiece, TakesSo}
 use Rattle.joined_terminals.specs.Steps.{Comes, TurnsSo}
@@ -29,9 +31,9 @@ use Rattle.joined_terminals.proofs.Limited.{limited_ended}
 abbrev pub IsOver : LimitedFields → Type 0
 IsOver v = ((why : End) × (v.station.ending ≡ Some why)) ⊎ ((why : Cut) × (v.cut ≡ Some why))
 
--- so it is, and the answerer has DCN to say, or said it
+-- so it is, and the answerer has no MCF to say
 abbrev pub IsGone : Speaking LimitedFields → Type 0
-IsGone now = (now.turn ≡ Dcn) × IsOver now.station
+IsGone now = (now.turn ≢ Mcf) × IsOver now.station
 
 ended_silent : (limits : Limits) (s : Answerer) (why : End) → s.ending ≡ Some why → (taken : Option AnswererInput) →
     limited_answers limits s taken ≡ answerer_silent s
@@ -90,23 +92,28 @@ over_silent v (inl c) = ap (λ e. stop_turn e v.cut) c.1
 over_silent v (inr c) = ap (λ e. stop_turn v.station.ending e) c.1 ∙ stop_cut v.station.ending c.0
 
 -- what was cut off or has ended is so after a cut
-pub over_cut : (v : LimitedFields) → IsOver (limited_cut_off Stop v)
-over_cut v = at v.station.ending refl v.cut refl
+pub over_cut : (now : Cut) (v : LimitedFields) → IsOver (limited_cut_off now v)
+over_cut now v = at v.station.ending refl v.cut refl
   where
-    at : (ending : Option End) → v.station.ending ≡ ending → (cut : Option Cut) → v.cut ≡ cut → IsOver (limited_cut_off Stop v)
+    at : (ending : Option End) → v.station.ending ≡ ending → (cut : Option Cut) → v.cut ≡ cut → IsOver (limited_cut_off now v)
     at (Some why) e cut f = inl (why, e)
-    at None e (Some before) f = inr (before, ap (λ o. cut_by o v.cut Stop) e ∙ ap (λ c. cut_by None c Stop) f)
-    at None e None f = inr (Stop, ap (λ o. cut_by o v.cut Stop) e ∙ ap (λ c. cut_by None c Stop) f)
+    at None e (Some before) f = inr (before, ap (λ o. cut_by o v.cut now) e ∙ ap (λ c. cut_by None c now) f)
+    at None e None f = inr (now, ap (λ o. cut_by o v.cut now) e ∙ ap (λ c. cut_by None c now) f)
 
 pub gone_stopped : (old : Speaking LimitedFields) → IsGone old → IsGone (stopped limited_cut_off limited_stop_says old)
 gone_stopped old gone =
     gone_spoken old (limited_cut_off Stop old.station) (limited_stop_says old.station) (over_silent old.station gone.1) gone
-    (over_cut old.station)
+    (over_cut Stop old.station)
+
+gone_silenced : (old : Speaking LimitedFields) → IsGone (silenced limited_cut_off old)
+gone_silenced old = (λ e. cc, over_cut Loss old.station)
 
 pub gone_for : (c : ConversationFields LimitedFields) (why : Option StopCause) → IsGone c.terminal.speaking →
     IsGone (stopped_for limited_behaviour why c).terminal.speaking
 gone_for c None gone = gone
-gone_for c (Some why) gone = gone_stopped c.terminal.speaking gone
+gone_for c (Some (Refused why)) gone = gone_stopped c.terminal.speaking gone
+gone_for c (Some TooLong) gone = gone_stopped c.terminal.speaking gone
+gone_for c (Some NeverQuiet) gone = gone_silenced c.terminal.speaking
 
 pub gone_hung_up : (old : Speaking LimitedFields) → IsGone (hung_up limited_cut_off old)
-gone_hung_up old = (refl, over_cut old.station)
+gone_hung_up old = (λ e. cc, over_cut Stop old.station)

@@ -26,6 +26,7 @@ use Rattle.terminals.specs.Speaking.{Speaking, is_silent}
 use Rattle.terminals.specs.Stopping.{limited_cut_off}
 use Rattle.terminals.specs.declared.sending.SentBurst.{SentBurst}
 use Rattle.conversations.specs.declared.refusing.StopCause.{StopCause}
+use Rattle.conversations.specs.declared.refusing.StopCause.TheVariants.{Refused, TooLong, NeverQuiet}
 use Rattle.joined_terminals.specs.Answered.{AnswererHasNoMemory, GivesPart, answerer_lends, bursts_in, each_with, hangs_by, hung_up_if, leaves, part_of, turn_of, withheld}
 use Rattle.joined_terminals.specs.Driven.{Driven, answerer_speaks, joined}
 use Rattle.joined_terminals.specs.Held.{DrivesHeld, IsHeld}
@@ -39,7 +40,8 @@ use Rattle.joined_terminals.specs.Steps.Step.{pages_stored}
 use Rattle.joined_terminals.proofs.DrivenAnswers.{lost_turns, none_given, one_given, same_bursts, turns_of}
 use Rattle.joined_terminals.proofs.DrivenCallers.{given_next}
 use Rattle.joined_terminals.proofs.HeldSafe.{none_first}
-use Rattle.joined_terminals.proofs.HoldsOne.{HoldersKnown, given_holds, hung_up_holds, lost_holds, new_has_room, one_at_most, stopped_holds}
+use Rattle.joined_terminals.proofs.HoldsOne.{HoldersKnown, given_holds, hung_up_holds, lost_holds, new_has_room, one_at_most, silenced_holds}
+use Rattle.joined_terminals.proofs.HoldsOne.{stopped_holds}
 use Rattle.joined_terminals.proofs.HoldsOne.{taken_holds}
 
 held_both : (some more : List Step) (a b c : Driven) → DrivesHeld some a b → DrivesHeld more b c → DrivesHeld (some ++ more) a c
@@ -105,7 +107,9 @@ spoken_goes step false old new may h e none one = goes_by step old (answerer_spe
 pub watched : HoldersKnown → (c : ConversationFields LimitedFields) → HoldsOne c.terminal.speaking → (why : Option StopCause) →
     HoldsOne (stopped_for limited_behaviour why c).terminal.speaking
 watched known c one None = one
-watched known c one (Some why) = stopped_holds known c.terminal.speaking one
+watched known c one (Some (Refused why)) = stopped_holds known c.terminal.speaking one
+watched known c one (Some TooLong) = stopped_holds known c.terminal.speaking one
+watched known c one (Some NeverQuiet) = silenced_holds known c.terminal.speaking one
 
 module _ (law : HearingTakes) (known : HoldersKnown) where
   line_goes : (line : TimedLine) (kept : Bool) (old : Driven) (ready : ConversationFields LimitedFields) (stored : List PagePixels) →

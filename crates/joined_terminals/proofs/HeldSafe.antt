@@ -6,7 +6,8 @@ use Rattle.std.proofs.lemmas.Bool.{false≢true}
 use Rattle.std.specs.Prelude.{◌&&◌}
 use Rattle.conversations.proofs.Stored.{none_are_left}
 use Rattle.conversations.specs.Answering.{limited_behaviour, pages_of}
-use Rattle.conversations.specs.Conversations.{ConversationFields, LosesFrames, gives, hung_up_so, refused_so, stopped_for, stopped_so}
+use Rattle.conversations.specs.Conversations.{ConversationFields, LosesFrames, gives, hung_up_so, refused_so, silenced_so, stopped_for}
+use Rattle.conversations.specs.Conversations.{stopped_so}
 use Rattle.conversations.specs.Conversations.{with_pages_taken}
 use Rattle.conversations.specs.Led.{caller_behaviour}
 use Rattle.conversations.specs.Refusing.{stop_in}
@@ -26,12 +27,13 @@ use Rattle.stations.specs.Limiting.{LimitedFields}
 use Rattle.stations.specs.Stopping.{StoppableCallerFields}
 use Rattle.stations.specs.declared.turn.Turn.{Turn}
 use Rattle.stations.specs.declared.turn.Turn.TheVariants.{Dis as SendDis, Cfr as SendCfr, Ftt as SendFtt, Mcf, Ppr as SendPpr, Rnr as SendRnr}
-use Rattle.stations.specs.declared.turn.Turn.TheVariants.{Dcn}
+use Rattle.stations.specs.declared.turn.Turn.TheVariants.{Dcn, Silent}
 use Rattle.terminals.specs.Runs.{TerminalFields}
 use Rattle.terminals.specs.Speaking.{Speaking, is_silent}
 use Rattle.terminals.specs.Stopping.{limited_cut_off}
 use Rattle.terminals.specs.declared.sending.SentBurst.{SentBurst}
 use Rattle.conversations.specs.declared.refusing.StopCause.{StopCause}
+use Rattle.conversations.specs.declared.refusing.StopCause.TheVariants.{Refused, TooLong, NeverQuiet}
 use Rattle.line_sim.proofs.CallerKeeps.{each_drop}
 use Rattle.line_sim.proofs.Lists.{each_append}
 use Rattle.joined_terminals.specs.Answered.{answerer_lends, caller_lends}
@@ -220,14 +222,25 @@ module _ (document : Document) (first : Driven) (safe : (steps : List Step) (d :
           caller_goes (caller_refuses line) d new s h p.1.silent h.caller p.1.others (λ t r. lost_counts d.caller.terminal h.caller.terminal
           d.to_caller p.1.others p.1.silent t r (gives caller_behaviour d.caller h.refuses.shown line) p.0 p.1.comes p.1.turns) p.1.is
 
-  watched : (d : Driven) (why : Option StopCause) (t : Caller) → Represents (counted d.caller.terminal.speaking) t →
-      CountsLine d.caller.terminal.speaking (stopped_for caller_behaviour why d.caller).terminal.speaking d.to_caller d.to_caller
-  watched d None t r = same_caller d d.caller refl t r
-  watched d (Some why) t r =
+  stopped_line : (d : Driven) (t : Caller) → Represents (counted d.caller.terminal.speaking) t →
+      CountsLine d.caller.terminal.speaking (stopped_so caller_behaviour d.caller).terminal.speaking d.to_caller d.to_caller
+  stopped_line d t r =
       record {
         counts = stays_so (counted d.caller.terminal.speaking)
             (counted (stopped_so caller_behaviour d.caller).terminal.speaking) (NoMcf d.to_caller) t r
             (stopped_counts d.caller.terminal.speaking);
+        none_left = λ clean. clean;
+      }
+
+  watched : (d : Driven) (why : Option StopCause) (t : Caller) → Represents (counted d.caller.terminal.speaking) t →
+      CountsLine d.caller.terminal.speaking (stopped_for caller_behaviour why d.caller).terminal.speaking d.to_caller d.to_caller
+  watched d None t r = same_caller d d.caller refl t r
+  watched d (Some (Refused why)) t r = stopped_line d t r
+  watched d (Some TooLong) t r = stopped_line d t r
+  watched d (Some NeverQuiet) t r =
+      record {
+        counts = stays_so (counted d.caller.terminal.speaking)
+            (counted (silenced_so caller_behaviour d.caller).terminal.speaking) (NoMcf d.to_caller) t r refl;
         none_left = λ clean. clean;
       }
 
@@ -420,7 +433,10 @@ module _ (document : Document) (first : Driven) (safe : (steps : List Step) (d :
       Hears d.answerer.terminal.speaking (stopped_for limited_behaviour why d.answerer).terminal.speaking d.to_answerer d.to_answerer
       (silent_unless why (is_silent (limited_behaviour.stop_says d.answerer.terminal.speaking.station)))
   stops_for d None = same_answerer d d.answerer refl
-  stops_for d (Some why) = stops d
+  stops_for d (Some (Refused why)) = stops d
+  stops_for d (Some TooLong) = stops d
+  stops_for d (Some NeverQuiet) =
+      record { none_come = λ e. e; same_pages = λ e. refl; quiet = λ e. inr (λ f. (let is : Silent ≡ Mcf = f in cc)) }
 
   -- the answerer hangs up
   hangs_up : (d : Driven) →
@@ -510,7 +526,7 @@ module _ (document : Document) (first : Driven) (safe : (steps : List Step) (d :
     confirms (inl left) (inl e) leaving = inl (subst NoMcf (sym (shut_none sends d.answerer_clear h.burst.items e)) tt)
     confirms (inl left) (inr (inl not)) leaving = inl (no_more not)
     confirms (inl left) (inr (inr shut)) (inl none) = inr (record { shut = shut; none_left = left; none_refused = none })
-    confirms (inl left) (inr (inr shut)) (inr gone) = inl (no_more (λ e. (let is : Dcn ≡ Mcf = sym gone.0 ∙ e in cc)))
+    confirms (inl left) (inr (inr shut)) (inr gone) = inl (no_more (λ e. gone.0 e))
 
     same : h.answerer.terminal.speaking ≡ record d.answerer.terminal.speaking { taken = d.answerer.terminal.speaking.taken + 1 }
     same = (given_next AnswererSide answerer_lends d.answerer h.answerer sent d.answerer.begun h.gives).speaking

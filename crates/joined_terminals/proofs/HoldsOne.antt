@@ -230,7 +230,7 @@ module _ (known : HoldersKnown) where
           inr (said_after old (limited_cut_off Stop old.station) (limited_stop_says old.station)
           (stop_no old.station.station.ending old.station.cut) (inl not))
 
-  silenced_holds : (old : Speaking LimitedFields) → HoldsOne old → HoldsOne (silenced limited_cut_off old)
+  pub silenced_holds : (old : Speaking LimitedFields) → HoldsOne old → HoldsOne (silenced limited_cut_off old)
   silenced_holds old one =
       record { limit = one.limit; room = one.room; within = one.within; busy = one.busy; silent = inr (λ e. cc) }
 

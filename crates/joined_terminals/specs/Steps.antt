@@ -30,6 +30,7 @@ use Rattle.terminals.specs.Stations.{AnswererLends, CallerLends}
 use Rattle.terminals.specs.Stopping.{limited_cut_off}
 use Rattle.terminals.specs.declared.sending.SentBurst.{SentBurst}
 use Rattle.conversations.specs.declared.refusing.StopCause.{StopCause}
+use Rattle.conversations.specs.declared.refusing.StopCause.TheVariants.{Refused, TooLong, NeverQuiet}
 use Rattle.joined_terminals.specs.Happening.{AreLeft, FirstComes}
 use Rattle.joined_terminals.specs.Joining.{if_clear}
 use Rattle.joined_terminals.specs.Octets.{IsPiece, PieceComes, TakesSo}
@@ -114,10 +115,12 @@ pub record AnswererRefusesLine (line : TimedLine) (old new : Driven) : Type 0 wh
       (LosesFrames limited_behaviour old.answerer.terminal (gives limited_behaviour old.answerer refuses.shown line) answerer.terminal ×
       AnswererIsGiven (gives limited_behaviour old.answerer refuses.shown line) old answerer new)
 
--- whether a call that is stopped for a reason, if there is one, says nothing
+-- whether a call that is stopped for a reason, if there is one, says nothing: it doesn't if its line never fell quiet
 abbrev pub silent_unless : Option StopCause → Bool → Bool
 silent_unless None silent = true
-silent_unless (Some why) silent = silent
+silent_unless (Some (Refused why)) silent = silent
+silent_unless (Some TooLong) silent = silent
+silent_unless (Some NeverQuiet) silent = true
 
 -- ---- pages are stored
 
@@ -199,7 +202,7 @@ pub record ItemsLose (old new : Driven) : Type 0 where
 pub data Step : Type 0 where
   -- a line is written to a station and taken; or memory is refused while it is taken
   caller_line answerer_line caller_refuses answerer_refuses : TimedLine → Step
-  -- the call of a station is stopped if it is refused
+  -- the call of a station is stopped if it is refused, or has lasted as long as it may
   caller_watches answerer_watches : Step
   -- the pages of the answerer are stored, or kept by others; or one is refused
   pages_stored page_refused : Step

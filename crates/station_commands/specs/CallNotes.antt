@@ -16,7 +16,7 @@ use Rattle.faults.specs.RecordLines.{count, words}
 use Rattle.faults.specs.Explanations.{reason_words as system_words}
 use Rattle.std.specs.declared.io.ErrorKind.{ErrorKind}
 use Rattle.station_commands.specs.declared.station.folder.StoppedBy.{StoppedBy}
-use Rattle.station_commands.specs.declared.station.folder.StoppedBy.TheVariants.{Pages, Octets, Seconds, LostPage}
+use Rattle.station_commands.specs.declared.station.folder.StoppedBy.TheVariants.{Pages, Octets, Seconds, NeverQuiet, LostPage}
 use Rattle.station_commands.specs.declared.station.notes.Noted.{Noted}
 use Rattle.station_commands.specs.declared.station.trace.FrameRun.{FrameRun}
 use Rattle.raster.specs.Pages.{PagePixels}
@@ -131,14 +131,23 @@ ends_document (Some last) (Some accepted) = ends_all last.ends && same_mark last
 abbrev pub is_whole : Noted → Option Mark → Bool → Bool
 is_whole noted accepted gap = (noted.confirms && ends_document noted.pps accepted) && not gap
 
+-- the program gave the call up in silence, since its line never fell quiet
+abbrev pub is_given_up : Option StoppedBy → Bool
+is_given_up None = false
+is_given_up (Some Pages) = false
+is_given_up (Some Octets) = false
+is_given_up (Some Seconds) = false
+is_given_up (Some NeverQuiet) = true
+is_given_up (Some LostPage) = false
+
 -- The end of a call of which all was confirmed lacks its last DCN at most: the caller left, wasn't heard any more, or the line dropped.
-abbrev pub has_left : Option CallEnd → Bool
-has_left None = false
-has_left (Some Stopped) = false
-has_left (Some LineLost) = true
-has_left (Some (By Normal)) = true
-has_left (Some (By NoAnswer)) = true
-has_left (Some (By end)) = false
+abbrev pub has_left : Option CallEnd → Option StoppedBy → Bool
+has_left None by = false
+has_left (Some Stopped) by = false
+has_left (Some LineLost) by = not (is_given_up by)
+has_left (Some (By Normal)) by = true
+has_left (Some (By NoAnswer)) by = true
+has_left (Some (By end)) by = false
 
 -- ---- why
 
@@ -172,7 +181,12 @@ abbrev pub stopped_words : StoppedBy → List ℕ
 stopped_words Pages = codes "a further page is dropped, and the call stopped: --most-pages"
 stopped_words Octets = codes "a further page is dropped, and the call stopped: --most-octets"
 stopped_words Seconds = codes "the call is stopped: --most-seconds"
+stopped_words NeverQuiet = codes "the call is given up, as its line never fell quiet: --most-seconds"
 stopped_words LostPage = codes "the call is stopped: a page that was handed over is lost"
+
+-- why a call whose line is lost was given up, if it was
+abbrev pub lost_why : Option StoppedBy → Option (List ℕ)
+lost_why by = cond (is_given_up by) (Some (stopped_words NeverQuiet)) None
 
 -- why a call that was stopped is refused, or else why the program stopped it
 abbrev pub stopped_why : Option Refusal → Option StoppedBy → Option (List ℕ)
@@ -193,6 +207,7 @@ left_why false = None
 -- Why a call ended so, in words, where more is known than its end. The last page of an answerer may be unconfirmed (Bool).
 abbrev pub end_why : Option CallEnd → Bool → Option Refusal → Option StoppedBy → Option Reason → Option (List ℕ)
 end_why (Some Stopped) unconfirmed refused by missing = stopped_why refused by
+end_why (Some LineLost) unconfirmed refused by missing = lost_why by
 end_why (Some (By NotCompatible)) unconfirmed refused by missing = missing_why missing
 end_why (Some (By Normal)) unconfirmed refused by missing = left_why unconfirmed
 end_why end unconfirmed refused by missing = None

@@ -23,7 +23,7 @@ use Rattle.station_commands.specs.declared.station.folder.HeldPage.{HeldPage}
 use Rattle.station_commands.specs.declared.station.folder.NoRoom.{NoRoom}
 use Rattle.station_commands.specs.declared.station.folder.NoRoom.TheVariants.{Full, Faulty}
 use Rattle.station_commands.specs.declared.station.folder.StoppedBy.{StoppedBy}
-use Rattle.station_commands.specs.declared.station.folder.StoppedBy.TheVariants.{Pages, Octets, Seconds, LostPage}
+use Rattle.station_commands.specs.declared.station.folder.StoppedBy.TheVariants.{Pages, Octets, Seconds, NeverQuiet, LostPage}
 use Rattle.station_commands.specs.declared.station.folder.Tally.{Tally}
 use Rattle.raster.specs.Pages.{PagePixels}
 use Rattle.signals.specs.declared.params.Params.{Params}
@@ -51,6 +51,7 @@ abbrev pub is_full : Option StoppedBy → Bool
 is_full (Some Pages) = true
 is_full (Some Octets) = true
 is_full (Some Seconds) = false
+is_full (Some NeverQuiet) = false
 is_full (Some LostPage) = false
 is_full None = false
 
@@ -176,21 +177,31 @@ params_of c = let answerer = c.terminal.speaking.station.station in answerer_pee
 abbrev pub end_of : ConversationFields LimitedFields → Option CallEnd
 end_of c = call_end c.terminal.speaking.station.station.ending c.terminal.speaking.station.cut
 
--- Why a call is stopped, if it is, after a line that says this: as it was if the call has all that it may have (first Bool); since its
--- time is over (second); since a page is lost; or as it was.
-abbrev pub stopped_after : Bool → Bool → Said → Option StoppedBy → Option StoppedBy
+-- why a call whose time is over ends: it is given up since its line never fell quiet (true), or stopped
+abbrev pub late_by : Bool → StoppedBy
+late_by true = NeverQuiet
+late_by false = Seconds
+
+-- why a call ends whose time is over, if that is so (first Bool), and that is given up, if it is (second)
+abbrev pub late_stop : Bool → Bool → Option StoppedBy
+late_stop true given_up = Some (late_by given_up)
+late_stop false given_up = None
+
+-- Why a call is stopped, if it is, after a line that says this: as it was if the call has all that it may have (Bool); since its time is
+-- over, if it is; since a page is lost; or as it was.
+abbrev pub stopped_after : Bool → Option StoppedBy → Said → Option StoppedBy → Option StoppedBy
 stopped_after true late said before = before
-stopped_after false true said before = Some Seconds
-stopped_after false false (Told Lost file) before = Some LostPage
-stopped_after false false (Told Kept file) before = before
-stopped_after false false Quiet before = before
-stopped_after false false Busy before = before
-stopped_after false false (Received channel kind bits octets) before = before
-stopped_after false false NotReady before = before
-stopped_after false false Ready before = before
-stopped_after false false Missed before = before
-stopped_after false false Stop before = before
-stopped_after false false End before = before
+stopped_after false (Some by) said before = Some by
+stopped_after false None (Told Lost file) before = Some LostPage
+stopped_after false None (Told Kept file) before = before
+stopped_after false None Quiet before = before
+stopped_after false None Busy before = before
+stopped_after false None (Received channel kind bits octets) before = before
+stopped_after false None NotReady before = before
+stopped_after false None Ready before = before
+stopped_after false None Missed before = before
+stopped_after false None Stop before = before
+stopped_after false None End before = before
 
 -- What a folder keeps after a line: the pages of the answerer are kept, or one is refused, after which it hangs up. If that one is refused
 -- since the call has all that it may have, all is well; and if none is refused, it notes that the call has lasted as long as it may.
@@ -204,5 +215,7 @@ pub record KeepsLine (said : Said) (old : Folder) (c : ConversationFields Limite
   pub keeps : KeepsPages first.holds said c mid first last all
   pub kept_is : kept ≡ (is_full last.stopped || all)
   pub stops :
-      new ≡ record last { stopped = stopped_after (is_full last.stopped) (all && mid.watch.late) said last.stopped }
+      new ≡ record last {
+        stopped = stopped_after (is_full last.stopped) (late_stop (all && mid.watch.late) mid.watch.given_up) said last.stopped;
+      }
   pub same : after ≡ mid

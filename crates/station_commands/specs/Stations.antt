@@ -14,9 +14,10 @@ use Rattle.raster.specs.Faults.{number_of}
 use Rattle.raster.specs.Pages.{PagePixels}
 use Rattle.raster.specs.Pbm.{AreImages, read_images}
 use Rattle.raster.specs.declared.fault.RasterFault.{RasterFault}
-use Rattle.station_commands.specs.CallNotes.{has_left}
+use Rattle.station_commands.specs.CallNotes.{has_left, is_given_up}
 use Rattle.station_commands.specs.declared.station.Halted.{Halted}
 use Rattle.station_commands.specs.declared.station.Halted.TheVariants as halted
+use Rattle.station_commands.specs.declared.station.folder.StoppedBy.{StoppedBy}
 use Rattle.station_commands.specs.declared.station.given.GivenWaits.{GivenWaits}
 use Rattle.station_commands.specs.declared.station.no_line.NoLine.{NoLine}
 use Rattle.stations.specs.CallerFields.{AreCallable}
@@ -43,12 +44,17 @@ ends_normal end = false
 abbrev pub table_word : End → Bool → List ℕ
 table_word end unconfirmed = cond (ends_normal end && unconfirmed) (end_text (Some PeerLeft)) (end_text (Some end))
 
+-- the word of why the line of a call is gone: the program gave it up since it never fell quiet (true), or it is lost
+abbrev pub lost_word : Bool → List ℕ
+lost_word true = codes "never-quiet"
+lost_word false = codes "line-lost"
+
 -- the word of why the call of a station ended, or that it goes on
-abbrev pub end_word : Option CallEnd → Bool → Option Refusal → List ℕ
-end_word (Some (By end)) unconfirmed refused = table_word end unconfirmed
-end_word (Some Stopped) unconfirmed refused = stopped_word refused
-end_word (Some LineLost) unconfirmed refused = codes "line-lost"
-end_word None unconfirmed refused = end_text None
+abbrev pub end_word : Option CallEnd → Bool → Option Refusal → Option StoppedBy → List ℕ
+end_word (Some (By end)) unconfirmed refused by = table_word end unconfirmed
+end_word (Some Stopped) unconfirmed refused by = stopped_word refused
+end_word (Some LineLost) unconfirmed refused by = lost_word (is_given_up by)
+end_word None unconfirmed refused by = end_text None
 
 -- seconds in milliseconds, if they are given
 abbrev pub millis_of : Option ℕ → Option ℕ
@@ -91,10 +97,10 @@ HaltsBy (Writer kind) why = why ≡ halted.Fault (fault_of_io kind)
 HaltsBy TooManyLines why = why ≡ halted.Fault (No 8)
 
 -- What a station's command gives: a fault that stopped its lines; or all was done if the call is whole and lacks its last DCN at most.
-abbrev pub ended_of : Option Halted → Option CallEnd → Bool → Result Completeness ToolFault
-ended_of (Some (halted.Fault fault)) end whole = Err fault
-ended_of (Some (halted.Line number reason)) end whole = Ok Lacking
-ended_of None end whole = Ok (completeness_of (whole && has_left end))
+abbrev pub ended_of : Option Halted → Option CallEnd → Option StoppedBy → Bool → Result Completeness ToolFault
+ended_of (Some (halted.Fault fault)) end by whole = Err fault
+ended_of (Some (halted.Line number reason)) end by whole = Ok Lacking
+ended_of None end by whole = Ok (completeness_of (whole && has_left end by))
 
 -- why images have no pages from this number on: the first fault of the images, or there are fewer pages (28)
 abbrev pub HasNoPagesFrom : Bool → ℕ → List ℕ → ToolFault → Type 0

@@ -6,7 +6,7 @@ use Rattle.std.specs.Prelude.{ℕ, zero, suc, ◌≡◌, ◌⊎◌, ◌-◌, ◌
 use Rattle.std.specs.Prelude.{◌||◌, nat_eq, not, option_map, string_bytes, unwrap_or}
 use Rattle.calls.specs.declared.options.CallOptions.{CallOptions}
 use Rattle.station_commands.specs.CallNotes.{IsMissing, is_whole}
-use Rattle.station_commands.specs.Folders.{KeepsLine, end_of, held_name, limits_of}
+use Rattle.station_commands.specs.Folders.{KeepsLine, end_of, held_name, late_stop, limits_of}
 use Rattle.station_commands.specs.Stations.{HaltsBy, IsFailure, IsNoDocument, SendsFrom, as_outside, ended_of, given_wait, millis_of, page_limit}
 use Rattle.command_files.specs.declared.command.Completeness.{Completeness}
 use Rattle.station_commands.specs.declared.station.AnswerCommand.{AnswerCommand}
@@ -16,8 +16,6 @@ use Rattle.station_commands.specs.declared.station.Halted.{Halted}
 use Rattle.station_commands.specs.declared.station.Halted.TheVariants.{Fault}
 use Rattle.station_commands.specs.declared.station.Talked.{Talked}
 use Rattle.station_commands.specs.declared.station.folder.Folder.{Folder}
-use Rattle.station_commands.specs.declared.station.folder.StoppedBy.{StoppedBy}
-use Rattle.station_commands.specs.declared.station.folder.StoppedBy.TheVariants.{Seconds}
 use Rattle.station_commands.specs.declared.station.given.GivenWaits.{GivenWaits}
 use Rattle.station_commands.specs.Following.{IsNewFollower, NotesFields, station_follower}
 use Rattle.conversations.specs.Answering.{limited_behaviour}
@@ -198,7 +196,7 @@ pub record AnswerTalks (command : AnswerCommand) (talked : Talked) : Type 0 wher
 -- a file or memory failed; or the lines were taken, and all was done if the call is whole and lacks its last DCN at most
 abbrev pub AnswerGives : AnswerCommand → Result Completeness ToolFault → Type 0
 AnswerGives command (Ok completeness) = (talked : Talked) × AnswerTalks command talked
-    × (Ok completeness ≡ ended_of talked.halted talked.end talked.whole)
+    × (Ok completeness ≡ ended_of talked.halted talked.end talked.stopped talked.whole)
 AnswerGives command (Err fault) = IsOutside fault
 
 -- ---- a caller
@@ -215,17 +213,12 @@ pub record NewDialling (command : DialCommand) (document : List PagePixels) (c :
   pub turn : c.terminal.speaking.turn ≡ Silent
   pub watch : c.watch ≡ record no_watch { limit = limit_of (millis_of command.waits.seconds) }
 
--- why a call was stopped, if it was late
-abbrev pub late_stop : Bool → Option StoppedBy
-late_stop true = Some Seconds
-late_stop false = None
-
 -- after a line a caller keeps nothing: it tells which pages are confirmed, and notes that the call has lasted as long as it may
 abbrev pub TellsConfirmed :
     Confirmed → ConversationFields StoppableCallerFields → Confirmed → ConversationFields StoppableCallerFields → Bool → Type 0
 TellsConfirmed old c new after kept = (after ≡ c) × (kept ≡ true)
     × ((t : Caller) → Represents c.terminal.speaking.station.station t
-    → new ≡ record old { told = confirmed t; late = old.late || c.watch.late })
+    → new ≡ record old { told = confirmed t; late = old.late || c.watch.late; given_up = old.given_up || c.watch.given_up })
 
 -- a caller and what it tells as they talk
 abbrev pub confirmed_talker : Talker StoppableCallerFields Confirmed
@@ -243,6 +236,7 @@ pub record DialTalks (command : DialCommand) (talked : Talked) : Type 0 where
   pub none : Confirmed
   pub none_told : none.told ≡ 0
   pub none_late : none.late ≡ false
+  pub none_given_up : none.given_up ≡ false
   pub last : ConversationFields StoppableCallerFields
   pub kept : Confirmed
   pub ended : Result (Unit {0}) Halted
@@ -250,7 +244,7 @@ pub record DialTalks (command : DialCommand) (talked : Talked) : Type 0 where
   pub halted : talked.halted ≡ halt_of ended
   pub end : (t : Caller) → Represents last.terminal.speaking.station.station t
       → talked.end ≡ call_end t.ending last.terminal.speaking.station.cut
-  pub stopped : talked.stopped ≡ late_stop kept.late
+  pub stopped : talked.stopped ≡ late_stop kept.late kept.given_up
   pub answers : talked.unconfirmed ≡ false
   pub follower : NotesFields
   pub is_new : IsNewFollower command.waits.late follower
@@ -265,5 +259,5 @@ pub record DialTalks (command : DialCommand) (talked : Talked) : Type 0 where
 -- lacks its last DCN at most
 abbrev pub DialGives : DialCommand → Result Completeness ToolFault → Type 0
 DialGives command (Ok completeness) = (talked : Talked) × DialTalks command talked
-    × (Ok completeness ≡ ended_of talked.halted talked.end talked.whole)
+    × (Ok completeness ≡ ended_of talked.halted talked.end talked.stopped talked.whole)
 DialGives command (Err fault) = IsNoDocument command.options.fine command.from fault

@@ -13,7 +13,7 @@ pub(crate) mod trace;
 
 ghost use Rattle.faults.specs.Faults.{IsOutside};
 ghost use Rattle.station_commands.specs.Stations.{HaltsBy, IsHalt, IsNoDocument, SendsFrom, as_outside, end_word, ends_normal, given_wait, page_limit};
-ghost use Rattle.station_commands.specs.Stations.{millis_of, stopped_word, table_word};
+ghost use Rattle.station_commands.specs.Stations.{lost_word, millis_of, stopped_word, table_word};
 ghost use Rattle.station_commands.specs.Talks.{AnswerTalks, DialTalks, NewAnswering, NewDialling, TalksSo, halt_of, says_of};
 ghost use Rattle.station_commands.specs.Talks.{wish_of};
 ghost use Rattle.station_commands.specs.Following.{NotesFields};
@@ -28,7 +28,7 @@ ghost use Rattle.terminals.specs.Clocks.{duration};
 ghost use Rattle.terminals.specs.Timing.{wait_millis};
 
 use crate::station::confirmations::Confirmed;
-use crate::station::ending::end_station;
+use crate::station::ending::{end_station, is_given_up};
 use crate::station::folder::{CallLimits, Folder, StoppedBy};
 use crate::station::given::{GivenLimits, GivenWaits};
 use crate::station::lateness::Lateness;
@@ -140,20 +140,29 @@ fn table_word(end: End, unconfirmed: bool) -> &'static str
     end_word(Some(end))
 }
 
-/// The word of why a call ended, or that it goes on; a call that was stopped may be refused for a reason.
+/// The word of why a call ended, or that it goes on; a call that was stopped may be refused for a reason, and the program may have given up
+/// one whose line is lost.
 pub(crate) fn word_of(
     end: Option<CallEnd>,
     unconfirmed: bool,
     refused: Option<Refusal>,
+    by: Option<StoppedBy>,
 ) -> &'static str
-    ensures { result.now ≡ end_word end unconfirmed refused }
+    ensures { result.now ≡ end_word end unconfirmed refused by }
 {
     match end {
         Some(CallEnd::By(end)) => table_word(end, unconfirmed),
         Some(CallEnd::Stopped) => stopped_word(refused),
-        Some(CallEnd::LineLost) => "line-lost",
+        Some(CallEnd::LineLost) => lost_word(is_given_up(by)),
         None => end_word(None),
     }
+}
+
+/// The word of why the line of a call is gone.
+fn lost_word(given_up: bool) -> &'static str
+    ensures { result.now ≡ lost_word given_up }
+{
+    if given_up { "never-quiet" } else { "line-lost" }
 }
 
 /// The word of why a call was stopped.
@@ -422,7 +431,7 @@ impl AnswerCommand {
         if let Some(kind) = folder.failed() {
             context.blame(Part::Output, kind);
         }
-        let progress = conversation.terminal().station().station().progress();
+        let progress = conversation.answerer().progress();
         let noted = notes.noted();
         Ok(Talked {
             end: conversation.end(),
@@ -576,7 +585,7 @@ impl DialCommand {
         );
         let mut confirmed = Confirmed::new(streams, records);
         let halted = talk_out(context, &mut conversation, &mut confirmed, &mut notes)?;
-        let progress = conversation.terminal().station().station().progress();
+        let progress = conversation.caller().progress();
         let noted = notes.noted();
         Ok(Talked {
             end: conversation.end(),

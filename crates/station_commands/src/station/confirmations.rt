@@ -1,9 +1,9 @@
 //! What a caller's program tells as its call goes on.
 
-ghost use Rattle.station_commands.specs.Talks.{late_stop};
+ghost use Rattle.station_commands.specs.Folders.{late_stop};
 ghost use Rattle.std.specs.Prelude.{◌≡◌, ◌||◌, false};
 
-use crate::station::folder::StoppedBy;
+use crate::station::folder::{StoppedBy, late_by};
 use crate::station::records::{write_confirmed, write_confirmed_words};
 use command_files::error_line::ErrorLine;
 use command_files::notices::notice_as;
@@ -19,6 +19,7 @@ pub(crate) struct Confirmed<'a> {
     records: bool,
     told: u64,
     late: bool,
+    given_up: bool,
 }
 
 impl<'a> Confirmed<'a> {
@@ -26,12 +27,14 @@ impl<'a> Confirmed<'a> {
     pub(crate) fn new(streams: &'a Streams<'a>, records: bool) -> Confirmed<'a>
         ensures told { result.told ≡ 0 }
         ensures late { result.late ≡ false }
+        ensures given_up { result.given_up ≡ false }
     {
         Confirmed {
             streams,
             records,
             told: 0,
             late: false,
+            given_up: false,
         }
     }
 }
@@ -39,10 +42,10 @@ impl<'a> Confirmed<'a> {
 impl Confirmed<'_> {
     /// Why the call was stopped, if it was.
     pub(crate) fn stopped(&self) -> Option<StoppedBy>
-        ensures { result ≡ late_stop self.now.late }
+        ensures { result ≡ late_stop self.now.late self.now.given_up }
     {
         if self.late {
-            return Some(StoppedBy::Seconds);
+            return Some(late_by(self.given_up));
         }
         None
     }
@@ -65,15 +68,15 @@ impl Confirmed<'_> {
         line.end(made);
     }
 
-    /// Tells that the call is stopped, if it is late.
-    fn tell_late(&self, late: bool) {
+    /// Tells that the call is stopped, if it is late, or that it is given up.
+    fn tell_late(&self, late: bool, given_up: bool) {
         if late {
-            let _told = notice_as(self.streams, self.records, StoppedBy::Seconds.words());
+            let _told = notice_as(self.streams, self.records, late_by(given_up).words());
         }
     }
 }
 
-/// Returns true if a call is late, or was.
+/// Returns true if a call is so, or was.
 fn either(was: bool, is: bool) -> bool
     ensures { result ≡ (was || is) }
 {
@@ -106,11 +109,13 @@ impl Keeper<StoppableCaller> for Confirmed<'_> {
         conversation: &mut Conversation<StoppableCaller>,
         _said: &Said,
     ) -> Option<ToolFault> {
-        let confirmed = conversation.terminal().station().station().confirmed();
+        let confirmed = conversation.caller().confirmed();
         self.tell(conversation.clock().now, confirmed);
         self.told = confirmed;
-        self.tell_late(conversation.is_late());
-        self.late = either(self.late, conversation.is_late());
+        let (late, given_up) = (conversation.is_late(), conversation.is_given_up());
+        self.tell_late(late, given_up);
+        self.late = either(self.late, late);
+        self.given_up = either(self.given_up, given_up);
         None
     }
 }

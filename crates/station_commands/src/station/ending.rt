@@ -2,7 +2,8 @@
 
 ghost use Rattle.faults.specs.Faults.{IsOutside};
 ghost use Rattle.captures.specs.OtherWords.{other_name};
-ghost use Rattle.station_commands.specs.CallNotes.{end_why, has_left, left_why, missing_why, reason_words, refusal_words, stopped_why, why_words};
+ghost use Rattle.station_commands.specs.CallNotes.{end_why, has_left, is_given_up, left_why, lost_why, missing_why};
+ghost use Rattle.station_commands.specs.CallNotes.{reason_words, refusal_words, stopped_why, why_words};
 ghost use Rattle.station_commands.specs.EndRecords.{asking_name, is_beside_dcs, is_beside_dis, left_out, left_out_words, named, unanswered_words};
 ghost use Rattle.station_commands.specs.Stations.{IsHalt, ended_of};
 ghost use Rattle.std.specs.Prelude.{◌≡◌, IfErr, IfSome, Some, option_map, string_bytes};
@@ -32,7 +33,8 @@ pub(crate) fn end_station(
     calls: bool,
 ) -> Result<Completeness, ToolFault>
     requires { IfSome talked.now.halted IsHalt }
-    ensures ended { result ≡ ended_of talked.now.halted talked.now.end talked.now.whole }
+    ensures ended { result
+        ≡ ended_of talked.now.halted talked.now.end talked.now.stopped talked.now.whole }
     ensures fault { IfErr result IsOutside }
 {
     record_state(context, talked, calls);
@@ -45,15 +47,26 @@ pub(crate) fn end_station(
         None => {}
     }
     show_end(context, talked, calls);
-    Ok(Completeness::of(talked.whole && has_left(talked.end)))
+    Ok(Completeness::of(talked.whole && has_left(talked.end, talked.stopped)))
+}
+
+/// Returns true if the program gave the call up in silence.
+pub(crate) fn is_given_up(by: Option<StoppedBy>) -> bool
+    ensures { result ≡ is_given_up by }
+{
+    match by {
+        Some(StoppedBy::NeverQuiet) => true,
+        _ => false,
+    }
 }
 
 /// Whether the end of a call of which all was confirmed lacks its last DCN at most.
-fn has_left(end: Option<CallEnd>) -> bool
-    ensures { result ≡ has_left end }
+fn has_left(end: Option<CallEnd>, by: Option<StoppedBy>) -> bool
+    ensures { result ≡ has_left end by }
 {
     match end {
-        Some(CallEnd::LineLost | CallEnd::By(End::Normal | End::NoAnswer)) => true,
+        Some(CallEnd::LineLost) => !is_given_up(by),
+        Some(CallEnd::By(End::Normal | End::NoAnswer)) => true,
         _ => false,
     }
 }
@@ -92,6 +105,16 @@ fn stopped_why(refused: Option<Refusal>, by: Option<StoppedBy>) -> Option<&'stat
         (None, Some(by)) => Some(by.words()),
         (None, None) => None,
     }
+}
+
+/// Why a call whose line is lost was given up, if it was.
+fn lost_why(by: Option<StoppedBy>) -> Option<&'static str>
+    ensures { option_map (λ why. why.now) result ≡ lost_why by }
+{
+    if is_given_up(by) {
+        return Some(StoppedBy::NeverQuiet.words());
+    }
+    None
 }
 
 /// What is missing, of stations that aren't compatible.
@@ -133,6 +156,7 @@ fn end_why(talked: &Talked) -> Option<&'static str>
 {
     match talked.end {
         Some(CallEnd::Stopped) => stopped_why(talked.refused, talked.stopped),
+        Some(CallEnd::LineLost) => lost_why(talked.stopped),
         Some(CallEnd::By(End::NotCompatible)) => missing_why(talked.missing),
         Some(CallEnd::By(End::Normal)) => left_why(talked.unconfirmed),
         _ => None,
@@ -256,7 +280,12 @@ fn show_end(context: &Context<'_>, talked: &Talked, calls: bool) {
     let left_out = left_out_words(context.alloc(), talked);
     let ended = Ended {
         calls,
-        end: station::word_of(talked.end, talked.unconfirmed, talked.refused),
+        end: station::word_of(
+            talked.end,
+            talked.unconfirmed,
+            talked.refused,
+            talked.stopped,
+        ),
         pages: talked.pages,
         seconds: talked.seconds,
         figures: talked.figures,

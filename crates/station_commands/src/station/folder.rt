@@ -2,7 +2,7 @@
 
 ghost use Rattle.station_commands.specs.CallNotes.{stopped_words};
 ghost use Rattle.station_commands.specs.Folders.{HasRoom, IsNoRoom, KeepsPages, fault_of, gap_told, is_full, limit_met, limits_of, most_of};
-ghost use Rattle.station_commands.specs.Folders.{stopped_after, stopped_for};
+ghost use Rattle.station_commands.specs.Folders.{late_by, stopped_after, stopped_for};
 ghost use Rattle.std.specs.Prelude.{◌≡◌, IfErr, IfOk, None, Some, false, is_none};
 
 use crate::station::given::GivenLimits;
@@ -63,6 +63,8 @@ pub(crate) enum StoppedBy {
     Octets,
     /// The time of `--most-seconds` was over.
     Seconds,
+    /// That time was over, and ten seconds more, and the line never fell quiet.
+    NeverQuiet,
     /// A page that was handed over is lost.
     LostPage,
 }
@@ -76,9 +78,21 @@ impl StoppedBy {
             StoppedBy::Pages => "a further page is dropped, and the call stopped: --most-pages",
             StoppedBy::Octets => "a further page is dropped, and the call stopped: --most-octets",
             StoppedBy::Seconds => "the call is stopped: --most-seconds",
+            StoppedBy::NeverQuiet =>
+                "the call is given up, as its line never fell quiet: --most-seconds",
             StoppedBy::LostPage => "the call is stopped: a page that was handed over is lost",
         }
     }
+}
+
+/// Why a call whose time is over ends: it is given up, or stopped.
+pub(crate) fn late_by(given_up: bool) -> StoppedBy
+    ensures { result ≡ late_by given_up }
+{
+    if given_up {
+        return StoppedBy::NeverQuiet;
+    }
+    StoppedBy::Seconds
 }
 
 /// Why there is no room for a page.
@@ -387,7 +401,7 @@ impl<'a> Folder<'a> {
 
     /// Notes and tells that a page is lost, if a line says so.
     fn note_lost(&mut self, said: &Said)
-        ensures { self.new ≡ record self.old { stopped = stopped_after false false said.now self.old.stopped } }
+        ensures { self.new ≡ record self.old { stopped = stopped_after false None said.now self.old.stopped } }
     {
         match said {
             Said::Told {
@@ -481,7 +495,7 @@ impl Keeper<LimitedAnswerer> for Folder<'_> {
         said: &Said,
     ) -> Option<ToolFault> {
         self.at = conversation.clock().now;
-        self.params = conversation.terminal().station().station().peer();
+        self.params = conversation.answerer().peer();
         self.told.clear();
         self.tell_gap(conversation.gap());
         let refused = self.keep_by(conversation, said);
@@ -490,7 +504,8 @@ impl Keeper<LimitedAnswerer> for Folder<'_> {
             return None;
         }
         if refused.is_none() && conversation.is_late() {
-            self.stop_for(StoppedBy::Seconds);
+            let by = late_by(conversation.is_given_up());
+            self.stop_for(by);
             return None;
         }
         self.note_lost(said);

@@ -23,12 +23,13 @@ returns-clause-takes g c =
     c.args.line.now c.give.new.terminal c.clock_at-clock.result c.heard.result c.asked-now.result c.has_begun-self-inside.result
     c.in_ok-brought.brought (plain_given c.line_gives-given.result) c.shown-shown.result c.shown-later.result c.side-side.result
     c.give.new.watched c.timeout-done.result c.is_late-self-inside.result
+    c.is_given_up-self-inside.result
     (subst (λ v. IsInTime v c.args.line.now) (sym c.self.view_is) (c.is_out_of_time.ensures.no c.if-is_out_of_time.false))
     c.shown-shown.ensures c.side-side.ensures c.clock_at-clock.ensures c.line_gives-given.ensures c.in_ok-brought.ensures.ok
     c.shown-later.ensures c.heard.ensures c.asked-now.ensures c.has_begun-self-inside.ensures
     (subst (λ (w : Option Watched). SeesGiven c.self.inside.terminal.framing (plain_given c.line_gives-given.result) w c.give.new.watched)
     c.note.ensures c.in_ok-brought.ensures.sees)
-    (rw (← c.state_of-state.ensures) c.timeout-done.ensures) c.is_late-self-inside.ensures)
+    (rw (← c.state_of-state.ensures) c.timeout-done.ensures) c.is_late-self-inside.ensures c.is_given_up-self-inside.ensures)
 
 pub returns-clause-sees : goal.returns-clause-sees
 returns-clause-sees g c =

@@ -13,6 +13,7 @@ returns-clause-talks c document sends new =
       none = c.new-confirmed.result;
       none_told = search rules;
       none_late = search rules;
+      none_given_up = search rules;
       last = c.talk_out.new.conversation;
       kept = c.talk_out.new.keeper;
       ended = talks.0;

@@ -1,7 +1,7 @@
 -- What the check asks of `keep`.
 use Rattle.std.proofs.Common.{rules, true, false, ◌≡◌, ◌∙◌, refl, subst, sym}
 use Rattle.std.specs.Prelude.{◌&&◌, is_none}
-use Rattle.station_commands.specs.Folders.{BeginsLine, is_full, params_of}
+use Rattle.station_commands.specs.Folders.{BeginsLine, is_full, late_by, params_of}
 use Rattle.conversations.specs.Refusing.{gap_in}
 use Rattle.station_commands.specs.declared.station.folder.Folder.{Folder}
 use Rattle.station_commands.proofs.station.folder.FolderKeeperLimitedAnswerer.keep.Goals as goal
@@ -36,6 +36,7 @@ returns-then-is_late c =
     let room : is_full last.stopped ≡ false = sym c.is_full.ensures ∙ c.if-is_full.false in
     let kept : is_none c.keep_by-refused.result ≡ true = search rules in
     let late : mid.watch.late ≡ true = search rules in
+    let by : c.late_by-by.result ≡ late_by mid.watch.given_up = search rules in
     record {
       first = c.tell_gap.new.self;
       begins = subst (λ (f : Folder). BeginsLine c.args.conversation.now.clock.now (params_of c.args.conversation.now)
@@ -45,7 +46,7 @@ returns-then-is_late c =
       all = is_none c.keep_by-refused.result;
       keeps = c.keep_by-refused.ensures;
       kept_is = rw (room, kept) refl;
-      stops = rw (room, kept, late) c.stop_for.ensures;
+      stops = rw (room, kept, late, ← by) c.stop_for.ensures;
       same = refl;
     }
 
