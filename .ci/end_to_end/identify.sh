@@ -91,6 +91,39 @@ try_own_widths() {
         "$(bits "$line 0000000 $line")"
 }
 
+# A bit turned in the first row of a page of netpbm hides its width, which is 1728; its other 27 rows are as they were. `identify` names the
+# width, and `decode --each --repair` gives all rows: a white one, and then the other ones.
+try_damaged_first_row() {
+    works decode --code mh --width 1728 "$data/wide.mh.msb" "$work/right.pbm"
+    for bit in 13 17 24 29 33 40; do
+        try_turned_bit msb "most" $bit
+        try_turned_bit lsb "least" $bit
+    done
+}
+
+# try_turned_bit ORDER WORD BIT: this bit of the page in this order of bits is turned.
+try_turned_bit() {
+    rm -rf "$work/turned" "$work/damaged"
+    mkdir "$work/turned" "$work/damaged"
+    python3 -B - "$data/wide.mh.$1" "$work/turned/page" "$1" "$3" <<'TURNED'
+import sys
+octets, order, bit = bytearray(open(sys.argv[1], "rb").read()), sys.argv[3], int(sys.argv[4])
+octets[bit // 8] ^= 1 << (7 - bit % 8 if order == "msb" else bit % 8)
+open(sys.argv[2], "wb").write(octets)
+TURNED
+    gives 1 decode --code mh --order "$1" --width 1728 "$work/turned/page" "$work/none.pbm"
+    is_none "T.4, $2 significant bit first, width 1728: $(cat "$work/error") after 0 rows\n" "$work/turned/page"
+    (cd "$work/turned" && gives 0 decode --each "$work/damaged" --repair page) || exit 1
+    head -n 1 "$work/output" > "$work/said"
+    printf 'page: repaired 1 rows of page 1\n' > "$work/wanted"
+    is_same "$work/said" "$work/wanted" "decode --each of a damaged first row"
+    cp "$work/damaged/page-0001.pbm" "$work/image"
+    tail -c $((27 * 216)) "$work/image" > "$work/rows"
+    tail -c $((27 * 216)) "$work/right.pbm" > "$work/wanted"
+    is_same "$work/rows" "$work/wanted" "the rows after a damaged first one"
+    [ "$(wc -c < "$work/image")" = "$(wc -c < "$work/right.pbm")" ] || fails "a page with a damaged first row has other rows"
+}
+
 # T.4 of more than 1 MiB without an EOL before its first row says no width, and is read to its end all the same. Each row has 432 runs of 4.
 try_much_without_eol() {
     python3 -B - "$work/much.mh" <<'MUCH'
@@ -132,6 +165,7 @@ FORMATS
     identifies "plain PBM, by its first octets\n$(in_widths "T.6, least significant bit first, width %s, 3 rows")" "$code"
     try_identified_pages
     try_own_widths
+    try_damaged_first_row
     try_much_without_eol
     : > "$work/empty"
     explains "fault 7" "$work/empty: there is no image: it has no octet" identify "$work/empty"

@@ -1,5 +1,5 @@
 -- Octets that read to no page's end, but begin with rows.
-use Rattle.std.specs.Prelude.{ℕ, ◌≡◌, Bool, List, Option, None, nat_lt}
+use Rattle.std.specs.Prelude.{ℕ, ◌≡◌, Bool, true, List, Option, None, nat_lt}
 use Rattle.page_code.specs.declared.Coding.{Coding}
 use Rattle.page_code.specs.declared.Coding.TheVariants.{OneDim, T6}
 use Rattle.page_files.specs.TwoDims.{SaysTwoDims}
@@ -12,10 +12,10 @@ use Rattle.page_files.specs.declared.two_dim.TwoDim.{TwoDim}
 abbrev pub chance_rows : ℕ
 chance_rows = 15
 
--- Octets that begin with so many rows in this code are a damaged page. Those that begin so in T.4 are known by these rows (`HasBegun`); rows
--- of T.6 must be more than come by chance.
+-- Octets that begin with so many rows in this code are a damaged page. Those of T.4 are known by the width on which lines agree (`IsAgreed`), or
+-- by these rows (`HasBegun`); rows of T.6 must be more than come by chance.
 abbrev pub is_page_in : Coding → ℕ → Bool
-is_page_in OneDim rows = nat_lt 0 rows
+is_page_in OneDim rows = true
 is_page_in T6 rows = nat_lt chance_rows rows
 
 -- octets that begin with rows in this way are a damaged page

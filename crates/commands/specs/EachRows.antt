@@ -118,9 +118,9 @@ pub record EndsByPage : Type 0 where
   pub after_lost : may_go_on true (page.Lost (fault.AtBit 18 3)) ≡ true
   pub after_unwritten : may_go_on true (page.NotWritten (fault.No 8)) ≡ false
 
--- law: how many rows make octets a damaged page, which is decoded: one of T.4; of T.6, which come by chance, 16
+-- law: how many rows make octets a damaged page, which is decoded: of T.4, which is known by its lines, none; of T.6, which come by chance, 16
 pub record RowsAreEnough : Type 0 where
-  pub none : is_page_in OneDim 0 ≡ false
+  pub none : is_page_in OneDim 0 ≡ true
   pub one : is_page_in OneDim 1 ≡ true
   pub by_chance : is_page_in T6 15 ≡ false
   pub beyond : is_page_in T6 16 ≡ true

@@ -9,13 +9,13 @@ use page_files::{Found, Tried, TwoDim, two_dim_of};
 /// How many rows of T.6 octets have at most that are no page of it: a few, by chance.
 pub(crate) const CHANCE_ROWS: u32 = 15;
 
-/// Returns whether octets that begin with rows in this way are a damaged page. Those that begin so in T.4 are known by these rows; rows of T.6
+/// Returns whether octets that read so far in this way are a damaged page. Those of T.4 are known by their lines or by these rows; rows of T.6
 /// must be more than come by chance.
 pub(crate) fn is_damaged_page(way: &Tried) -> bool
     ensures { result ≡ is_damaged_page way.now }
 {
     match way.form.coding {
-        Coding::OneDim => way.rows > 0,
+        Coding::OneDim => true,
         Coding::T6 => way.rows > CHANCE_ROWS as usize,
     }
 }

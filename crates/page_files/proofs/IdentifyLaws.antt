@@ -1,8 +1,8 @@
 -- What `decode --each` does beside what `identify` says.
-use Rattle.std.proofs.Common.{ℕ, ◌≡◌, ◌∙◌, Bool, true, false, List, [], ◌∷◌, ◌++◌, Some, None, ap, append_assoc, inr, refl, subst, sym}
+use Rattle.std.proofs.Common.{ℕ, ◌≡◌, ◌∙◌, Bool, true, false, List, [], ◌∷◌, ◌++◌, Some, None, ap, append_assoc, inr, refl, subst}
 use Rattle.std.specs.Prelude.{Option, cond, find}
-use Rattle.page_files.specs.Found.{best_of, found_by, or_way}
-use Rattle.page_files.specs.Identified.{fits_one, format_line, identity_of, lines_of, tried_line}
+use Rattle.page_files.specs.Found.{IsAgreedBy, best_of, found_by, or_way}
+use Rattle.page_files.specs.Identified.{fits_one, format_line, identity_of, lines_of, tried_line, tried_widths}
 use Rattle.page_files.specs.IdentifyLaws.{FindsWhatIsSaid, FirstLineIsBest}
 use Rattle.page_files.specs.declared.identify.Fit.{Fit}
 use Rattle.page_files.specs.declared.identify.Fit.TheVariants.{Whole, NoEofb, Early, Mended}
@@ -77,7 +77,7 @@ first_line_is_best octets tried one no_format best =
     )
 
 pub finds_what_is_said : FindsWhatIsSaid
-finds_what_is_said octets before after identity said two furthest no_format are_two is = inr (
+finds_what_is_said octets before after identity said two agreed damaged no_format are_two is_agreed is = inr (
   no_format,
   record {
     tried = said.tried;
@@ -85,9 +85,13 @@ finds_what_is_said octets before after identity said two furthest no_format are_
     are_tried = said.are_tried;
     two = two;
     are_two = are_two;
-    furthest = furthest;
-    is_furthest = is;
-    found_is = ap (λ (i : Identity). found_by i (best_of octets said.tried) furthest)
-        (said.identity_is ∙ ap (λ (name : Option (List ℕ)). identity_of name octets said.tried) no_format);
+    agreed = agreed;
+    is_agreed = subst (λ (i : Identity). IsAgreedBy i tried_widths octets agreed) same is_agreed;
+    damaged = damaged;
+    is_damaged = is;
+    found_is = ap (λ (i : Identity). found_by i (best_of octets said.tried) damaged) same;
   },
 )
+  where
+    same : identity ≡ identity_of None octets said.tried
+    same = said.identity_is ∙ ap (λ (name : Option (List ℕ)). identity_of name octets said.tried) no_format

@@ -22,4 +22,5 @@ mod RepairsT6
 mod Identifying
 mod IdentifyLaws
 mod OwnWidths
+mod AgreedWidths
 mod RowsAlone

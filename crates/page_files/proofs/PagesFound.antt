@@ -8,11 +8,11 @@ use Rattle.page_files.specs.declared.identify.Identity.TheVariants.{Known, Sever
 use Rattle.page_files.specs.declared.identify.Tried.{Tried}
 
 -- that of the best way
-pub found_reads : (octets : List ℕ) (identity : Identity) (best furthest : Option Tried) → IfSome best (IsTried octets)
-    → ReadsSo octets (found_by identity best furthest)
-found_reads octets Known (Some one) furthest tried = tried.1
-found_reads octets Known None furthest tried = tt
-found_reads octets Several best furthest tried = tt
+pub found_reads : (octets : List ℕ) (identity : Identity) (best damaged : Option Tried) → IfSome best (IsTried octets)
+    → ReadsSo octets (found_by identity best damaged)
+found_reads octets Known (Some one) damaged tried = tried.1
+found_reads octets Known None damaged tried = tt
+found_reads octets Several best damaged tried = tt
 found_reads octets (Nothing fault) best (Some one) tried = tt
 found_reads octets (Nothing fault) best None tried = tt
 

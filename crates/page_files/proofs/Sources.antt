@@ -1,8 +1,7 @@
 -- The same bits in another order.
-use Rattle.std.proofs.Common.{◌≡◌, ℕ, Bool, List, Some, None, Ok, Err, length, sym}
-use Rattle.std.specs.Prelude.{IfSome, Option, Result}
+use Rattle.std.proofs.Common.{◌≡◌, ℕ, List, Some, None, Ok, Err, sym}
+use Rattle.std.specs.Prelude.{Option, Result}
 use Rattle.raster.specs.declared.packed.Order.{Order}
-use Rattle.raster.specs.declared.row.Color.{Color}
 use Rattle.raster.specs.Packed.{bits_of}
 use Rattle.page_code.specs.declared.Coding.{Coding}
 use Rattle.page_code.specs.declared.Coding.TheVariants.{OneDim, T6}

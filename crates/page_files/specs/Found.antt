@@ -5,7 +5,7 @@ use Rattle.page_code.specs.declared.Coding.{Coding}
 use Rattle.page_code.specs.declared.Coding.TheVariants.{OneDim, T6}
 use Rattle.raster.specs.declared.packed.Order.{Order}
 use Rattle.raster.specs.declared.packed.Order.TheVariants.{LsbFirst, MsbFirst}
-use Rattle.page_files.specs.Identified.{AreTried, AreTwoDim, IsWay, ReadsTo, fits_one, format_line, format_of, identity_of, least_lines}
+use Rattle.page_files.specs.Identified.{AreTried, AreTwoDim, IsAgreed, IsWay, ReadsTo, fits_one, format_line, format_of, identity_of, least_lines}
 use Rattle.page_files.specs.Identified.{tried_line, tried_widths}
 use Rattle.page_files.specs.declared.found.Found.{Found}
 use Rattle.page_files.specs.declared.found.SaidWidths.{SaidWidths}
@@ -61,18 +61,29 @@ abbrev pub IsMost : Coding → SaidWidths → List ℕ → List Tried → Option
 IsMost coding said octets tried (Some one) = ReadsMost coding said octets tried one
 IsMost coding said octets tried None = NoneHasBegun coding said octets tried
 
--- the way in which damaged octets read furthest: that of T.4 that reads the most rows; or else that of T.6, since any octets have a few
--- rows of T.6 by chance
+-- the way in which damaged octets read furthest if no lines of T.4 agree on a width: that of T.4 that reads the most rows; or else that of
+-- T.6, since any octets have a few rows of T.6 by chance
 abbrev pub IsFurthest : SaidWidths → List ℕ → List Tried → Option Tried → Type 0
 IsFurthest said octets tried most = ((one : Tried) × ReadsMost OneDim said octets tried one × (most ≡ Some one))
     ⊎ (NoneHasBegun OneDim said octets tried × IsMost T6 said octets tried most)
 
--- What octets are that begin as no known format, by the best way in which they read as a page, and the one in which they read furthest
--- if they are no page.
+-- the way in which damaged octets are read: in the width on which lines of T.4 agree, if they do, or else the one in which they read furthest
+abbrev pub IsDamaged : SaidWidths → List ℕ → List Tried → Option Tried → Option Tried → Type 0
+IsDamaged said octets tried None way = IsFurthest said octets tried way
+IsDamaged said octets tried (Some one) way = way ≡ Some one
+
+-- the way in a width on which lines of T.4 agree counts only for octets that are nothing known
+abbrev pub IsAgreedBy : Identity → List ℕ → List ℕ → Option Tried → Type 0
+IsAgreedBy (Nothing fault) widths octets agreed = IsAgreed widths octets agreed
+IsAgreedBy Known widths octets agreed = agreed ≡ None
+IsAgreedBy Several widths octets agreed = agreed ≡ None
+
+-- What octets are that begin as no known format, by the best way in which they read as a page, and the one in which they are read if they
+-- are no page.
 abbrev pub found_by : Identity → Option Tried → Option Tried → Found
-found_by Known (Some one) furthest = found.Page one
-found_by Known None furthest = found.Nothing
-found_by Several best furthest = found.Several
+found_by Known (Some one) damaged = found.Page one
+found_by Known None damaged = found.Nothing
+found_by Several best damaged = found.Several
 found_by (Nothing fault) best (Some one) = found.Begun one
 found_by (Nothing fault) best None = found.Nothing
 
@@ -91,9 +102,11 @@ pub record IsBest (widths : List ℕ) (octets : List ℕ) (what : Found) : Type 
   pub are_tried : AreTried widths octets tried own
   pub two : Said
   pub are_two : AreTwoDim octets two.msb two.lsb
-  pub furthest : Option Tried
-  pub is_furthest : IsFurthest (record { own = own; two = two }) octets tried furthest
-  pub found_is : what ≡ found_by (identity_of None octets tried) (best_of octets tried) furthest
+  pub agreed : Option Tried
+  pub is_agreed : IsAgreedBy (identity_of None octets tried) widths octets agreed
+  pub damaged : Option Tried
+  pub is_damaged : IsDamaged (record { own = own; two = two }) octets tried agreed damaged
+  pub found_is : what ≡ found_by (identity_of None octets tried) (best_of octets tried) damaged
 
 -- what octets are: the format that they begin as, or what the ways in which they read in these widths say
 abbrev pub FindsIn : List ℕ → List ℕ → Found → Type 0

@@ -1,5 +1,5 @@
 -- What `faxtool identify` says of octets: the format that they begin as, and in which ways they read as a page.
-use Rattle.std.specs.Prelude.{ℕ, ◌≡◌, ◌+◌, ◌<◌, Bool, true, false, List, [], ◌∷◌, ◌++◌, ◌||◌, ◌&&◌, Option, Some, None}
+use Rattle.std.specs.Prelude.{ℕ, ◌≡◌, ◌+◌, ◌<◌, ◌⊎◌, Bool, true, false, List, [], ◌∷◌, ◌++◌, ◌||◌, ◌&&◌, Option, Some, None}
 use Rattle.std.specs.Prelude.{Result, Ok, Err, All, MatchResult, codes, cond, drop, find, flat_map, if◌then◌else◌, is_some, length, map, nat_eq}
 use Rattle.std.specs.Prelude.{nat_le, nat_lt, not, sum, take}
 use Rattle.std.specs.Fmt.{decimal}
@@ -16,6 +16,7 @@ use Rattle.page_code.specs.Codings.{ReadsIn}
 use Rattle.page_code.specs.OneDimension.Repairs.{IsFirstLine, IsRepair}
 use Rattle.run_tables.specs.RowLaws.{ReadsAsRow}
 use Rattle.page_code.specs.RowsSoFar.{AreWholeRows}
+use Rattle.page_files.specs.AgreedWidths.{AgreesOn}
 use Rattle.page_files.specs.Answers.{octets_after}
 use Rattle.page_files.specs.CodedPages.{RefusesCode}
 use Rattle.page_files.specs.NoEols.{FirstAlone}
@@ -164,6 +165,20 @@ pub record AreTried (widths : List ℕ) (octets : List ℕ) (tried : List Tried)
   pub lsb_is : SaysOwn LsbFirst octets own.lsb
   pub forms_are : map form_of tried ≡ tried_forms widths own.msb own.lsb
   pub each : All (IsTried octets) tried
+
+-- ---- the width on which lines agree
+
+-- the way of T.4 in this order of bits, in the width on which lines agree, and its result is right; none, if no lines agree
+abbrev pub IsAgreedIn : List ℕ → Order → List ℕ → Option Tried → Type 0
+IsAgreedIn widths order octets (Some one) =
+    IsTried octets one × (one.form ≡ form_in OneDim order one.form.width) × AgreesOn widths order octets (Some one.form.width)
+IsAgreedIn widths order octets None = AgreesOn widths order octets None
+
+-- The way of T.4 in the width on which lines agree: with the most significant bit first, or else with the least. Octets that read as no page
+-- are known as T.4 by it, also if no row of the page is read: then its first line is damaged.
+abbrev pub IsAgreed : List ℕ → List ℕ → Option Tried → Type 0
+IsAgreed widths octets agreed = ((one : Tried) × IsAgreedIn widths MsbFirst octets (Some one) × (agreed ≡ Some one))
+    ⊎ (IsAgreedIn widths MsbFirst octets None × IsAgreedIn widths LsbFirst octets agreed)
 
 -- ---- what is written
 
@@ -322,13 +337,20 @@ abbrev pub UnreadBy : List ℕ → List Tried → Said → List ℕ → Type 0
 UnreadBy octets tried own lines = (two : Said) × (msb lsb : Option (ℕ × ℕ)) × AreTwoDim octets two.msb two.lsb × AreAlone octets msb lsb
     × (lines ≡ unread_lines tried own two msb lsb)
 
--- What is written after the lines of the ways. Of several ways: that the width isn't known. Of nothing that is known: first what it is that
--- isn't read, then a line for each way that reads a first row (`.. width 1728: fault 11 at bit 3999 after 27 rows`).
+-- What is written of nothing that is known. If lines of T.4 agree on a width, the line of its way (`.. width 1728: fault 10 at bit 20 after 0
+-- rows`). If none do, first what it is that isn't read, then a line for each way that reads a first row (`.. width 1728: fault 11 at bit 3999
+-- after 27 rows`).
+abbrev pub TellsNothing : List ℕ → List Tried → Said → Option (List ℕ) → Option (List ℕ) → Type 0
+TellsNothing octets tried own before after =
+    ((one : Tried) × IsAgreed tried_widths octets (Some one) × Appends before after (tried_line octets one))
+    ⊎ (IsAgreed tried_widths octets None × ((unread : List ℕ) × UnreadBy octets tried own unread
+    × Appends before after (unread ++ lines_of Begun octets tried)))
+
+-- What is written after the lines of the ways. Of several ways: that the width isn't known. Of nothing that is known: as above.
 abbrev pub TellsIdentity : List ℕ → List Tried → Said → Identity → Option (List ℕ) → Option (List ℕ) → Type 0
 TellsIdentity octets tried own Known before after = Appends before after []
 TellsIdentity octets tried own Several before after = Appends before after (codes "the width is not known\n")
-TellsIdentity octets tried own (Nothing fault) before after =
-    (unread : List ℕ) × UnreadBy octets tried own unread × Appends before after (unread ++ lines_of Begun octets tried)
+TellsIdentity octets tried own (Nothing fault) before after = TellsNothing octets tried own before after
 
 -- The lines before that. The format, if it is known (`TIFF, by its first octets`). A line for each way that reads a page (`T.6, most
 -- significant bit first, width 1728, 2292 rows`): first those without octets after it, then those without EOFB (`2292 rows, without EOFB`),

@@ -5,6 +5,7 @@ pub mod Repairs
 pub mod RepairsT6
 pub mod Decodings
 pub mod PageEnds
+pub mod AgreedWidths
 pub mod Answers
 pub mod Marks
 pub mod LaterPages
@@ -14,6 +15,7 @@ pub mod NoEols
 pub mod NextT6
 pub mod FormatRows
 pub mod MarkRows
+pub mod AgreedRows
 pub mod Found
 pub mod Identified
 pub mod Sources

@@ -2,7 +2,7 @@
 
 ghost use Rattle.faults.specs.Faults.{IsOutside};
 ghost use Rattle.page_files.specs.Found.{Finds, FindsBy, FindsIn, IsChosen, ReadsSo, others, page_or_several, widths_from};
-ghost use Rattle.page_files.specs.Found.{HasBegun, least_rows, HasItsWidth, IsFurthest, IsMost, best_of, found_by};
+ghost use Rattle.page_files.specs.Found.{HasBegun, least_rows, HasItsWidth, IsAgreedBy, IsDamaged, IsFurthest, IsMost, best_of, found_by};
 ghost use Rattle.page_files.specs.Found.{found_line, said_in};
 ghost use Rattle.page_files.specs.declared.found.Found.TheVariants.{Several};
 ghost use Rattle.page_files.specs.declared.identify.Tried.{Tried};
@@ -12,6 +12,7 @@ ghost use Rattle.std.specs.Io.KnownBytes.{Appends};
 ghost use Rattle.raster.specs.Pixels.{IsWidth};
 ghost use Rattle.std.specs.Prelude.{◌≡◌, ◌++◌, ◌∷◌, ◌↔◌, [], List, All, IfErr, IfOk, IfSome, IsTrue, OnOk, Some, find};
 
+use crate::agreed_widths::agreed_way;
 use crate::identify::{
     Fit, Identity, Said, Tried, WIDTHS, fits, format_of, identity_of, least_lines, tell_format,
     tell_tried, try_ways,
@@ -31,7 +32,8 @@ pub enum Found {
     Format(&'static str),
     /// They are a page, or pages, that is read in this way.
     Page(Tried),
-    /// They read to no page's end, but begin with rows, most in this way. It is of T.4 if a way of T.4 reads a row.
+    /// They read to no page's end, but lines of T.4 agree on the width of this way, or else they begin with rows, most in this way. It is of T.4
+    /// if a way of T.4 reads a row.
     Begun(Tried),
     /// They are a page whose width isn't known.
     Several,
@@ -157,12 +159,12 @@ fn furthest_of(said: SaidWidths, octets: &[u8], tried: &[Tried]) -> Option<Tried
     most_in(Coding::T6, said, octets, tried)
 }
 
-/// Returns what octets are by their identity, the best way, and the one in which they read furthest if they are no page.
-fn found_by(identity: Identity, best: Option<Tried>, furthest: Option<Tried>) -> Found
-    ensures found { result ≡ found_by identity best furthest }
-    ensures width { IfSome best IsWay → IfSome furthest IsWay → HasItsWidth result }
+/// Returns what octets are by their identity, the best way, and the one in which they are read if they are no page.
+fn found_by(identity: Identity, best: Option<Tried>, damaged: Option<Tried>) -> Found
+    ensures found { result ≡ found_by identity best damaged }
+    ensures width { IfSome best IsWay → IfSome damaged IsWay → HasItsWidth result }
 {
-    match (identity, best, furthest) {
+    match (identity, best, damaged) {
         (Identity::Known, Some(one), _) => Found::Page(one),
         (Identity::Known, None, _) => Found::Nothing,
         (Identity::Several, _, _) => Found::Several,
@@ -178,6 +180,41 @@ fn two_dims_said(octets: &[u8]) -> Said
     Said {
         msb: two_dim_width(octets, Order::MsbFirst),
         lsb: two_dim_width(octets, Order::LsbFirst),
+    }
+}
+
+/// Returns the way in which octets that are no page are read: in the width on which lines of T.4 agree, if they do, or else the one in which
+/// they read furthest.
+fn damaged_way(
+    said: SaidWidths,
+    agreed: Option<Tried>,
+    octets: &[u8],
+    tried: &[Tried],
+) -> Option<Tried>
+    ensures damaged { IsDamaged said octets.now tried.now agreed result }
+    ensures way { IfSome agreed IsWay → All IsWay tried.now → IfSome result IsWay }
+{
+    match agreed {
+        Some(one) => Some(one),
+        None => furthest_of(said, octets, tried),
+    }
+}
+
+/// Returns the way in the width on which lines of T.4 agree; it isn't looked for in octets that are known. Errors: `NoMemory` (9).
+fn agreed_of(
+    alloc: Global,
+    identity: Identity,
+    octets: &[u8],
+    widths: &[u32],
+) -> Result<Option<Tried>, ToolFault>
+    requires { All IsWidth widths.now }
+    ensures agreed { IfOk result (IsAgreedBy identity widths.now octets.now) }
+    ensures way { IfOk result (λ agreed. IfSome agreed IsWay) }
+    ensures fault { IfErr result IsOutside }
+{
+    match identity {
+        Identity::Nothing(_) => agreed_way(alloc, octets, widths),
+        Identity::Known | Identity::Several => Ok(None),
     }
 }
 
@@ -203,8 +240,9 @@ fn find_in(
     let tried = results.tried;
     let identity = identity_of(None, octets, &tried);
     let best = best_of(octets, &tried);
-    let furthest = furthest_of(SaidWidths { own, two }, octets, &tried);
-    Ok((found_by(identity, best, furthest), results.found))
+    let agreed = agreed_of(alloc, identity, octets, widths)?;
+    let damaged = damaged_way(SaidWidths { own, two }, agreed, octets, &tried);
+    Ok((found_by(identity, best, damaged), results.found))
 }
 
 /// Returns what octets are. Errors: `NoMemory` (9).

@@ -3,6 +3,7 @@
 ghost use Rattle.page_files.specs.Answers.{octets_after};
 ghost use Rattle.faults.specs.Faults.{IsOutside};
 ghost use Rattle.page_files.specs.Identified.{AreOneDimTried, AreTried, AreTwoDim, HasFirstRow, Identifies, IsTried, MendsTo, SaysOwn};
+ghost use Rattle.page_files.specs.Identified.{TellsNothing};
 ghost use Rattle.page_files.specs.Identified.{has_rows, is_among, is_usual, least_lines, reads_rows, same_order};
 ghost use Rattle.page_files.specs.Identified.{TellsIdentity, after_words};
 ghost use Rattle.page_files.specs.Identified.{coding_name, count_of, fits, form_of, format_among, format_line, format_of, forms_in};
@@ -15,6 +16,7 @@ ghost use Rattle.page_files.specs.Sources.{IsPageIn};
 ghost use Rattle.std.specs.Io.KnownBytes.{Appends};
 ghost use Rattle.std.specs.Prelude.{◌≡◌, ◌≤◌, ◌++◌, ◌↔◌, ℕ, List, Option, All, IfErr, IfOk, IfSome, IsTrue, OnOk, length, map, option_map};
 
+use crate::agreed_widths::agreed_way;
 use crate::coded::read_code;
 use crate::options::PageForm;
 use crate::own_widths::{first_line, two_dim_width};
@@ -674,8 +676,9 @@ pub(crate) fn identity_of(format: Option<&str>, octets: &[u8], tried: &[Tried]) 
     }
 }
 
-/// Writes what is said of octets that are nothing that is known: what they are that isn't read, and how far each way came.
-fn tell_nothing<W: Write>(
+/// Writes what is said of octets that are nothing that is known, and on whose width no lines of T.4 agree: what they are that isn't read, and
+/// how far each way came.
+fn tell_ways<W: Write>(
     alloc: Global,
     octets: &[u8],
     tried: &[Tried],
@@ -691,6 +694,25 @@ fn tell_nothing<W: Write>(
     // octets of no fax at all have a few rows of T.6 by chance, so these lines don't say that it is a page
     tell_those(Fit::Begun, octets, tried, writer)?;
     Ok(())
+}
+
+/// Writes what is said of octets that are nothing that is known: how far the way came in whose width lines of T.4 agree; or else what
+/// `tell_ways` does. Errors: `Io` (8) from the writer, `NoMemory` (9).
+fn tell_nothing<W: Write>(
+    alloc: Global,
+    octets: &[u8],
+    tried: &[Tried],
+    said: Said,
+    writer: &mut W,
+) -> Result<(), ToolFault>
+    ensures told { OnOk result (TellsNothing octets.now tried.now said
+        (W.contents writer.old) (W.contents writer.new)) }
+    ensures fault { IfErr result IsOutside }
+{
+    match agreed_way(alloc, octets, &WIDTHS)? {
+        Some(one) => tell_tried(octets, &one, writer),
+        None => tell_ways(alloc, octets, tried, said, writer),
+    }
 }
 
 /// What was found of octets by all ways.
@@ -722,10 +744,10 @@ fn tell_identity<W: Write>(
 
 /// Writes the format that octets begin as, if it is known, and a line for each way in which they read as a page: first those without octets
 /// after it, then those without EOFB, then those with octets after it, then those of `decode --repair`. Where several ways read, says that
-/// the width isn't known, unless one of them alone ends with the octets. With neither, writes a width that no page can have, that it begins
-/// as T.4 in two dimensions (if it isn't known as T.4 in this order of bits), that it is T.4 without EOLs, and how far each way reads that
-/// has a first row; then the identity has the fault: `NoPages` (7) if there is no octet, otherwise `Unidentified` (29). Errors: `Io` (8)
-/// from the writer, `NoMemory` (9).
+/// the width isn't known, unless one of them alone ends with the octets. With neither, writes how far the way reads in whose width two lines of
+/// T.4 agree; or if none do, a width that no page can have, that it begins as T.4 in two dimensions (if it isn't known as T.4 in this order of
+/// bits), that it is T.4 without EOLs, and how far each way reads that has a first row. Then the identity has the fault: `NoPages` (7) if
+/// there is no octet, otherwise `Unidentified` (29). Errors: `Io` (8) from the writer, `NoMemory` (9).
 pub fn identify_engine<W: Write>(
     alloc: Global,
     octets: &[u8],

@@ -1,5 +1,6 @@
 //! Laws of the definitions. Nothing runs.
 
+ghost use Rattle.page_files.specs.AgreedRows.{LinesByGaps};
 ghost use Rattle.page_files.specs.FormatRows.{FlagsByOctets, FormatsByOctets, WidthsMean};
 ghost use Rattle.page_files.specs.IdentifyLaws.{FindsWhatIsSaid, FirstLineIsBest};
 ghost use Rattle.page_files.specs.MarkRows.{MarksByGaps};
@@ -34,4 +35,9 @@ pub fn formats_by_octets()
 /// The marks that end a page's code, RTC and EOFB, by the 0 bits before each 1.
 pub fn marks_by_gaps()
     ensures { MarksByGaps }
+{}
+
+/// Lines of T.4 begin after EOLs, by the 0 bits before each 1, and agree on a width or don't.
+pub fn lines_by_gaps()
+    ensures { LinesByGaps }
 {}

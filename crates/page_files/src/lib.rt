@@ -1,6 +1,7 @@
 //! What each command does with images and coded pages, over any readers and any writer.
 #![tactic(auto)]
 
+mod agreed_widths;
 mod answer;
 mod coded;
 mod decode_records;
@@ -25,6 +26,7 @@ mod two_dim;
 mod unread;
 mod zeros;
 
+pub use crate::agreed_widths::agreed_width;
 pub use crate::answer::{DecodeAnswer, answer_decoded};
 pub use crate::coded::{read_image, write_code};
 pub use crate::decoding::{Broken, Decoded, ReadTo, decode_page};

@@ -10,7 +10,7 @@ use crate::files::input::{self, Source};
 use crate::files::progress::Watch;
 use faults::{TOO_MANY_OCTETS, ToolFault};
 use page_code::{CodesPages, Coding, PageRead, code_of, turned_code};
-use page_files::{PageForm, WIDTHS, own_width};
+use page_files::{PageForm, WIDTHS, agreed_width, own_width};
 use run_tables::Order;
 use std::alloc::{AllocError, Global};
 use std::io::{ErrorKind, Read};
@@ -183,7 +183,8 @@ fn is_no_page(alloc: Global, octets: &[u8], ways: Ways) -> Result<bool, AllocErr
 }
 
 /// Returns whether `identify` makes nothing of octets, however many follow: they don't begin with a row of T.4 and an EOL, since `decode
-/// --repair` takes rows of T.4 anywhere, and are refused in T.6 and T.4 far before their end. Errors: memory was refused.
+/// --repair` takes rows of T.4 anywhere, are refused in T.6 and T.4 far before their end, and no lines of T.4 agree on a width. Errors: memory
+/// was refused.
 fn is_tried_in_vain(alloc: Global, octets: &[u8], likely: Option<u32>) -> Result<bool, AllocError>
     requires { IfSome likely IsWidth }
 {
@@ -215,7 +216,23 @@ fn is_order_in_vain(
             return Ok(false);
         }
     }
-    Ok(true)
+    Ok(!do_lines_agree(code, first, likely))
+}
+
+/// Returns whether lines of T.4 agree on the likely width, if there is one, or on one that is tried.
+fn do_lines_agree(octets: &[u8], order: Order, likely: Option<u32>) -> bool
+    requires { IfSome likely IsWidth }
+{
+    if agreed_width(octets, order, &WIDTHS).is_some() {
+        return true;
+    }
+    match likely {
+        Some(width) => {
+            let widths = [width];
+            agreed_width(octets, order, &widths).is_some()
+        }
+        None => false,
+    }
 }
 
 /// Returns whether octets are refused far before their end in this code in the likely width, if there is one, and in each that is tried.

@@ -1,7 +1,7 @@
 -- What the check asks of `find_in`.
 use Rattle.std.proofs.Common.{◌≡◌, List, rules, inr, subst}
 use Rattle.std.specs.Prelude.{None}
-use Rattle.page_files.specs.Found.{IsFurthest}
+use Rattle.page_files.specs.Found.{IsDamaged}
 use Rattle.page_files.specs.Identified.{format_of}
 use Rattle.page_files.specs.declared.identify.Tried.{Tried}
 use Rattle.page_files.proofs.found.find_in.Goals as goal
@@ -18,9 +18,11 @@ returns-clause-found c =
         are_tried = c.in_ok-results.ensures.tried;
         two = c.two_dims_said-two.result;
         are_two = c.two_dims_said-two.ensures;
-        furthest = c.furthest_of-furthest.result;
-        is_furthest = subst (λ (l : List Tried). IsFurthest (record { own = c.in_ok-results.own; two = c.two_dims_said-two.result }) octets l
-            c.furthest_of-furthest.result) c.deref-3.ensures.value c.furthest_of-furthest.ensures.furthest;
+        agreed = c.in_ok-agreed.agreed;
+        is_agreed = search rules;
+        damaged = c.damaged_way-damaged.result;
+        is_damaged = subst (λ (l : List Tried). IsDamaged (record { own = c.in_ok-results.own; two = c.two_dims_said-two.result }) octets l
+            c.in_ok-agreed.agreed c.damaged_way-damaged.result) c.deref-3.ensures.value c.damaged_way-damaged.ensures.damaged;
         found_is = search rules;
       },
     )

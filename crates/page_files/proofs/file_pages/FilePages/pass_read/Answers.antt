@@ -1,7 +1,7 @@
 -- What the check asks of `pass_read`.
-use Rattle.std.proofs.Common.{ℕ, ◌≡◌, ◌<◌, ◌∙◌, List, ap, drop, slice_index, subst, sym}
+use Rattle.std.proofs.Common.{ℕ, ◌≡◌, ◌<◌, ◌∙◌, List, ap, drop, slice_index, subst}
 use Rattle.page_files.specs.LaterPages.{BeginsWith}
-use Rattle.page_files.specs.TurnedPages.{in_msb, msb_form}
+use Rattle.page_files.specs.TurnedPages.{msb_form}
 use Rattle.page_files.proofs.TurnedPages.{after_page, last_page, turned_page}
 use Rattle.page_files.proofs.file_pages.FilePages.pass_read.Goals as goal
 

@@ -1,6 +1,6 @@
--- What the check asks of `tell_nothing`.
+-- What the check asks of `tell_ways`.
 use Rattle.std.proofs.KnownBytes.{Appends-trans}
-use Rattle.page_files.proofs.identify.tell_nothing.Goals as goal
+use Rattle.page_files.proofs.identify.tell_ways.Goals as goal
 
 pub returns-clause-told : goal.returns-clause-told
 returns-clause-told g c =
