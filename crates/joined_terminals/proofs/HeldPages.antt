@@ -11,6 +11,7 @@ use Rattle.conversations.specs.Refusing.{stop_in}
 use Rattle.conversations.specs.Talking.{GivesAll, Withholds}
 use Rattle.conversations.specs.declared.line.TimedLine.{TimedLine}
 use Rattle.conversations.specs.declared.refusing.StopCause.{StopCause}
+use Rattle.conversations.specs.declared.refusing.StopCause.TheVariants.{Refused, TooLong, NeverQuiet}
 use Rattle.partial_page.specs.Store.{joined_frames}
 use Rattle.raster.specs.Pages.{PagePixels}
 use Rattle.signals.specs.declared.signal.Side.TheVariants.{Answerer as AnswererSide}
@@ -177,7 +178,9 @@ module _ (law : StepsStoreOpen) (known : HoldersKnown) (page : PagePixels) where
 -- a call that is stopped for a reason, if there is one, keeps its pages
 watched_pages : (c : ConversationFields LimitedFields) (why : Option StopCause) → pages_of (stopped_for limited_behaviour why c) ≡ pages_of c
 watched_pages c None = refl
-watched_pages c (Some why) = stopped_pages c.terminal.speaking
+watched_pages c (Some (Refused why)) = stopped_pages c.terminal.speaking
+watched_pages c (Some TooLong) = stopped_pages c.terminal.speaking
+watched_pages c (Some NeverQuiet) = refl
 
 all_same : (bursts : List SentBurst) (old new : ConversationFields LimitedFields) → GivesAll AnswererSide answerer_lends old bursts new →
     pages_of new ≡ pages_of old
