@@ -3,9 +3,10 @@
 
     .ci/edits.py
 
-Each `old:` text of .ci/must-fail/*/*.edit, and of bench/plant/edits/*/*.edit, which the gate doesn't try, stands exactly once in the file
+Each `old:` text of .ci/must-fail/*/*.edit, and of bench/plant/edits and said, which the gate doesn't try, stands exactly once in the file
 that the edit names, after the pairs before it. The texts of bench/plant's wrong definitions, code and bodies that answer no memory stand in
-their files too, and the laws of its tables in their crates. docs/PLANTS.md names bugs that are there, the functions that they change and
+their files too, and the laws of its tables in their crates. guilty.txt, there, names bugs that stand in one of these folders or in
+bench/plant/said, and each rule of `faxtool judge`. docs/PLANTS.md names bugs that are there, the functions that they change and
 clauses of these. Of each crate but those of tests there are five to ten in bench, and a record of these that isn't too old; so of bodies
 that are wrong in code and definition alike. PROOF and CONTRIBUTING say of how many crates the gate's are. Each .rt and .antt file is as the
 kit's formatter writes it; and no module has the name of a library that its crate uses.
@@ -21,11 +22,15 @@ import sys
 from pathlib import Path
 
 sys.dont_write_bytecode = True
-sys.path.append(str(Path(__file__).resolve().parent.parent / "bench" / "plant"))
+BENCH = Path(__file__).resolve().parent.parent / "bench"
+sys.path += [str(BENCH), str(BENCH / "plant")]
+import judge
 import plants
 
 TOP = Path(__file__).resolve().parent.parent
 PARTS = ["src", "specs", "proofs"]
+# Where the edits lie, in a folder of each crate.
+PLACES = [TOP / ".ci" / "must-fail", BENCH / "plant" / "edits", BENCH / "plant" / "said"]
 RATTLE = shutil.which("rattle", path=f"{os.environ.get('PATH', '')}:{os.environ.get('KIT', '/opt/rattle')}/bin")
 
 
@@ -137,6 +142,18 @@ def count_faults():
     return plants.count_faults(texts, len(list((TOP / ".ci" / "must-fail").iterdir())), len(refuted.all_rows()))
 
 
+def guilty_faults(text):
+    """The rows of the text of guilty.txt that name no station, a bug that isn't there, or no rule; and the rules that no row has."""
+    rules, named = {name for name, _signals, _breaks in judge.RULES}, set()
+    for line in text.splitlines():
+        side, bug, rule = (line.split(" | ") + ["", ""])[:3]
+        is_there = any((place / f"{bug}.edit").is_file() for place in PLACES)
+        if not line.startswith("#") and not (side in ("caller", "answerer") and is_there and rule in rules | {"-"}):
+            yield f"bench/plant/guilty.txt: no station, no planted bug or no rule: {line}"
+        named.add(rule)
+    yield from (f"bench/plant/guilty.txt: no row has the rule {rule}" for rule in sorted(rules - named))
+
+
 def unformatted(crate):
     """The files of a crate that the formatter would write in another way, as it says."""
     files = sorted(str(file) for part in PARTS for file in (crate / part).rglob("*") if file.suffix in (".rt", ".antt"))
@@ -154,8 +171,7 @@ def shadowed(line):
 
 def main():
     crates = sorted(path for path in (TOP / "crates").iterdir() if path.is_dir())
-    places = [TOP / ".ci" / "must-fail", TOP / "bench" / "plant" / "edits"]
-    folders = [(place / crate.name, crate) for crate in crates for place in places]
+    folders = [(place / crate.name, crate) for crate in crates for place in PLACES]
     edits = [(edit, crate) for folder, crate in folders for edit in sorted(folder.glob("*.edit"))]
     wrong = [f"{crate.name}/{edit.name}: {fault}" for edit, crate in edits for fault in faults_of(edit, crate)]
     for crate in crates:
@@ -163,6 +179,7 @@ def main():
     for line in (TOP / "crates.txt").read_text().splitlines():
         wrong += shadowed(line)
     wrong += record_faults()
+    wrong += guilty_faults((BENCH / "plant" / "guilty.txt").read_text())
     wrong += body_faults(plants.PAGE.read_text())
     wrong += count_faults()
     others, lacking = texts_of_plants()

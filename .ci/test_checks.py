@@ -422,8 +422,8 @@ def words():
 
 
 def plants():
-    """Texts of bench/plant that don't stand in their files any more, a law that is gone, a test that the page doesn't name, and a record that
-    lacks something."""
+    """Texts of bench/plant that don't stand in their files any more, a law that is gone, a wrong row of guilty.txt, a test that the page
+    doesn't name, and a record that lacks something."""
     crates = checks.TOP / "crates"
     assert not edits.texts_of_plants()[1]
     pairs = wrong_definitions.WRONG["normal end after MPS"]
@@ -433,6 +433,10 @@ def plants():
     moved = [("specs/Moved.antt", old, new) for _, old, new in row["edits"]]
     yield refuses("a wrong row of no file", lambda own: edits.pair_faults(own, crates / row["crate"]), row["edits"], moved, "no file")
     yield refuses("a wrong row of no law", edits.law_faults, row, {**row, "law": f"{row['law']}Gone"}, "no law")
+    guilty = (edits.BENCH / "plant" / "guilty.txt").read_text()
+    for old, new, said in ((" | ended | ", " | over | ", "no row has the rule ended"), ("caller | ", "calling | ", "no station"),
+                           ("/two_rcps | ", "/three_rcps | ", "no planted bug"), ("| rcp-count |", "| - |", "no row has the rule rcp-count")):
+        yield refuses("a wrong row of guilty.txt", edits.guilty_faults, guilty, guilty.replace(old, new), said)
     assert all(no_memory.test_of(call) for call in no_memory.CALLS)
     page, counts = edits.plants.PAGE.read_text(), (edits.plants.edits_here(), edits.wrong_rows())
 

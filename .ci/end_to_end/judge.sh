@@ -135,11 +135,11 @@ try_long_log() {
     rm "$work/log"
 }
 
-# 200 random logs of a fixed seed: of each frame bench/judge.py, a second reading of the rules, says the same, and each rule is broken.
+# 300 random logs of a fixed seed: of each frame bench/judge.py, a second reading of the rules, says the same, and each rule is broken.
 try_judge_alike() {
-    FAXTOOL=$program timeout 600 python3 -B "$top/bench/judge_alike.py" --logs 200 > "$work/output" || fails "judge_alike.py: $(cat "$work/output")"
+    FAXTOOL=$program timeout 600 python3 -B "$top/bench/judge_alike.py" --logs 300 > "$work/output" || fails "judge_alike.py: $(cat "$work/output")"
     ! grep -q ' 0 [a-z]' "$work/output" || fails "judge_alike.py: no frame breaks a rule: $(cat "$work/output")"
-    count=$((count + 200))
+    count=$((count + 300))
 }
 
 # The command judge.

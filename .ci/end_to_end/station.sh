@@ -442,19 +442,22 @@ try_from() {
     rm "$work/two.pbm" "$work/three.pbm"
 }
 
-# Two processes that are joined: each line is answered at once, and the pages arrive.
+# Two processes that are joined: each line is answered at once, and the pages arrive; also if they say frames by V.21 as contents.
 try_joined() {
     for words in "--lose 0 --seed 1" "--lose 10% --seed 4" "--lose 1/10 --seed 5" "--lose-frames 25% --seed 3"; do
-        rm -rf "$work/stored"
-        mkdir "$work/stored"
-        timeout 600 python3 -B "$top/docs/examples/join.py" $words --caller-command "$program station --call" --answerer-command \
-            "$program station --answer" "$top/docs/examples/row.pbm" "$work/stored" > "$work/output" 2> "$work/error" ||
-            fails "join.py $words ended with status $?"
-        [ "$(grep -c ': end normal ' "$work/output")" = 2 ] || fails "join.py $words: $(tail -2 "$work/output")"
-        is_same "$work/stored/page-1.pbm" "$top/docs/examples/row.pbm" "the page of join.py $words"
-        count=$((count + 1))
+        for kind in "" --frames "--frames --hear"; do
+            rm -rf "$work/stored"
+            mkdir "$work/stored"
+            timeout 600 python3 -B "$top/docs/examples/join.py" $words --caller-command "$program station --call $kind" --answerer-command \
+                "$program station --answer $kind" "$top/docs/examples/row.pbm" "$work/stored" > "$work/output" 2> "$work/error" ||
+                fails "join.py $words of stations with '$kind' ended with status $?"
+            [ "$(grep -c ': end normal ' "$work/output")" = 2 ] || fails "join.py $words of stations with '$kind': $(tail -2 "$work/output")"
+            is_same "$work/stored/page-1.pbm" "$top/docs/examples/row.pbm" "the page of join.py $words of stations with '$kind'"
+            count=$((count + 1))
+        done
     done
     grep -q ' without [1-9][0-9]* frames$' "$work/output" || fails "join.py --lose-frames loses none"
+    grep -q ' v21 frames [0-9]* without 1 frames$' "$work/output" || fails "join.py --lose-frames loses none of V.21"
 }
 
 # A page that is handed over is confirmed once the driver has kept it, on a line that loses and with a disk that takes up to 9 s.

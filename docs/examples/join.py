@@ -24,7 +24,10 @@ import subprocess
 import sys
 import tempfile
 
-from hdlc import bits_of, gaps, octets_of
+from hdlc import bits_of, frame, gaps, octets_of
+
+# How many flags a modem sends before and after frames that it is given by V.21.
+FLAGS = 37 + 2
 
 
 def rate(text):
@@ -61,13 +64,26 @@ class Words(argparse.ArgumentParser):
         self.exit(2, f"{self.prog}: error: {message}\n")
 
 
-def without(octets, number, is_lost):
-    """The octets of a burst of so many bits, in hex, without some of its frames; and how many were lost."""
+def without(burst, is_lost):
+    """A burst without some of its frames, and how many were lost; a training check has none."""
+    carrier, kind, *rest = burst.split(" ")
+    if kind == "frames":
+        kept = [digits for digits in rest if not is_lost()]
+        return " ".join([carrier, kind, *kept]), len(rest) - len(kept)
+    if kind != "hdlc":
+        return burst, 0
+    number, octets = rest
     bits, lost = bits_of(bytes.fromhex(octets)), 0
-    for begin, end in gaps(bits[:number]):
+    for begin, end in gaps(bits[: int(number)]):
         if is_lost():
             bits, lost = bits[:begin] + "1" * (end - begin) + bits[end:], lost + 1
-    return octets_of(bits).hex(), lost
+    return f"{carrier} {kind} {number} {octets_of(bits).hex()}", lost
+
+
+def count_bits(burst):
+    """How many bits a burst has on the line."""
+    _carrier, kind, *rest = burst.split(" ")
+    return 8 * FLAGS + sum(len(frame(bytes.fromhex(digits))) for digits in rest) if kind == "frames" else int(rest[0])
 
 
 class Station:
@@ -187,14 +203,14 @@ class Line:
     def carry(self, sender, receiver):
         """Carries a burst to the other side, or loses it."""
         burst, sender.began = sender.bursts.pop(0), self.clock
-        carrier, kind, bits, octets = burst.split(" ")
-        is_lost, words = self.chance.random() < self.lose, ""
-        if self.frames and kind == "hdlc" and not is_lost:
-            octets, lost = without(octets, int(bits), lambda: self.chance.random() < self.frames)
-            burst, words = f"{carrier} {kind} {bits} {octets}", f" without {lost} frames" if lost else ""
+        carrier, kind, *_rest = burst.split(" ")
+        bits, is_lost, words = count_bits(burst), self.chance.random() < self.lose, ""
+        if self.frames and not is_lost:
+            burst, lost = without(burst, lambda: self.chance.random() < self.frames)
+            words = f" without {lost} frames" if lost else ""
         self.shows(f"{self.clock:7} {sender.station.name:8} {carrier} {kind} {bits}{' lost' if is_lost else words}")
         receiver.lines += [] if is_lost else [(self.clock, f"busy {self.clock}")]
-        self.clock += int(bits) * 1000 // (300 if carrier == "v21" else int(carrier.split("-")[1]))
+        self.clock += bits * 1000 // (300 if carrier == "v21" else int(carrier.split("-")[1]))
         receiver.lines += [] if is_lost else [(self.clock, f"rx {self.clock} {burst}")]
         self.clock += 75
 
