@@ -11,13 +11,18 @@ use Rattle.faults.specs.Faults.{IsOutside, fault_text}
 use Rattle.faults.specs.RecordLines.{count, words}
 use Rattle.faults.specs.declared.fault.ToolFault.{ToolFault}
 use Rattle.page_files.specs.LaterPages.{asks_damaged}
+use Rattle.page_files.specs.Identified.{order_name}
+use Rattle.page_files.specs.declared.no_eols.NoEols.{NoEols}
 use Rattle.page_files.specs.declared.options.DecodeOptions.{DecodeOptions}
 use Rattle.page_files.specs.declared.options.PageForm.{PageForm}
+use Rattle.commands.specs.Damaged.{format_name}
 use Rattle.commands.specs.FoundForms.{IsFormOf}
 use Rattle.commands.specs.Names.{shown_name}
 use Rattle.commands.specs.Places.{has_left_out, left_out_words}
 use Rattle.commands.specs.PageFacts.{has_images, page_records}
 use Rattle.commands.specs.Pages.{GoesOn, IsPageReport, broken_line, file_end, have_damage, page_lines, with_front}
+use Rattle.commands.specs.declared.damaged.Unread.{Unread}
+use Rattle.commands.specs.declared.damaged.Unread.TheVariants as unread
 use Rattle.commands.specs.declared.decode.each.EachCommand.{EachCommand}
 use Rattle.commands.specs.declared.decode.each.facts.PageFacts.{PageFacts}
 use Rattle.commands.specs.declared.decode.each.pages.Next.{Next}
@@ -135,6 +140,11 @@ abbrev pub after_words : Bool → List ℕ
 after_words true = []
 after_words false = codes "; a page after it is not looked for"
 
+-- what is said of rows of T.4 without EOLs, as `identify` says it
+abbrev pub rows_words : NoEols → List ℕ
+rows_words said = codes "T.4 without EOLs (TIFF compression 2), " ++ (order_name said.order ++ (codes ", width " ++ (decimal said.width
+    ++ (codes ", " ++ (decimal said.rows ++ codes " rows: not read; try tiffcp -c g4 on its TIFF")))))
+
 -- what is said of a file
 abbrev pub end_text : FileEnd → List ℕ
 end_text (file.Whole pages) = codes "whole " ++ (decimal pages ++ codes " pages")
@@ -150,6 +160,7 @@ end_text (file.Lost number fault last) = codes "page " ++ (decimal number
 end_text (file.NotWritten number fault) = codes "page " ++ (decimal number ++ (codes " is not written: " ++ fault_text fault))
 end_text (file.NoFax name) = codes "no fax: " ++ name.now
 end_text file.TwoDims = codes "not read: T.4 in two dimensions (MR)"
+end_text (file.NoEols said) = rows_words said
 end_text file.NoWidth = codes "the width is not known: identify names several; give one of them by --width"
 end_text file.Nothing = codes "not read: identify may tell what it is"
 end_text file.NoText = codes "its name isn't UTF-8"
@@ -200,10 +211,11 @@ record_by name end told fault text = plain_record name end told (is_silent told)
 abbrev pub file_record : List ℕ → FileEnd → List ℕ → Option (List ℕ) → Data
 file_record name end told text = record_by name end told (fault_of end) text
 
--- the format of a file that isn't read, if it is known: MR is T.4 in two dimensions
+-- the format of a file that isn't read, if it is known, as a record of `identify` has it
 abbrev pub not_read : FileEnd → Data
 not_read (file.NoFax name) = words name.now
 not_read file.TwoDims = words (codes "MR")
+not_read (file.NoEols said) = words (format_name (unread.NoEols said))
 not_read end = null
 
 -- the records of the pages of a file that are read in a way; without one it has none

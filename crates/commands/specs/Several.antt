@@ -4,8 +4,9 @@ use Rattle.std.specs.Prelude.{if◌then◌else◌, length, unwrap_or}
 use Rattle.serde_json.specs.Data.{Data, Members, null, object, put}
 use Rattle.command_files.specs.Runs.{completeness_of}
 use Rattle.command_files.specs.declared.command.Completeness.{Completeness}
-use Rattle.commands.specs.Damaged.{is_damaged_page}
+use Rattle.commands.specs.Damaged.{format_name, is_damaged_page}
 use Rattle.commands.specs.PageFacts.{code_word, maybe_count, order_word}
+use Rattle.commands.specs.declared.damaged.Unread.{Unread}
 use Rattle.commands.specs.declared.identify.several.SeveralCommand.{SeveralCommand}
 use Rattle.faults.specs.Faults.{IsOutside}
 use Rattle.faults.specs.RecordLines.{count, words}
@@ -14,7 +15,6 @@ use Rattle.page_files.specs.Found.{Finds}
 use Rattle.page_files.specs.declared.found.Found.{Found}
 use Rattle.page_files.specs.declared.found.Found.TheVariants as found
 use Rattle.page_files.specs.declared.identify.Tried.{Tried}
-use Rattle.page_files.specs.declared.two_dim.TwoDim.{TwoDim}
 
 -- it is known what octets are: a format, or a page that reads in one way
 abbrev pub is_known : Found → Bool
@@ -42,7 +42,7 @@ SeveralGives command (Err fault) = IsOutside fault
 -- ---- records
 
 -- the way in which octets are read as a page, if they are one, or a damaged one
-abbrev pub way_of : Option TwoDim → Found → Option Tried
+abbrev pub way_of : Option Unread → Found → Option Tried
 way_of (Some said) what = None
 way_of None (found.Format name) = None
 way_of None (found.Page way) = Some way
@@ -50,9 +50,9 @@ way_of None (found.Begun way) = if is_damaged_page way then Some way else None
 way_of None found.Several = None
 way_of None found.Nothing = None
 
--- the name of the format of octets that aren't read: MR is T.4 in two dimensions
-abbrev pub format_of : Option TwoDim → Found → Data
-format_of (Some said) what = words (codes "MR")
+-- the name of the format of octets that aren't read
+abbrev pub format_of : Option Unread → Found → Data
+format_of (Some said) what = words (format_name said)
 format_of None (found.Format name) = words name.now
 format_of None (found.Page way) = null
 format_of None (found.Begun way) = null
@@ -74,10 +74,10 @@ with_way_found (Some way) members = put (codes "width") (count way.form.width)
     (put (codes "code") (words (code_word way.form.coding)) (put (codes "bits") (maybe_count (bits_in way.end)) members))))
 
 -- members with what octets are
-abbrev pub with_found : Option TwoDim → Found → Members → Members
-with_found two_dims what members = put (codes "not_read") (format_of two_dims what) (with_way_found (way_of two_dims what) members)
+abbrev pub with_found : Option Unread → Found → Members → Members
+with_found unread what members = put (codes "not_read") (format_of unread what) (with_way_found (way_of unread what) members)
 
--- a record with what octets are, which are T.4 in two dimensions or not
-abbrev pub record_with_found : Option TwoDim → Found → Data → Data
-record_with_found two_dims what (object members) = object (with_found two_dims what members)
-record_with_found two_dims what other = other
+-- a record with what octets are, and perhaps what they are that isn't read
+abbrev pub record_with_found : Option Unread → Found → Data → Data
+record_with_found unread what (object members) = object (with_found unread what members)
+record_with_found unread what other = other

@@ -6,7 +6,7 @@ ghost use Rattle.serde_json.specs.View.{members_view, view};
 ghost use Rattle.serde_json.specs.Written.{has_float};
 ghost use Rattle.std.specs.Prelude.{◌≡◌, IfErr, IfOk, OnOk, false};
 
-use crate::damaged::{is_damaged_page, two_dims_of};
+use crate::damaged::{Unread, format_name, is_damaged_page, unread_of};
 use crate::decode::each::facts::{code_word, maybe_count, order_word};
 use crate::names::{is_untold, record_name, shown_name};
 use crate::words::{context_of_file, words_of_file};
@@ -18,7 +18,7 @@ use command_files::files::printed::say;
 use command_files::files::progress::Watch;
 use faults::{ToolFault, write_record};
 use page_files::{
-    Found, PageForm, Tried, TwoDim, find_way, tell_found, tell_two_dims, tell_unread,
+    Found, PageForm, Tried, find_way, tell_found, tell_no_eols, tell_two_dims, tell_unread,
 };
 use serde_json::{Map, Value, json, put};
 use std::alloc::{AllocError, Global};
@@ -76,7 +76,7 @@ impl Runs for SeveralCommand {
 struct Said {
     text: Vec<u8>,
     found: Found,
-    two_dims: Option<TwoDim>,
+    unread: Option<Unread>,
     is_known: bool,
     fault: Option<ToolFault>,
     words: Option<String>,
@@ -90,7 +90,7 @@ impl Said {
         Said {
             text,
             found,
-            two_dims: None,
+            unread: None,
             is_known,
             fault: None,
             words: None,
@@ -135,7 +135,7 @@ fn say_fault(own: &Context<'_>, name: &str, fault: ToolFault) -> Result<Said, To
     Ok(Said {
         text,
         found: Found::Nothing,
-        two_dims: None,
+        unread: None,
         is_known: false,
         fault: Some(fault),
         words,
@@ -160,32 +160,39 @@ fn say_of(own: &mut Context<'_>, name: &str) -> Result<Said, ToolFault>
     let octets = read_coded(own, name, Ways::Tried(None), Watch::Shown)?;
     let alloc = own.alloc();
     let found = find_way(alloc, octets.as_slice())?;
-    let two_dims = two_dims_of(octets.as_slice(), &found);
-    let text = text_of(alloc, octets.as_slice(), &found, two_dims)?;
+    let unread = unread_of(alloc, octets.as_slice(), &found)?;
+    let text = text_of(alloc, octets.as_slice(), &found, unread)?;
     let is_known = is_known(&found);
     Ok(Said {
         text,
         found,
-        two_dims,
+        unread,
         is_known,
         fault: None,
         words: None,
     })
 }
 
-/// Returns what is said of octets that are this, and T.4 in two dimensions or not. Errors: `NoMemory` (9).
+/// Returns what is said of octets that are this, and perhaps something that isn't read. Errors: `NoMemory` (9).
 fn text_of(
     alloc: Global,
     octets: &[u8],
     found: &Found,
-    two_dims: Option<TwoDim>,
+    unread: Option<Unread>,
 ) -> Result<Vec<u8>, ToolFault>
     ensures { IfErr result IsOutside }
 {
     let mut text = Vec::new(alloc);
-    if let Some(said) = two_dims {
-        tell_two_dims(said, &mut text)?;
-        return Ok(text);
+    match unread {
+        Some(Unread::TwoDims(said)) => {
+            tell_two_dims(said, &mut text)?;
+            return Ok(text);
+        }
+        Some(Unread::NoEols(said)) => {
+            tell_no_eols(said, &mut text)?;
+            return Ok(text);
+        }
+        None => {}
     }
     match found {
         Found::Begun(way) if !is_damaged_page(way) => tell_unread(alloc, octets, &mut text)?,
@@ -237,7 +244,7 @@ fn write_said(
 {
     let file = record_name(alloc, name)?;
     let made = said_record(alloc, file.as_str(), what, said)?;
-    let record = with_found(alloc, made, said.two_dims, &said.found)?;
+    let record = with_found(alloc, made, said.unread, &said.found)?;
     write_record(alloc, &record, lines)
 }
 
@@ -254,19 +261,19 @@ fn said_record(alloc: Global, file: &str, what: &str, said: &Said) -> Result<Val
     json!(in alloc; {"file": file, "is": what, "known": is_known})
 }
 
-/// Returns a record with what octets are, which are T.4 in two dimensions or not. Errors: memory was refused.
+/// Returns a record with what octets are, and perhaps what they are that isn't read. Errors: memory was refused.
 fn with_found(
     alloc: Global,
     made: Value,
-    two_dims: Option<TwoDim>,
+    unread: Option<Unread>,
     found: &Found,
 ) -> Result<Value, AllocError>
-    ensures { IfOk result (λ value. view value ≡ record_with_found two_dims found.now (view made)) }
+    ensures { IfOk result (λ value. view value ≡ record_with_found unread found.now (view made)) }
 {
     match made {
         Value::Object(mut members) => {
-            put_way_found(alloc, way_of(two_dims, found), &mut members)?;
-            let format = format_of(alloc, two_dims, found)?;
+            put_way_found(alloc, way_of(unread, found), &mut members)?;
+            let format = format_of(alloc, unread, found)?;
             put(&mut members, alloc, "not_read", format)?;
             Ok(Value::Object(members))
         }
@@ -275,10 +282,10 @@ fn with_found(
 }
 
 /// Returns the way in which octets are read as a page, if they are one, or a damaged one.
-fn way_of(two_dims: Option<TwoDim>, found: &Found) -> Option<Tried>
-    ensures { result ≡ way_of two_dims found.now }
+fn way_of(unread: Option<Unread>, found: &Found) -> Option<Tried>
+    ensures { result ≡ way_of unread found.now }
 {
-    if two_dims.is_some() {
+    if unread.is_some() {
         return None;
     }
     match found {
@@ -288,12 +295,13 @@ fn way_of(two_dims: Option<TwoDim>, found: &Found) -> Option<Tried>
     }
 }
 
-/// Returns the name of the format of octets that aren't read, `MR` if they are T.4 in two dimensions; or null. Errors: memory was refused.
-fn format_of(alloc: Global, two_dims: Option<TwoDim>, found: &Found) -> Result<Value, AllocError>
-    ensures { IfOk result (λ value. view value ≡ format_of two_dims found.now) }
+/// Returns the name of the format of octets that aren't read, or null. Errors: memory was refused.
+fn format_of(alloc: Global, unread: Option<Unread>, found: &Found) -> Result<Value, AllocError>
+    ensures { IfOk result (λ value. view value ≡ format_of unread found.now) }
 {
-    if two_dims.is_some() {
-        return Ok(Value::String(String::from_str(alloc, "MR")?));
+    if let Some(said) = unread {
+        let name = format_name(said);
+        return Ok(Value::String(String::from_str(alloc, name)?));
     }
     match found {
         Found::Format(name) => Ok(Value::String(String::from_str(alloc, name)?)),

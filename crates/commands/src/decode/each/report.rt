@@ -7,6 +7,7 @@ ghost use Rattle.commands.specs.PageFacts.{has_images};
 ghost use Rattle.serde_json.specs.View.{view};
 ghost use Rattle.std.specs.Prelude.{◌≡◌, ◌++◌, IfErr, IfOk, None, OnOk, option_map};
 
+use crate::damaged::{Unread, format_name};
 use crate::decode::each::facts::{PageFacts, page_records};
 use crate::decode::each::pages::{add_lines, is_silent};
 use crate::decode::each::places::{has_left_out, left_out_parts};
@@ -145,6 +146,10 @@ fn not_read(alloc: Global, end: FileEnd) -> Result<Value, AllocError>
     match end {
         FileEnd::NoFax(name) => Ok(Value::String(String::from_str(alloc, name)?)),
         FileEnd::TwoDims => Ok(Value::String(String::from_str(alloc, "MR")?)),
+        FileEnd::NoEols(said) => {
+            let name = format_name(Unread::NoEols(said));
+            Ok(Value::String(String::from_str(alloc, name)?))
+        }
         FileEnd::Whole(_)
         | FileEnd::NoEnd(_)
         | FileEnd::Mended(_)

@@ -8,5 +8,5 @@ use Rattle.commands.proofs.identify.several.write_said.Goals as goal
 pub write_record-requires : goal.write_record-requires
 write_record-requires c = record {
   integers = ap has_float c.in_ok-record.ensures
-      ∙ found_whole c.args.said.now.two_dims c.args.said.now.found (view c.in_ok-made.made) c.in_ok-made.ensures;
+      ∙ found_whole c.args.said.now.unread c.args.said.now.found (view c.in_ok-made.made) c.in_ok-made.ensures;
 }
