@@ -716,6 +716,19 @@ try_several() {
         tells_each 1 "{\"file\":\"each/mr\",\"is\":\"not read: T.4 in two dimensions (MR)\",\"left_out\":[],\"not_read\":\"MR\",\"pages\":[],\"whole\":false}\n" \
             decode --json $words --each each/out each/mr
     done
+    # T.4 without EOLs is named in the same words by all that name a file
+    cp "$(bits "$line 0000000 $line")" each/rle
+    is="T.4 without EOLs (TIFF compression 2), $msb, width 1728, 2 rows: not read; try tiffcp -c g4 on its TIFF"
+    tells_each 1 "each/rle: $is\neach/mh: T.4, $msb, width 315, 30 rows\n" identify each/rle each/mh
+    tells_each 1 "{\"bits\":null,\"code\":null,\"file\":\"each/rle\",\"is\":\"$is\",\"known\":false,\"not_read\":\"T.4 without EOLs\",\"order\":null,\
+\"rows\":null,\"width\":null}\n" identify --json each/rle
+    for words in "" --repair --salvage; do
+        tells_each 1 "each/rle: $is\n" decode $words --each each/out each/rle
+        tells_each 1 "{\"file\":\"each/rle\",\"is\":\"$is\",\"left_out\":[],\"not_read\":\"T.4 without EOLs\",\"pages\":[],\"whole\":false}\n" \
+            decode --json $words --each each/out each/rle
+        gives 1 decode $words each/rle each/one.pbm
+        [ "$(cat "$work/error")" = "each/rle: $is" ] || fails "decode of T.4 without EOLs: $(cat "$work/error")"
+    done
     # a damaged page of T.4 has its own line, not one of MR, which it reads as in its first row
     head -c 300 each/mh > each/half
     gives 1 identify each/half each/mh

@@ -1,5 +1,5 @@
 -- What `decode --each` says and writes, by whole lines, records and names: each row is computed.
-use Rattle.std.proofs.Common.{◌≡◌, refl}
+use Rattle.std.proofs.Common.{◌≡◌, append_assoc, refl}
 use Rattle.std.specs.Fmt.{digits}
 use Rattle.std.specs.Path.{path_components, path_names}
 use Rattle.page_files.specs.DecodeRecords.{but_last}
@@ -18,6 +18,8 @@ lines_by_end = record {
   lost = refl;
   not_written = refl;
   two_dims = refl;
+  no_eols = refl;
+  as_identify = λ said. simp (append_assoc);
   no_width = refl;
   nothing = refl;
   failed = refl;

@@ -13,14 +13,15 @@ use Rattle.page_files.specs.declared.found.Found.{Found}
 use Rattle.page_files.specs.declared.found.Found.TheVariants as found
 use Rattle.page_files.specs.declared.identify.Tried.{Tried}
 use Rattle.page_files.specs.declared.options.PageForm.{PageForm}
-use Rattle.page_files.specs.declared.two_dim.TwoDim.{TwoDim}
 use Rattle.std.specs.Path.{path_components}
 use Rattle.commands.specs.Several.{bits_in, format_of, record_with_found, way_of, with_way_found}
+use Rattle.commands.specs.SeveralLines.{known_record}
 use Rattle.commands.specs.Each.{each_record, fault_of, fault_record, file_record, is_silent, left_out, not_read, pages_in, plain_record}
 use Rattle.commands.specs.Each.{record_by, with_pages}
 use Rattle.commands.specs.Places.{file_name, is_left_out, left_out_part}
 use Rattle.commands.specs.PageFacts.{bit_of, code_word, fault_number, fault_of as page_fault, has_images, is_salvaged, lines_word}
 use Rattle.commands.specs.PageFacts.{maybe_count, maybe_words, order_word, page_record, repaired_in, with_content, with_damage, with_way}
+use Rattle.commands.specs.declared.damaged.Unread.{Unread}
 use Rattle.commands.specs.declared.decode.each.facts.PageFacts.{PageFacts}
 use Rattle.commands.specs.declared.decode.each.pages.PageEnd.{PageEnd}
 use Rattle.commands.specs.declared.decode.each.report.FileReport.{FileReport}
@@ -129,6 +130,7 @@ not_read_whole (file.Lost page fault last) = refl
 not_read_whole (file.NotWritten page fault) = refl
 not_read_whole (file.NoFax name) = refl
 not_read_whole file.TwoDims = refl
+not_read_whole (file.NoEols said) = refl
 not_read_whole file.NoWidth = refl
 not_read_whole file.Nothing = refl
 not_read_whole file.NoText = refl
@@ -182,7 +184,7 @@ each_whole name report text = with_pages_whole (left_out name (has_images report
 
 -- ---- a file that is identified
 
-format_whole : (two_dims : Option TwoDim) (what : Found) → has_float (format_of two_dims what) ≡ false
+format_whole : (unread : Option Unread) (what : Found) → has_float (format_of unread what) ≡ false
 format_whole (Some said) what = refl
 format_whole None (found.Format name) = refl
 format_whole None (found.Page way) = refl
@@ -210,12 +212,18 @@ way_found_whole (Some way) ms rest =
     (put_whole (codes "code") (words (code_word way.form.coding)) one refl
     (put_whole (codes "bits") bits ms (maybe_count_whole (bits_in way.end)) rest))))
 
-pub found_whole : (two_dims : Option TwoDim) (what : Found) (made : Data) → has_float made ≡ false
-    → has_float (record_with_found two_dims what made) ≡ false
-found_whole two_dims what null whole = whole
-found_whole two_dims what (boolean b) whole = whole
-found_whole two_dims what (number n) whole = whole
-found_whole two_dims what (string s) whole = whole
-found_whole two_dims what (array ds) whole = whole
-found_whole two_dims what (object ms) whole = put_whole (codes "not_read") (format_of two_dims what)
-    (with_way_found (way_of two_dims what) ms) (format_whole two_dims what) (way_found_whole (way_of two_dims what) ms whole)
+pub known_whole : (name is : List ℕ) (known : Bool) (fault : Option ToolFault) (text : Option (List ℕ))
+    → has_float (known_record name is known fault text) ≡ false
+known_whole name is known None text = refl
+known_whole name is known (Some fault) None = refl
+known_whole name is known (Some fault) (Some text) = refl
+
+pub found_whole : (unread : Option Unread) (what : Found) (made : Data) → has_float made ≡ false
+    → has_float (record_with_found unread what made) ≡ false
+found_whole unread what null whole = whole
+found_whole unread what (boolean b) whole = whole
+found_whole unread what (number n) whole = whole
+found_whole unread what (string s) whole = whole
+found_whole unread what (array ds) whole = whole
+found_whole unread what (object ms) whole = put_whole (codes "not_read") (format_of unread what)
+    (with_way_found (way_of unread what) ms) (format_whole unread what) (way_found_whole (way_of unread what) ms whole)

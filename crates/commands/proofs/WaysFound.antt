@@ -3,6 +3,7 @@ use Rattle.std.proofs.Common.{◌≡◌, ℕ, List, Some, None, Ok, Err, ap, sub
 use Rattle.std.specs.Prelude.{Bool, IfSome, Option, Result}
 use Rattle.commands.specs.FoundForms.{form_by, lined, used_in}
 use Rattle.commands.specs.Several.{bits_in}
+use Rattle.commands.specs.declared.damaged.Unread.{Unread}
 use Rattle.commands.specs.declared.decode.ends.FileEnd.{FileEnd}
 use Rattle.faults.specs.declared.fault.ToolFault.{ToolFault}
 use Rattle.page_files.specs.Found.{ReadsSo}
@@ -11,7 +12,6 @@ use Rattle.page_files.specs.LaterPages.{BeginsWith}
 use Rattle.page_files.specs.declared.found.Found.{Found}
 use Rattle.page_files.specs.declared.found.Found.TheVariants as found
 use Rattle.page_files.specs.declared.options.PageForm.{PageForm}
-use Rattle.page_files.specs.declared.two_dim.TwoDim.{TwoDim}
 
 abbrev form_or : PageForm → Result PageForm FileEnd → PageForm
 form_or other (Ok form) = form
@@ -24,13 +24,13 @@ reads_end octets form rows fine (Ok bits) reads = (reads.0, reads.1)
 reads_end octets form rows fine (Err fault) reads = tt
 
 -- octets begin with a page's code of as many bits as are known
-pub found_begins : (octets : List ℕ) (fine : Bool) (two_dims : Option TwoDim) (what : Found) (form : PageForm)
-    → ReadsSo octets what → form_by fine two_dims what ≡ Ok form → IfSome (used_in what) (BeginsWith form octets)
+pub found_begins : (octets : List ℕ) (fine : Bool) (unread : Option Unread) (what : Found) (form : PageForm)
+    → ReadsSo octets what → form_by fine unread what ≡ Ok form → IfSome (used_in what) (BeginsWith form octets)
 found_begins octets fine None (found.Page way) form reads is =
     subst (λ (f : PageForm). IfSome (bits_in way.end) (BeginsWith f octets)) (ap (form_or form) is)
     (reads_end octets way.form way.rows fine way.end reads)
 found_begins octets fine (Some said) (found.Page way) form reads is = cc
-found_begins octets fine two_dims (found.Begun way) form reads is = tt
-found_begins octets fine two_dims (found.Format name) form reads is = tt
-found_begins octets fine two_dims found.Several form reads is = tt
-found_begins octets fine two_dims found.Nothing form reads is = tt
+found_begins octets fine unread (found.Begun way) form reads is = tt
+found_begins octets fine unread (found.Format name) form reads is = tt
+found_begins octets fine unread found.Several form reads is = tt
+found_begins octets fine unread found.Nothing form reads is = tt

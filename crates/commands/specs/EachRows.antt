@@ -1,14 +1,16 @@
 -- What `decode --each` says and writes, by whole lines, records and names, as its guides show them.
-use Rattle.std.specs.Prelude.{ℕ, ◌≡◌, ◌∷◌, [], Bool, true, false, List, Option, Some, None, codes}
+use Rattle.std.specs.Prelude.{ℕ, ◌≡◌, ◌++◌, ◌∷◌, [], Bool, true, false, List, Option, Some, None, codes}
 use Rattle.serde_json.specs.Data.{Data, boolean, member, no_members, null, object}
 use Rattle.faults.specs.RecordLines.{count, words}
 use Rattle.faults.specs.declared.fault.ToolFault.{ToolFault}
 use Rattle.faults.specs.declared.fault.ToolFault.TheVariants as fault
 use Rattle.page_code.specs.declared.Coding.TheVariants.{OneDim, T6}
+use Rattle.page_files.specs.Unread.{rows_line}
+use Rattle.page_files.specs.declared.no_eols.NoEols.{NoEols}
 use Rattle.page_files.specs.declared.options.PageForm.{PageForm}
 use Rattle.raster.specs.declared.packed.Order.TheVariants.{LsbFirst, MsbFirst}
 use Rattle.commands.specs.Damaged.{is_page_in}
-use Rattle.commands.specs.Each.{each_text, file_record}
+use Rattle.commands.specs.Each.{each_text, file_record, rows_words}
 use Rattle.commands.specs.Listed.{end_octet, without_end}
 use Rattle.commands.specs.Names.{shown_name, untold_name}
 use Rattle.commands.specs.PageFacts.{page_record}
@@ -40,6 +42,9 @@ pub record LinesByEnd : Type 0 where
       (codes "a: page 3 is not read: fault 12 at bit 7; a page after it is not looked for\n")
   pub not_written : IsLine (file.NotWritten 5 (fault.No 8)) (codes "a: page 5 is not written: fault 8\n")
   pub two_dims : IsLine file.TwoDims (codes "a: not read: T.4 in two dimensions (MR)\n")
+  pub no_eols : IsLine (file.NoEols (record { order = LsbFirst; width = 1728; rows = 12 }))
+      (codes "a: T.4 without EOLs (TIFF compression 2), least significant bit first, width 1728, 12 rows: not read; try tiffcp -c g4 on its TIFF\n")
+  pub as_identify : (said : NoEols) → rows_words said ++ codes "\n" ≡ rows_line said
   pub no_width : IsLine file.NoWidth (codes "a: the width is not known: identify names several; give one of them by --width\n")
   pub nothing : IsLine file.Nothing (codes "a: not read: identify may tell what it is\n")
   pub failed : IsLine (file.Failed (fault.No 32)) (codes "a: fault 32\n")

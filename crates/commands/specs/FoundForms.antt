@@ -6,9 +6,10 @@ use Rattle.page_files.specs.Sources.{IsPageIn}
 use Rattle.page_files.specs.declared.found.Found.{Found}
 use Rattle.page_files.specs.declared.found.Found.TheVariants as found
 use Rattle.page_files.specs.declared.options.PageForm.{PageForm}
-use Rattle.page_files.specs.declared.two_dim.TwoDim.{TwoDim}
-use Rattle.commands.specs.Damaged.{AreTwoDims, is_damaged_page}
+use Rattle.commands.specs.Damaged.{AreUnread, is_damaged_page}
 use Rattle.commands.specs.Several.{bits_in}
+use Rattle.commands.specs.declared.damaged.Unread.{Unread}
+use Rattle.commands.specs.declared.damaged.Unread.TheVariants as unread
 use Rattle.commands.specs.declared.decode.found_form.Way.{Way}
 use Rattle.commands.specs.declared.decode.ends.FileEnd.{FileEnd}
 use Rattle.commands.specs.declared.decode.ends.FileEnd.TheVariants as file
@@ -17,9 +18,14 @@ use Rattle.commands.specs.declared.decode.ends.FileEnd.TheVariants as file
 abbrev pub lined : Bool → PageForm → PageForm
 lined fine form = record form { fine = fine }
 
--- The form in which octets are decoded that are this, and T.4 in two dimensions or not, or what is said of octets that aren't decoded.
-abbrev pub form_by : Bool → Option TwoDim → Found → Result PageForm FileEnd
-form_by fine (Some said) what = Err file.TwoDims
+-- what is said of octets that are this, which isn't read
+abbrev pub unread_end : Unread → FileEnd
+unread_end (unread.TwoDims said) = file.TwoDims
+unread_end (unread.NoEols said) = file.NoEols said
+
+-- The form in which octets are decoded that are this, and perhaps something that isn't read, or what is said of octets that aren't decoded.
+abbrev pub form_by : Bool → Option Unread → Found → Result PageForm FileEnd
+form_by fine (Some said) what = Err (unread_end said)
 form_by fine None (found.Page way) = Ok (lined fine way.form)
 form_by fine None (found.Begun way) = if is_damaged_page way then Ok (lined fine way.form) else Err file.Nothing
 form_by fine None (found.Format name) = Err (file.NoFax name)
@@ -28,8 +34,8 @@ form_by fine None found.Nothing = Err file.Nothing
 
 -- octets are identified, by a likely width if one is given, and this is how they are decoded then
 abbrev pub IsFoundForm : Option ℕ → Bool → List ℕ → Result PageForm FileEnd → Type 0
-IsFoundForm likely fine octets form = (what : Found) × (two_dims : Option TwoDim) × FindsBy likely octets what
-    × AreTwoDims octets what two_dims × (form ≡ form_by fine two_dims what)
+IsFoundForm likely fine octets form = (what : Found) × (said : Option Unread) × FindsBy likely octets what
+    × AreUnread octets what said × (form ≡ form_by fine said what)
 
 -- the bits of the first page's code, if octets are a page that is read to its end
 abbrev pub used_in : Found → Option ℕ

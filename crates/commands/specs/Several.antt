@@ -1,20 +1,14 @@
--- What `identify` of several files gives: whether it is known what each of them is.
-use Rattle.std.specs.Prelude.{ℕ, zero, suc, ◌≡◌, ◌⊎◌, ◌&&◌, Bool, true, false, List, Option, Some, None, Result, Ok, Err, codes}
-use Rattle.std.specs.Prelude.{if◌then◌else◌, length, unwrap_or}
+-- What octets are: whether that is known, and the record of it.
+use Rattle.std.specs.Prelude.{ℕ, Bool, true, false, Option, Some, None, Result, Ok, Err, codes, if◌then◌else◌, unwrap_or}
 use Rattle.serde_json.specs.Data.{Data, Members, null, object, put}
-use Rattle.command_files.specs.Runs.{completeness_of}
-use Rattle.command_files.specs.declared.command.Completeness.{Completeness}
-use Rattle.commands.specs.Damaged.{is_damaged_page}
+use Rattle.commands.specs.Damaged.{format_name, is_damaged_page}
 use Rattle.commands.specs.PageFacts.{code_word, maybe_count, order_word}
-use Rattle.commands.specs.declared.identify.several.SeveralCommand.{SeveralCommand}
-use Rattle.faults.specs.Faults.{IsOutside}
+use Rattle.commands.specs.declared.damaged.Unread.{Unread}
 use Rattle.faults.specs.RecordLines.{count, words}
 use Rattle.faults.specs.declared.fault.ToolFault.{ToolFault}
-use Rattle.page_files.specs.Found.{Finds}
 use Rattle.page_files.specs.declared.found.Found.{Found}
 use Rattle.page_files.specs.declared.found.Found.TheVariants as found
 use Rattle.page_files.specs.declared.identify.Tried.{Tried}
-use Rattle.page_files.specs.declared.two_dim.TwoDim.{TwoDim}
 
 -- it is known what octets are: a format, or a page that reads in one way
 abbrev pub is_known : Found → Bool
@@ -24,25 +18,10 @@ is_known (found.Begun way) = false
 is_known found.Several = false
 is_known found.Nothing = false
 
--- it is known what a file is, or not, by what its octets are; or it can't be read
-abbrev pub IsKnownSo : Bool → Type 0
-IsKnownSo known = ((octets : List ℕ) × (what : Found) × Finds octets what × (known ≡ is_known what)) ⊎ (known ≡ false)
-
--- it is known what each of so many files is, or not
-abbrev pub AreKnownSo : ℕ → Bool → Type 0
-AreKnownSo zero known = known ≡ true
-AreKnownSo (suc files) known = (before : Bool) × (last : Bool) × AreKnownSo files before × IsKnownSo last × (known ≡ (before && last))
-
--- a line was printed of each file, and all was done if it is known what each is; or standard output failed, or memory
-abbrev pub SeveralGives : SeveralCommand → Result Completeness ToolFault → Type 0
-SeveralGives command (Ok completeness) = (known : Bool) × AreKnownSo (length command.files.items) known
-    × (completeness ≡ completeness_of known)
-SeveralGives command (Err fault) = IsOutside fault
-
 -- ---- records
 
 -- the way in which octets are read as a page, if they are one, or a damaged one
-abbrev pub way_of : Option TwoDim → Found → Option Tried
+abbrev pub way_of : Option Unread → Found → Option Tried
 way_of (Some said) what = None
 way_of None (found.Format name) = None
 way_of None (found.Page way) = Some way
@@ -50,9 +29,9 @@ way_of None (found.Begun way) = if is_damaged_page way then Some way else None
 way_of None found.Several = None
 way_of None found.Nothing = None
 
--- the name of the format of octets that aren't read: MR is T.4 in two dimensions
-abbrev pub format_of : Option TwoDim → Found → Data
-format_of (Some said) what = words (codes "MR")
+-- the name of the format of octets that aren't read
+abbrev pub format_of : Option Unread → Found → Data
+format_of (Some said) what = words (format_name said)
 format_of None (found.Format name) = words name.now
 format_of None (found.Page way) = null
 format_of None (found.Begun way) = null
@@ -74,10 +53,10 @@ with_way_found (Some way) members = put (codes "width") (count way.form.width)
     (put (codes "code") (words (code_word way.form.coding)) (put (codes "bits") (maybe_count (bits_in way.end)) members))))
 
 -- members with what octets are
-abbrev pub with_found : Option TwoDim → Found → Members → Members
-with_found two_dims what members = put (codes "not_read") (format_of two_dims what) (with_way_found (way_of two_dims what) members)
+abbrev pub with_found : Option Unread → Found → Members → Members
+with_found unread what members = put (codes "not_read") (format_of unread what) (with_way_found (way_of unread what) members)
 
--- a record with what octets are, which are T.4 in two dimensions or not
-abbrev pub record_with_found : Option TwoDim → Found → Data → Data
-record_with_found two_dims what (object members) = object (with_found two_dims what members)
-record_with_found two_dims what other = other
+-- a record with what octets are, and perhaps what they are that isn't read
+abbrev pub record_with_found : Option Unread → Found → Data → Data
+record_with_found unread what (object members) = object (with_found unread what members)
+record_with_found unread what other = other

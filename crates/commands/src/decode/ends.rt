@@ -2,9 +2,12 @@
 
 ghost use Rattle.commands.specs.Each.{after_words, ends_whole, fault_of};
 ghost use Rattle.commands.specs.Pages.{end_of_pages};
+ghost use Rattle.page_files.specs.Identified.{order_name};
 ghost use Rattle.std.specs.Prelude.{◌≡◌};
 
 use faults::ToolFault;
+use page_files::NoEols;
+use run_tables::Order;
 use std::fmt;
 
 /// How far a file was decoded.
@@ -36,6 +39,8 @@ pub(crate) enum FileEnd {
     NoFax(&'static str),
     /// It is T.4 in two dimensions (MR), which isn't read.
     TwoDims,
+    /// It is rows of T.4 without EOLs, which aren't read.
+    NoEols(NoEols),
     /// It reads as a page in several widths.
     NoWidth,
     /// It is neither a page nor a known format.
@@ -54,6 +59,16 @@ fn after_words(is_last: bool) -> &'static str
         ""
     } else {
         "; a page after it is not looked for"
+    }
+}
+
+/// Returns the name of an order of bits, as `identify` writes it.
+fn order_name(order: Order) -> &'static str
+    ensures { result.now ≡ order_name order }
+{
+    match order {
+        Order::MsbFirst => "most significant bit first",
+        Order::LsbFirst => "least significant bit first",
     }
 }
 
@@ -86,6 +101,7 @@ impl FileEnd {
             | FileEnd::NotWritten { .. }
             | FileEnd::NoFax(_)
             | FileEnd::TwoDims
+            | FileEnd::NoEols(_)
             | FileEnd::NoWidth
             | FileEnd::Nothing
             | FileEnd::NoText
@@ -109,6 +125,7 @@ impl FileEnd {
             | FileEnd::Repaired(..)
             | FileEnd::NoFax(_)
             | FileEnd::TwoDims
+            | FileEnd::NoEols(_)
             | FileEnd::NoWidth
             | FileEnd::Nothing
             | FileEnd::NoText => None,
@@ -147,6 +164,13 @@ impl fmt::Display for FileEnd {
             }
             FileEnd::NoFax(name) => write!(f, "no fax: {name}"),
             FileEnd::TwoDims => write!(f, "not read: T.4 in two dimensions (MR)"),
+            FileEnd::NoEols(NoEols { order, width, rows }) => {
+                let order = order_name(*order);
+                write!(
+                    f,
+                    "T.4 without EOLs (TIFF compression 2), {order}, width {width}, {rows} rows: not read; try tiffcp -c g4 on its TIFF"
+                )
+            }
             FileEnd::NoWidth => write!(
                 f,
                 "the width is not known: identify names several; give one of them by --width"

@@ -1,16 +1,16 @@
 //! How octets are decoded: as is given, or else as `identify` says it.
 
-ghost use Rattle.commands.specs.FoundForms.{BeginsSo, IsFormOf, IsFoundForm, form_by, form_in, given_width, lined, used_in};
+ghost use Rattle.commands.specs.FoundForms.{BeginsSo, IsFormOf, IsFoundForm, form_by, form_in, given_width, lined, unread_end, used_in};
 ghost use Rattle.faults.specs.Faults.{IsOutside};
 ghost use Rattle.page_files.specs.Found.{HasItsWidth};
 ghost use Rattle.raster.specs.Pixels.{IsWidth};
 ghost use Rattle.std.specs.Prelude.{◌≡◌, IfErr, IfOk, IfSome};
 
-use crate::damaged::{is_damaged_page, two_dims_of};
+use crate::damaged::{Unread, is_damaged_page, unread_of};
 use crate::decode::ends::FileEnd;
 use crate::identify::several::bits_in;
 use faults::ToolFault;
-use page_files::{Found, FoundPage, PageForm, TwoDim, find_way_by};
+use page_files::{Found, FoundPage, PageForm, find_way_by};
 use std::alloc::Global;
 
 /// Returns a way to read pages, with the lines that are asked for.
@@ -20,15 +20,25 @@ fn lined(fine: bool, form: PageForm) -> PageForm
     PageForm { fine, ..form }
 }
 
-/// Returns the form in which octets are decoded that are this, and T.4 in two dimensions or not; or what is said of octets that aren't
+/// Returns what is said of octets that are this, which isn't read.
+fn unread_end(unread: Unread) -> FileEnd
+    ensures { result ≡ unread_end unread }
+{
+    match unread {
+        Unread::TwoDims(_) => FileEnd::TwoDims,
+        Unread::NoEols(said) => FileEnd::NoEols(said),
+    }
+}
+
+/// Returns the form in which octets are decoded that are this, and perhaps something that isn't read; or what is said of octets that aren't
 /// decoded.
-fn form_by(fine: bool, two_dims: Option<TwoDim>, found: Found) -> Result<PageForm, FileEnd>
+fn form_by(fine: bool, unread: Option<Unread>, found: Found) -> Result<PageForm, FileEnd>
     requires { HasItsWidth found }
-    ensures form { result ≡ form_by fine two_dims found }
+    ensures form { result ≡ form_by fine unread found }
     ensures width { IfOk result (λ form. IsWidth form.width) }
 {
-    if two_dims.is_some() {
-        return Err(FileEnd::TwoDims);
+    if let Some(said) = unread {
+        return Err(unread_end(said));
     }
     match found {
         Found::Page(way) => Ok(lined(fine, way.form)),
@@ -93,8 +103,8 @@ fn found_form(
     ensures fault { IfErr result IsOutside }
 {
     let (found, page) = find_way_by(alloc, octets, likely)?;
-    let two_dims = two_dims_of(octets, &found);
-    match form_by(fine, two_dims, found) {
+    let unread = unread_of(alloc, octets, &found)?;
+    match form_by(fine, unread, found) {
         Ok(form) => {
             let used = used_in(&found);
             Ok(Ok(Way { form, used, page }))
