@@ -15,6 +15,7 @@ use Rattle.page_files.specs.declared.identify.Tried.{Tried}
 use Rattle.page_files.specs.declared.options.PageForm.{PageForm}
 use Rattle.std.specs.Path.{path_components}
 use Rattle.commands.specs.Several.{bits_in, format_of, record_with_found, way_of, with_way_found}
+use Rattle.commands.specs.SeveralLines.{known_record}
 use Rattle.commands.specs.Each.{each_record, fault_of, fault_record, file_record, is_silent, left_out, not_read, pages_in, plain_record}
 use Rattle.commands.specs.Each.{record_by, with_pages}
 use Rattle.commands.specs.Places.{file_name, is_left_out, left_out_part}
@@ -210,6 +211,12 @@ way_found_whole (Some way) ms rest =
     (put_whole (codes "order") (words (order_word way.form.order)) two refl
     (put_whole (codes "code") (words (code_word way.form.coding)) one refl
     (put_whole (codes "bits") bits ms (maybe_count_whole (bits_in way.end)) rest))))
+
+pub known_whole : (name is : List ℕ) (known : Bool) (fault : Option ToolFault) (text : Option (List ℕ))
+    → has_float (known_record name is known fault text) ≡ false
+known_whole name is known None text = refl
+known_whole name is known (Some fault) None = refl
+known_whole name is known (Some fault) (Some text) = refl
 
 pub found_whole : (unread : Option Unread) (what : Found) (made : Data) → has_float made ≡ false
     → has_float (record_with_found unread what made) ≡ false

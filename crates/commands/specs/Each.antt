@@ -1,6 +1,6 @@
 -- What `decode --each` gives of each file, and what it says of it.
 use Rattle.std.specs.Prelude.{ℕ, zero, suc, ◌≡◌, ◌≢◌, ◌≤◌, ◌⊎◌, ◌+◌, ◌++◌, ◌∷◌, ◌&&◌, ◌||◌, Bool, true, false, List, [], Option, Some, None, Result, Ok, Err}
-use Rattle.std.specs.Prelude.{◌==◌, codes, cond, length}
+use Rattle.std.specs.Prelude.{◌==◌, codes, cond, length, map, string_bytes}
 use Rattle.std.specs.Fmt.{decimal}
 use Rattle.serde_json.specs.View.{items_of}
 use Rattle.serde_json.specs.Data.{Data, array, boolean, member, no_items, no_members, null, object, put}
@@ -8,7 +8,7 @@ use Rattle.command_files.specs.Runs.{completeness_of}
 use Rattle.command_files.specs.declared.command.Completeness.{Completeness}
 use Rattle.faults.specs.FaultKinds.{kind_of, number_of}
 use Rattle.faults.specs.Faults.{IsOutside, fault_text}
-use Rattle.faults.specs.RecordLines.{count, words}
+use Rattle.faults.specs.RecordLines.{count, record_line, words}
 use Rattle.faults.specs.declared.fault.ToolFault.{ToolFault}
 use Rattle.page_files.specs.LaterPages.{asks_damaged}
 use Rattle.page_files.specs.Identified.{order_name}
@@ -17,10 +17,11 @@ use Rattle.page_files.specs.declared.options.DecodeOptions.{DecodeOptions}
 use Rattle.page_files.specs.declared.options.PageForm.{PageForm}
 use Rattle.commands.specs.Damaged.{format_name}
 use Rattle.commands.specs.FoundForms.{IsFormOf}
-use Rattle.commands.specs.Names.{shown_name}
+use Rattle.commands.specs.Names.{record_name, shown_name}
 use Rattle.commands.specs.Places.{has_left_out, left_out_words}
 use Rattle.commands.specs.PageFacts.{has_images, page_records}
 use Rattle.commands.specs.Pages.{GoesOn, IsPageReport, broken_line, file_end, have_damage, page_lines, with_front}
+use Rattle.commands.specs.Printed.{ArePrinted, PrintsAll}
 use Rattle.commands.specs.declared.damaged.Unread.{Unread}
 use Rattle.commands.specs.declared.damaged.Unread.TheVariants as unread
 use Rattle.commands.specs.declared.decode.each.EachCommand.{EachCommand}
@@ -102,23 +103,6 @@ EndsIn command octets report = (form : Result PageForm FileEnd) × IsFormOf comm
 abbrev pub IsFileReport : EachCommand → FileReport → Type 0
 IsFileReport command report = ((octets : List ℕ) × (length octets ≤ command.most_octets) × EndsIn command octets report)
     ⊎ (IsSaid file.NoText report ⊎ ((fault : ToolFault) × IsSaid (file.Failed fault) report))
-
--- a file has a report, which is complete or not
-abbrev pub IsReported : EachCommand → Bool → Type 0
-IsReported command complete = (report : FileReport) × IsFileReport command report × (complete ≡ report.is_complete)
-
--- each of so many files has a report, and whether all are complete
-abbrev pub AllEndSo : EachCommand → ℕ → Bool → Type 0
-AllEndSo command zero complete = complete ≡ true
-AllEndSo command (suc files) complete = (before last : Bool) × AllEndSo command files before × IsReported command last
-    × (complete ≡ (before && last))
-
--- all files of a command have reports, those that it names and so many that its list names, and all was done if all are complete; or
--- standard output failed, or the list, or memory
-abbrev pub EachGives : EachCommand → Result Completeness ToolFault → Type 0
-EachGives command (Ok completeness) = (complete : Bool) × (listed : ℕ) × AllEndSo command (length command.files.items + listed) complete
-    × (command.list ≡ None → listed ≡ 0) × (completeness ≡ completeness_of complete)
-EachGives command (Err fault) = IsOutside fault
 
 -- ---- what is said
 
@@ -238,3 +222,37 @@ with_pages left format pages other = other
 abbrev pub each_record : List ℕ → FileReport → Option (List ℕ) → Data
 each_record name report text = with_pages (left_out name (has_images report.pages.items)) (not_read report.end)
     (pages_in report.form report.pages.items) (file_record name report.end report.told.items text)
+
+-- ---- what is printed
+
+-- what is printed of a file of this name: a record, or lines
+abbrev pub report_text : Bool → List ℕ → FileReport → Option (List ℕ) → List ℕ
+report_text true name report text = record_line (each_record (record_name name) report text)
+report_text false name report text = each_text name report.end report.told.items (has_images report.pages.items) text
+
+-- the words of a fault, which may be shown, or none of a file that has no fault
+abbrev pub MayHaveWords : FileEnd → Option (List ℕ) → Type 0
+MayHaveWords end text = fault_of end ≡ None → text ≡ None
+
+-- these octets are printed of a file of this name, whose report is complete or not
+abbrev pub IsReported : EachCommand → Bool → List ℕ → List ℕ → Bool → Type 0
+IsReported command json name printed complete = (report : FileReport) × (text : Option (List ℕ)) × IsFileReport command report
+    × MayHaveWords report.end text × (printed ≡ report_text json name report text) × (complete ≡ report.is_complete)
+
+-- the files that a command names, and then those of its list
+abbrev pub names_of : EachCommand → List (List ℕ) → List (List ℕ)
+names_of command listed = map string_bytes command.files.items ++ listed
+
+-- a writer gets what is printed of all files of a command, those that it names and those that its list names, and nothing else
+abbrev pub PrintsEach : EachCommand → Bool → Option (List ℕ) → Option (List ℕ) → Bool → Type 0
+PrintsEach command json before after complete = (listed : List (List ℕ)) × PrintsAll (IsReported command json) (names_of command listed) before after complete
+    × (command.list ≡ None → listed ≡ [])
+
+-- What is reported of each file was printed, of those that a command names and then of those that its list names, in their order, as lines or
+-- as records; and all was done if all are complete. Or standard output failed, or the list, or memory. That these octets are what standard
+-- output got is said of the function that prints them, over any writer.
+abbrev pub EachGives : EachCommand → Result Completeness ToolFault → Type 0
+EachGives command (Ok completeness) = (json complete : Bool) × (listed : List (List ℕ)) × (text : List ℕ)
+    × ArePrinted (IsReported command json) (names_of command listed) text complete × (command.list ≡ None → listed ≡ [])
+    × (completeness ≡ completeness_of complete)
+EachGives command (Err fault) = IsOutside fault

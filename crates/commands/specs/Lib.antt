@@ -12,5 +12,8 @@ pub mod Names
 pub mod PageFacts
 pub mod Pages
 pub mod Places
+pub mod Printed
+pub mod PrintedRows
 pub mod Runs
 pub mod Several
+pub mod SeveralLines

@@ -42,3 +42,8 @@ as_octet octet = if nat_lt octet 32 || nat_le 127 octet then hex_escape octet
 -- what is in place of a name of these octets, which isn't UTF-8
 abbrev pub untold_name : List ℕ → List ℕ
 untold_name octets = 0 ∷ flat_map as_octet octets
+
+-- a file's name as records have it: itself, or as lines have it if it isn't UTF-8
+abbrev pub record_name : List ℕ → List ℕ
+record_name [] = []
+record_name (first ∷ octets) = if nat_eq first 0 then octets else first ∷ octets

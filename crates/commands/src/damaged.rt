@@ -67,7 +67,7 @@ pub(crate) fn format_name(unread: Unread) -> &'static str
 }
 
 /// Returns whether octets that are this are no page, not even a damaged one, and no known format.
-fn is_unknown(found: &Found) -> bool
+pub(crate) fn is_unknown(found: &Found) -> bool
     ensures { result ≡ is_unknown found.now }
 {
     match found {

@@ -175,7 +175,9 @@ impl DecodeCommand {
         ensures { IfErr result IsOutside }
     {
         let report = FileReport::of(context.alloc(), end);
-        let lines = report_lines(context, self.input.as_str(), &report, None)?;
+        let json = context.is_json();
+        let name = self.input.as_str();
+        let lines = report_lines(context.alloc(), json, name, &report, None)?;
         context.streams().tell(lines.as_slice())?;
         Ok(())
     }

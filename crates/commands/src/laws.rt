@@ -3,6 +3,7 @@
 ghost use Rattle.commands.specs.EachRows.{EndsByPage, ImagesByName, LinesBelow, LinesByEnd};
 ghost use Rattle.commands.specs.EachRows.{NamesByOctets, PagesByRecords, RowsAreEnough};
 ghost use Rattle.commands.specs.Laws.{OnePageAsDecode};
+ghost use Rattle.commands.specs.PrintedRows.{PrintedInOrder, SaidByLines, UnreadByKind};
 
 /// What `decode --each` reports of a file of one page is what `decode` with the same options gives of it.
 pub fn one_page_as_decode()
@@ -30,4 +31,11 @@ pub fn ends_by_pages()
 /// The records of pages and files, as JSON.
 pub fn pages_by_records()
     ensures { PagesByRecords }
+{}
+
+/// What is printed of several files, and what `identify` prints of one.
+pub fn printed_by_files()
+    ensures order { PrintedInOrder }
+    ensures lines { SaidByLines }
+    ensures unread { UnreadByKind }
 {}

@@ -1,7 +1,8 @@
 //! The names of files as lines have them: on one line, whatever octets they have.
 
-ghost use Rattle.commands.specs.Names.{as_octet, as_shown, escaped_after, hex_escape, is_untold, shown_name, untold_name};
-ghost use Rattle.std.specs.Prelude.{◌≡◌, ◌++◌, IfOk, OnOk};
+ghost use Rattle.commands.specs.Names.{as_octet, as_shown, escaped_after, hex_escape, is_untold, record_name, shown_name};
+ghost use Rattle.commands.specs.Names.{untold_name};
+ghost use Rattle.std.specs.Prelude.{◌≡◌, ◌++◌, IfOk, OnOk, string_bytes};
 
 use std::alloc::{AllocError, Global};
 
@@ -89,11 +90,19 @@ pub fn shown_text(alloc: Global, name: &str) -> Result<String, AllocError> {
 }
 
 /// Returns a file's name as records have it: itself, which JSON escapes, or as lines have it if it isn't UTF-8. Errors: memory was refused.
-pub(crate) fn record_name(alloc: Global, name: &str) -> Result<String, AllocError> {
-    if is_untold(name) {
-        return shown_text(alloc, name);
+#[tactic(auto, using(crate::proofs::FirstLines::own_name, crate::proofs::FirstLines::shown_in_record, crate::proofs::FirstLines::untold_utf8))]
+pub(crate) fn record_name(alloc: Global, name: &str) -> Result<String, AllocError>
+    ensures { IfOk result (λ text. string_bytes text ≡ record_name name.now) }
+{
+    if !is_untold(name) {
+        return String::from_str(alloc, name);
     }
-    String::from_str(alloc, name)
+    let shown = shown_name(alloc, name)?;
+    let Ok(text) = str::from_utf8(shown.as_slice()) else {
+        // it is UTF-8, since the name is
+        return String::from_str(alloc, "a file");
+    };
+    String::from_str(alloc, text)
 }
 
 /// Appends what an octet shows of a name that isn't UTF-8.

@@ -8,7 +8,7 @@ use Rattle.commands.specs.Files.{captures_files, code_files, decode_files, drive
 use Rattle.commands.specs.Files.{script_files, several_files, show_files}
 use Rattle.commands.specs.Judge.{JudgeGives, judge_files}
 use Rattle.commands.specs.Runs.{CodeGives, DecodeGives, DriveGives, IdentifyGives, ScriptGives, ShowGives, VersionGives}
-use Rattle.commands.specs.Several.{SeveralGives}
+use Rattle.commands.specs.SeveralLines.{SeveralGives}
 use Rattle.station_commands.specs.Files.{answer_files, dial_files}
 use Rattle.station_commands.specs.Talks.{AnswerGives, DialGives}
 use Rattle.faxtool.specs.Apart.{AreNamedApart, SaysNotApart}

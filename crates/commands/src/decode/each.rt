@@ -4,15 +4,17 @@ ghost use Rattle.command_files.specs.Apart.{AddsFiles};
 ghost use Rattle.commands.specs.Files.{file_read, list_read};
 ghost use Rattle.commands.specs.FoundForms.{given_width};
 ghost use Rattle.commands.specs.Listed.{lists_itself};
-ghost use Rattle.commands.specs.Each.{AllEndSo, EndsIn, IsFileReport, IsReported, as_lines};
+ghost use Rattle.commands.specs.Each.{EndsIn, IsFileReport, IsReported, PrintsEach, as_lines, fault_of};
+ghost use Rattle.commands.specs.Printed.{PrintsMore, PrintsOne};
 ghost use Rattle.faults.specs.Faults.{IsOutside, IsUnread};
 ghost use Rattle.raster.specs.Pixels.{IsWidth};
-ghost use Rattle.std.specs.Prelude.{◌≡◌, ◌≤◌, ◌+◌, ℕ, List, IfErr, IfOk, IfSome, None, OnOk, false, flat_map, length, true};
+ghost use Rattle.std.specs.Prelude.{◌≡◌, ◌≤◌, ℕ, List, IfErr, IfOk, IfSome, None, OnOk, false, flat_map, length, true};
 
 pub(crate) mod facts;
 mod listed;
 mod pages;
 mod places;
+mod printer;
 pub(crate) mod report;
 mod tally;
 
@@ -20,7 +22,8 @@ pub use crate::decode::each::listed::NameList;
 use crate::decode::each::listed::Names as ListedNames;
 use crate::decode::each::pages::{PagesOf, decode_pages};
 use crate::decode::each::places::{page_name, place_under};
-use crate::decode::each::report::{FileReport, tell_report};
+use crate::decode::each::printer::Printer;
+use crate::decode::each::report::{FileReport, report_lines};
 use crate::decode::each::tally::Tally;
 use crate::decode::ends::FileEnd;
 use crate::decode::found_form::{FormAsked, form_of};
@@ -32,11 +35,12 @@ use command_files::files::STANDARD;
 use command_files::files::apart::CommandFiles;
 use command_files::files::bounded::{Ways, read_coded};
 use command_files::files::output::{check_folder, sync_names};
+use command_files::files::printed::{end_print, print};
 use command_files::files::progress::Watch;
 use faults::{FAILED, TOO_MANY_OCTETS, ToolFault};
 use page_files::{DecodeOptions, PageForm};
 use std::alloc::AllocError;
-use std::io::ErrorKind;
+use std::io::{ErrorKind, Write};
 
 /// Writes every page of many files as images.
 #[derive(Debug, PartialEq, Eq, Drop)]
@@ -95,10 +99,16 @@ impl Runs for EachCommand {
     // A file that fails doesn't stop the others: its line says so.
     fn run(&self, context: &mut Context<'_>) -> Result<Completeness, ToolFault> {
         check_folder(context, self.folder.as_str(), Part::Output)?;
-        let mut tally = Tally::new(context.rt());
-        let done = self.do_all(context, &mut tally);
-        tally.end();
+        let mut printer = Printer {
+            writer: print(context)?,
+            tally: Tally::new(context.rt()),
+            json: context.is_json(),
+        };
+        let done = self.do_all(context, &mut printer);
+        printer.tally.end();
+        let printed = end_print(context, printer.writer, done.is_ok());
         let are_complete = done?;
+        printed?;
         Ok(Completeness::of(are_complete))
     }
 }
@@ -125,35 +135,39 @@ impl EachCommand {
     }
 
     /// Does all files, those that are named and those of the list, and returns whether all are complete. Errors: those of `do_listed`.
-    fn do_all(&self, context: &mut Context<'_>, tally: &mut Tally<'_>) -> Result<bool, ToolFault>
+    fn do_all<W: Write>(
+        &self,
+        context: &mut Context<'_>,
+        printer: &mut Printer<'_, W>,
+    ) -> Result<bool, ToolFault>
         requires { IfSome (given_width self.now.form self.now.likely) IsWidth }
-        ensures complete { IfOk result (λ complete. (listed : ℕ)
-            × AllEndSo self.now (length self.now.files.items + listed) complete × (self.now.list ≡ None → listed ≡ 0)) }
+        ensures complete { IfOk result (PrintsEach self.now printer.old.json
+            (W.contents printer.old.writer) (W.contents printer.new.writer)) }
         ensures fault { IfErr result IsOutside }
     {
         let mut is_complete = true;
         for name in &self.files {
-            let is_done = self.do_file(context, name.as_str(), tally)?;
+            let is_done = self.do_file(context, name.as_str(), printer)?;
             is_complete = both(is_complete, is_done);
         }
-        self.do_listed(context, is_complete, tally)
+        self.do_listed(context, is_complete, printer)
     }
 
     /// Does the files of the list, if there is one, after those before it, and returns whether all are complete. Errors: those of `do_list`.
-    fn do_listed(
+    fn do_listed<W: Write>(
         &self,
         context: &mut Context<'_>,
         before: bool,
-        tally: &mut Tally<'_>,
+        printer: &mut Printer<'_, W>,
     ) -> Result<bool, ToolFault>
         requires { IfSome (given_width self.now.form self.now.likely) IsWidth }
-        ensures complete { (files : ℕ) → AllEndSo self.now files before → IfOk result (λ complete. (listed : ℕ)
-            × AllEndSo self.now (files + listed) complete × (self.now.list ≡ None → listed ≡ 0)) }
+        ensures complete { IfOk result (PrintsMore (IsReported self.now printer.old.json) (self.now.list ≡ None) before
+            (W.contents printer.old.writer) (W.contents printer.new.writer)) }
         ensures fault { IfErr result IsOutside }
     {
         match &self.list {
             Some(list) => {
-                let are_complete = self.do_list(context, list, before, tally)?;
+                let are_complete = self.do_list(context, list, before, printer)?;
                 Ok(are_complete)
             }
             None => Ok(before),
@@ -162,37 +176,38 @@ impl EachCommand {
 
     /// Does a file of a list, unless the name is empty, after those before it, and returns whether all are complete. Errors: those of
     /// `do_file`.
-    fn do_next(
+    fn do_next<W: Write>(
         &self,
         context: &mut Context<'_>,
         name: &str,
         before: bool,
-        tally: &mut Tally<'_>,
+        printer: &mut Printer<'_, W>,
     ) -> Result<bool, ToolFault>
         requires { IfSome (given_width self.now.form self.now.likely) IsWidth }
-        ensures complete { (files : ℕ) → AllEndSo self.now files before
-            → IfOk result (λ complete. (listed : ℕ) × AllEndSo self.now (files + listed) complete) }
+        ensures complete { IfOk result (PrintsMore (IsReported self.now printer.old.json) ⊥ before
+            (W.contents printer.old.writer) (W.contents printer.new.writer)) }
+        ensures json { printer.new.json ≡ printer.old.json }
         ensures fault { IfErr result IsOutside }
     {
         if name.is_empty() {
             return Ok(before);
         }
-        let is_done = self.do_file(context, name, tally)?;
+        let is_done = self.do_file(context, name, printer)?;
         Ok(both(before, is_done))
     }
 
     /// Does the files of a list after those before it, and returns whether all are complete. Errors: `Io` (8) if the list can't be read,
     /// and that is noted, or if something can't be printed; `NoMemory` (9).
-    fn do_list(
+    fn do_list<W: Write>(
         &self,
         context: &mut Context<'_>,
         list: &NameList,
         before: bool,
-        tally: &mut Tally<'_>,
+        printer: &mut Printer<'_, W>,
     ) -> Result<bool, ToolFault>
         requires { IfSome (given_width self.now.form self.now.likely) IsWidth }
-        ensures complete { (files : ℕ) → AllEndSo self.now files before
-            → IfOk result (λ complete. (listed : ℕ) × AllEndSo self.now (files + listed) complete) }
+        ensures complete { IfOk result (PrintsMore (IsReported self.now printer.old.json) ⊥ before
+            (W.contents printer.old.writer) (W.contents printer.new.writer)) }
         ensures fault { IfErr result IsOutside }
     {
         let mut names = ListedNames::open(context, list)?;
@@ -201,7 +216,7 @@ impl EachCommand {
             let Some(name) = names.next_in(context)? else {
                 return Ok(is_complete);
             };
-            let is_done = self.do_next(context, name.as_str(), is_complete, tally)?;
+            let is_done = self.do_next(context, name.as_str(), is_complete, printer)?;
             is_complete = is_done;
         }
         // no list has so many names
@@ -210,22 +225,24 @@ impl EachCommand {
 
     /// Decodes every page of a file, prints what is reported of it, and returns whether that is complete. Errors: `Io` (8) if it can't be
     /// printed, `NoMemory` (9).
-    fn do_file(
+    fn do_file<W: Write>(
         &self,
-        context: &mut Context<'_>,
+        context: &Context<'_>,
         name: &str,
-        tally: &mut Tally<'_>,
+        printer: &mut Printer<'_, W>,
     ) -> Result<bool, ToolFault>
         requires { IfSome (given_width self.now.form self.now.likely) IsWidth }
-        ensures complete { IfOk result (IsReported self.now) }
+        ensures complete { IfOk result (PrintsOne (IsReported self.now printer.old.json) name.now
+            (W.contents printer.old.writer) (W.contents printer.new.writer)) }
+        ensures json { printer.new.json ≡ printer.old.json }
         ensures fault { IfErr result IsOutside }
     {
         let mut own = context_of_file(context);
         let report = self.decode_file(&mut own, name);
         let words = self.words_of(&own, name, &report)?;
-        tally.step_aside();
-        tell_report(context, name, &report, words.as_deref())?;
-        tally.count(report.pages.len(), report.is_complete);
+        let lines = report_lines(own.alloc(), printer.json, name, &report, words.as_deref())?;
+        printer.say(lines.as_slice())?;
+        printer.tally.count(report.pages.len(), report.is_complete);
         Ok(report.is_complete)
     }
 
@@ -237,6 +254,7 @@ impl EachCommand {
         report: &FileReport,
     ) -> Result<Option<String>, AllocError>
         requires { IfSome report.now.form (λ form. IsWidth form.width) }
+        ensures { IfOk result (λ words. fault_of report.now.end ≡ None → words ≡ None) }
     {
         let alloc = own.alloc();
         let Some(fault) = report.end.fault() else {

@@ -1,12 +1,16 @@
 //! The command `identify` of several files, or with records: a line for each.
 
-ghost use Rattle.commands.specs.Several.{IsKnownSo, bits_in, format_of, is_known, record_with_found, way_of, with_way_found};
-ghost use Rattle.faults.specs.Faults.{IsOutside, IsUnread};
+ghost use Rattle.commands.specs.Printed.{PrintsAll, PrintsOne};
+ghost use Rattle.commands.specs.Several.{bits_in, format_of, is_known, record_with_found, way_of, with_way_found};
+ghost use Rattle.commands.specs.SeveralLines.{AreLines, IsSaid, IsSaidSo, IsTextOf, SaysNothing, SaysOctets, first_line, known_record, names_of};
+ghost use Rattle.commands.specs.SeveralLines.{or_no_page, said_data, said_text, unread_line};
+ghost use Rattle.commands.specs.Damaged.{is_unknown};
+ghost use Rattle.faults.specs.Faults.{IsOutside, IsUnread, fault_text};
+ghost use Rattle.faults.specs.RecordLines.{record_line};
 ghost use Rattle.serde_json.specs.View.{members_view, view};
-ghost use Rattle.serde_json.specs.Written.{has_float};
-ghost use Rattle.std.specs.Prelude.{◌≡◌, IfErr, IfOk, OnOk, false};
+ghost use Rattle.std.specs.Prelude.{◌≡◌, ◌++◌, List, ℕ, IfErr, IfOk, None, OnOk, Some, codes, option_map, string_bytes};
 
-use crate::damaged::{Unread, format_name, is_damaged_page, unread_of};
+use crate::damaged::{Unread, format_name, is_damaged_page, is_unknown, unread_of};
 use crate::decode::each::facts::{code_word, maybe_count, order_word};
 use crate::names::{is_untold, record_name, shown_name};
 use crate::words::{context_of_file, words_of_file};
@@ -14,7 +18,7 @@ use command_files::command::{Completeness, NO_NAMES, Names, Runs, both};
 use command_files::context::Context;
 use command_files::files::apart::CommandFiles;
 use command_files::files::bounded::{Ways, read_coded};
-use command_files::files::printed::say;
+use command_files::files::printed::{end_print, print};
 use command_files::files::progress::Watch;
 use faults::{ToolFault, write_record};
 use page_files::{
@@ -35,7 +39,7 @@ pub struct SeveralCommand {
 
 impl Runs for SeveralCommand {
     ghost use Rattle.std.specs.Prelude.{None};
-    ghost use Rattle.commands.specs.Several.{SeveralGives};
+    ghost use Rattle.commands.specs.SeveralLines.{SeveralGives};
     ghost use Rattle.commands.specs.Files.{several_files};
 
     ghost width = { λ command. None };
@@ -61,19 +65,36 @@ impl Runs for SeveralCommand {
 
     // A file that can't be read doesn't stop the others: its line has the fault.
     fn run(&self, context: &mut Context<'_>) -> Result<Completeness, ToolFault> {
-        let mut is_complete = true;
-        for name in &self.files {
-            let said = say_or_fault(context, name.as_str())?;
-            is_complete = both(is_complete, said.is_known);
-            tell(context, name.as_str(), self.records, &said)?;
-        }
+        let mut writer = print(context)?;
+        let told = self.tell_files(context, &mut writer);
+        let printed = end_print(context, writer, told.is_ok());
+        let is_complete = told?;
+        printed?;
         Ok(Completeness::of(is_complete))
+    }
+}
+
+impl SeveralCommand {
+    /// Prints the line or the record of each file, each at once, and returns whether it is known what all are. Errors: `Io` (8) from the
+    /// writer, `NoMemory` (9).
+    fn tell_files<W: Write>(&self, context: &Context<'_>, writer: &mut W) -> Result<bool, ToolFault>
+        ensures told { IfOk result
+            (PrintsAll (IsSaidSo self.now.records) (names_of self.now)
+            (W.contents writer.old) (W.contents writer.new)) }
+        ensures fault { IfErr result IsOutside }
+    {
+        let mut are_known = true;
+        for name in &self.files {
+            let is_known = tell_file(context, name.as_str(), self.records, writer)?;
+            are_known = both(are_known, is_known);
+        }
+        Ok(are_known)
     }
 }
 
 /// What is said of a file, with LF at the end, and whether it is known; its fault in words, if it has one and they are shown.
 #[derive(Drop)]
-struct Said {
+pub(crate) struct Said {
     text: Vec<u8>,
     found: Found,
     unread: Option<Unread>,
@@ -83,39 +104,59 @@ struct Said {
 }
 
 impl Said {
-    /// What is said of a file that has no fault.
-    fn of(text: Vec<u8>, found: Found, is_known: bool) -> Said
-        ensures { result.is_known ≡ is_known }
+    /// What is said of a file that isn't read, and has this fault or none.
+    fn of(text: Vec<u8>, fault: Option<ToolFault>, words: Option<String>) -> Said
+        ensures nothing { SaysNothing text.items fault result }
+        ensures words { result.words ≡ words }
     {
         Said {
             text,
-            found,
+            found: Found::Nothing,
             unread: None,
-            is_known,
-            fault: None,
-            words: None,
+            is_known: false,
+            fault,
+            words,
         }
     }
 }
 
 /// Returns a line. Errors: `NoMemory` (9).
 fn line_of(alloc: Global, words: &str) -> Result<Vec<u8>, ToolFault>
-    ensures { IfErr result IsOutside }
+    ensures line { IfOk result (λ line. line.items ≡ words.now ++ codes "\n") }
+    ensures fault { IfErr result IsOutside }
 {
     let mut text = Vec::new(alloc);
     writeln!(text, "{words}")?;
     Ok(text)
 }
 
-/// Returns what is said of a file, or its fault if it can't be read. Errors: `NoMemory` (9).
-fn say_or_fault(context: &Context<'_>, name: &str) -> Result<Said, ToolFault>
-    ensures known { IfOk result (λ said. IsKnownSo said.is_known) }
+/// Prints the line or the record of a file at once, and returns whether it is known what it is. Errors: `Io` (8) from the writer, `NoMemory`
+/// (9).
+fn tell_file<W: Write>(
+    context: &Context<'_>,
+    name: &str,
+    records: bool,
+    writer: &mut W,
+) -> Result<bool, ToolFault>
+    ensures told { IfOk result
+        (PrintsOne (IsSaidSo records) name.now (W.contents writer.old) (W.contents writer.new)) }
     ensures fault { IfErr result IsOutside }
 {
-    let alloc = context.alloc();
+    let said = say_or_fault(context, name)?;
+    let lines = said_lines(context.alloc(), name, records, &said)?;
+    writer.write_all(lines.as_slice())?;
+    writer.flush()?;
+    Ok(said.is_known)
+}
+
+/// Returns what is said of a file, or its fault if it can't be read. Errors: `NoMemory` (9).
+fn say_or_fault(context: &Context<'_>, name: &str) -> Result<Said, ToolFault>
+    ensures said { IfOk result (IsSaid name.now) }
+    ensures fault { IfErr result IsOutside }
+{
     if is_untold(name) {
-        let text = line_of(alloc, "its name isn't UTF-8")?;
-        return Ok(Said::of(text, Found::Nothing, false));
+        let text = line_of(context.alloc(), "its name isn't UTF-8")?;
+        return Ok(Said::of(text, None, None));
     }
     let mut own = context_of_file(context);
     match say_of(&mut own, name) {
@@ -126,20 +167,13 @@ fn say_or_fault(context: &Context<'_>, name: &str) -> Result<Said, ToolFault>
 
 /// Returns the fault of a file that can't be read. Errors: `NoMemory` (9).
 fn say_fault(own: &Context<'_>, name: &str, fault: ToolFault) -> Result<Said, ToolFault>
-    ensures known { IfOk result (λ said. said.is_known ≡ false) }
+    ensures said { IfOk result (SaysNothing (fault_text fault ++ codes "\n") (Some fault)) }
     ensures fault { IfErr result IsOutside }
 {
     let line = format!(in own.alloc(); "{fault}")?;
     let text = line_of(own.alloc(), line.as_str())?;
     let words = words_of_file(own, None, name, fault)?;
-    Ok(Said {
-        text,
-        found: Found::Nothing,
-        unread: None,
-        is_known: false,
-        fault: Some(fault),
-        words,
-    })
+    Ok(Said::of(text, Some(fault), words))
 }
 
 /// Returns whether it is known what octets are.
@@ -154,14 +188,22 @@ fn is_known(found: &Found) -> bool
 
 /// Returns what is said of a file. Errors: `Io` (8) if it can't be read, and that is noted; `TooManyOctets` (32); `NoMemory` (9).
 fn say_of(own: &mut Context<'_>, name: &str) -> Result<Said, ToolFault>
-    ensures known { IfOk result (λ said. IsKnownSo said.is_known) }
+    ensures said { IfOk result (λ said. (octets : List ℕ) × SaysOctets octets said) }
     ensures fault { IfErr result IsUnread }
 {
     let octets = read_coded(own, name, Ways::Tried(None), Watch::Shown)?;
-    let alloc = own.alloc();
-    let found = find_way(alloc, octets.as_slice())?;
-    let unread = unread_of(alloc, octets.as_slice(), &found)?;
-    let text = text_of(alloc, octets.as_slice(), &found, unread)?;
+    let said = say_octets(own.alloc(), octets.as_slice())?;
+    Ok(said)
+}
+
+/// Returns what is said of a file of these octets. Errors: `NoMemory` (9).
+fn say_octets(alloc: Global, octets: &[u8]) -> Result<Said, ToolFault>
+    ensures said { IfOk result (SaysOctets octets.now) }
+    ensures fault { IfErr result IsOutside }
+{
+    let found = find_way(alloc, octets)?;
+    let unread = unread_of(alloc, octets, &found)?;
+    let text = text_of(alloc, octets, &found, unread)?;
     let is_known = is_known(&found);
     Ok(Said {
         text,
@@ -173,6 +215,35 @@ fn say_of(own: &mut Context<'_>, name: &str) -> Result<Said, ToolFault>
     })
 }
 
+/// Writes the line of octets that aren't read. Errors: `NoMemory` (9).
+fn tell_named(said: Unread, text: &mut Vec<u8>) -> Result<(), ToolFault>
+    ensures told { OnOk result (text.new.items ≡ text.old.items ++ unread_line said) }
+    ensures fault { IfErr result IsOutside }
+{
+    match said {
+        Unread::TwoDims(said) => tell_two_dims(said, text),
+        Unread::NoEols(said) => tell_no_eols(said, text),
+    }
+}
+
+/// Writes the lines of octets that are this: of unknown ones those that say what isn't read. Errors: `NoMemory` (9).
+fn tell_lines(
+    alloc: Global,
+    octets: &[u8],
+    found: &Found,
+    text: &mut Vec<u8>,
+) -> Result<(), ToolFault>
+    ensures told { OnOk result ((lines : List ℕ)
+        × AreLines (is_unknown found.now) octets.now found.now lines
+        × (text.new.items ≡ text.old.items ++ lines)) }
+    ensures fault { IfErr result IsOutside }
+{
+    if is_unknown(found) {
+        return tell_unread(alloc, octets, text);
+    }
+    tell_found(octets, found, text)
+}
+
 /// Returns what is said of octets that are this, and perhaps something that isn't read. Errors: `NoMemory` (9).
 fn text_of(
     alloc: Global,
@@ -180,56 +251,53 @@ fn text_of(
     found: &Found,
     unread: Option<Unread>,
 ) -> Result<Vec<u8>, ToolFault>
-    ensures { IfErr result IsOutside }
+    ensures text { IfOk result (λ text. IsTextOf octets.now found.now unread text.items) }
+    ensures fault { IfErr result IsOutside }
 {
     let mut text = Vec::new(alloc);
-    match unread {
-        Some(Unread::TwoDims(said)) => {
-            tell_two_dims(said, &mut text)?;
-            return Ok(text);
-        }
-        Some(Unread::NoEols(said)) => {
-            tell_no_eols(said, &mut text)?;
-            return Ok(text);
-        }
-        None => {}
+    if let Some(said) = unread {
+        tell_named(said, &mut text)?;
+        return Ok(text);
     }
-    match found {
-        Found::Begun(way) if !is_damaged_page(way) => tell_unread(alloc, octets, &mut text)?,
-        Found::Nothing => tell_unread(alloc, octets, &mut text)?,
-        Found::Begun(_) | Found::Format(_) | Found::Page(_) | Found::Several => {
-            tell_found(octets, found, &mut text)?
-        }
-    }
+    tell_lines(alloc, octets, found, &mut text)?;
     if text.is_empty() {
-        writeln!(text, "no page and no known format")?;
+        return line_of(alloc, "no page and no known format");
     }
     Ok(text)
 }
 
-/// Prints the first line of what is said of a file, after its name, and under it the words of its fault; or a record. Errors: `Io` (8) if it
-/// can't be printed, `NoMemory` (9).
-fn tell(context: &mut Context<'_>, name: &str, records: bool, said: &Said) -> Result<(), ToolFault>
-    ensures { IfErr result IsOutside }
+/// Returns the first line of a text, without its end; nothing if the text isn't UTF-8.
+fn first_line(text: &[u8]) -> &str
+    ensures { result.now ≡ first_line text.now }
 {
-    let alloc = context.alloc();
-    let all = str::from_utf8(said.text.as_slice()).unwrap_or("");
-    let what = match all.split_once('\n') {
+    let Ok(all) = str::from_utf8(text) else {
+        return "";
+    };
+    match all.split_once('\n') {
         Some((first, _)) => first,
         None => all,
-    };
+    }
+}
+
+/// Returns what is printed of a file: the first line of what is said of it, after its name, and under it the words of its fault; or a
+/// record. Errors: `NoMemory` (9).
+fn said_lines(alloc: Global, name: &str, records: bool, said: &Said) -> Result<Vec<u8>, ToolFault>
+    ensures told { IfOk result (λ lines. lines.items ≡ said_text records name.now said.now) }
+    ensures fault { IfErr result IsOutside }
+{
     let mut lines = Vec::new(alloc);
+    let what = first_line(said.text.as_slice());
     if records {
         write_said(alloc, name, what, said, &mut lines)?;
-    } else {
-        let shown = shown_name(alloc, name)?;
-        lines.extend_from_slice(shown.as_slice())?;
-        writeln!(lines, ": {what}")?;
-        if let Some(words) = &said.words {
-            writeln!(lines, "    {words}")?;
-        }
+        return Ok(lines);
     }
-    say(context, lines.as_slice())
+    let shown = shown_name(alloc, name)?;
+    lines.extend_from_slice(shown.as_slice())?;
+    writeln!(lines, ": {what}")?;
+    if let Some(words) = &said.words {
+        writeln!(lines, "    {words}")?;
+    }
+    Ok(lines)
 }
 
 /// Writes the record of a file of which this is said, with its fault's number and words if it has one.
@@ -240,7 +308,9 @@ fn write_said(
     said: &Said,
     lines: &mut Vec<u8>,
 ) -> Result<(), ToolFault>
-    ensures { IfErr result IsOutside }
+    ensures told { OnOk result
+        (lines.new.items ≡ lines.old.items ++ record_line (said_data name.now what.now said.now)) }
+    ensures fault { IfErr result IsOutside }
 {
     let file = record_name(alloc, name)?;
     let made = said_record(alloc, file.as_str(), what, said)?;
@@ -250,7 +320,8 @@ fn write_said(
 
 /// Returns the record of a file of this name, with its fault's number and words if it has one. Errors: memory was refused.
 fn said_record(alloc: Global, file: &str, what: &str, said: &Said) -> Result<Value, AllocError>
-    ensures { IfOk result (λ value. has_float (view value) ≡ false) }
+    ensures { IfOk result (λ value. view value ≡ known_record file.now what.now
+        said.now.is_known said.now.fault (option_map string_bytes said.now.words)) }
 {
     let is_known = said.is_known;
     if let (Some(fault), Some(words)) = (said.fault, &said.words) {

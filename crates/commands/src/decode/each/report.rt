@@ -1,7 +1,7 @@
 //! What is reported of a file of which every page is decoded.
 
 ghost use Rattle.commands.specs.Each.{IsSaid, each_record, each_text, file_record, is_silent, left_out, left_out_line, not_read};
-ghost use Rattle.commands.specs.Each.{pages_in, plain_record, said_record, with_pages};
+ghost use Rattle.commands.specs.Each.{pages_in, plain_record, report_text, said_record, with_pages};
 ghost use Rattle.faults.specs.Faults.{IsOutside};
 ghost use Rattle.commands.specs.PageFacts.{has_images};
 ghost use Rattle.serde_json.specs.View.{view};
@@ -13,8 +13,6 @@ use crate::decode::each::pages::{add_lines, is_silent};
 use crate::decode::each::places::{has_left_out, left_out_parts};
 use crate::decode::ends::FileEnd;
 use crate::names::{record_name, shown_name};
-use command_files::context::Context;
-use command_files::files::printed::say;
 use faults::{FAILED, ToolFault, write_record};
 use page_files::PageForm;
 use serde_json::{Value, json, put};
@@ -64,38 +62,27 @@ impl FileReport {
     }
 }
 
-/// Prints what is reported of a file, with the words of its fault if they are shown: a line and those under it, or a record. Errors: `Io` (8)
-/// if it can't be printed, `NoMemory` (9).
-pub(crate) fn tell_report(
-    context: &mut Context<'_>,
-    name: &str,
-    report: &FileReport,
-    words: Option<&str>,
-) -> Result<(), ToolFault>
-    ensures { IfErr result IsOutside }
-{
-    let lines = report_lines(context, name, report, words)?;
-    say(context, lines.as_slice())
-}
-
-/// Returns what is reported of a file, as `tell_report` prints it. Errors: `NoMemory` (9).
+/// Returns what is printed of a file, with the words of its fault if they are shown: a line and those under it, or a record. Errors:
+/// `NoMemory` (9).
 pub(crate) fn report_lines(
-    context: &Context<'_>,
+    alloc: Global,
+    json: bool,
     name: &str,
     report: &FileReport,
     words: Option<&str>,
 ) -> Result<Vec<u8>, ToolFault>
-    ensures { IfErr result IsOutside }
+    ensures told { IfOk result (λ lines. lines.items
+        ≡ report_text json name.now report.now (option_map (λ text. text.now) words.entry)) }
+    ensures fault { IfErr result IsOutside }
 {
-    let alloc = context.alloc();
     let mut lines = Vec::new(alloc);
-    if context.is_json() {
+    if json {
         let file = record_name(alloc, name)?;
         let record = report_record(alloc, file.as_str(), report, words)?;
         write_record(alloc, &record, &mut lines)?;
-    } else {
-        write_report(alloc, name, report, words, &mut lines)?;
+        return Ok(lines);
     }
+    write_report(alloc, name, report, words, &mut lines)?;
     Ok(lines)
 }
 
