@@ -60,6 +60,8 @@ def pair_faults(pairs, folder, once=True):
         text = texts.setdefault(file, (folder / file).read_text())
         if old not in text or once and text.count(old) != 1:
             return [f"stands {text.count(old)} times in {file}: {old}"]
+        if old == new:
+            return [f"its text in {file} stays as it is: {old}"]
         texts[file] = text.replace(old, new)
     return [] if texts else ["it changes nothing"]
 

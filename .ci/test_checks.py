@@ -422,13 +422,15 @@ def words():
 
 
 def plants():
-    """Texts of bench/plant that don't stand in their files any more, a law that is gone, a wrong row of guilty.txt, a test that the page
+    """Texts of bench/plant that don't stand in their files any more or change nothing, a law that is gone, a wrong row of guilty.txt, a test that the page
     doesn't name, and a record that lacks something."""
     crates = checks.TOP / "crates"
     assert not edits.texts_of_plants()[1]
     pairs = wrong_definitions.WRONG["normal end after MPS"]
     gone = [(file, f"{old} gone", new) for file, old, new in pairs]
     yield refuses("a wrong definition of another text", lambda own: edits.pair_faults(own, crates, once=False), pairs, gone, "stands 0 times")
+    same = [(file, old, old) for file, old, _ in pairs]
+    yield refuses("a wrong definition that is the right one", lambda own: edits.pair_faults(own, crates, once=False), pairs, same, "stays as it is")
     row = refuted.all_rows()[0]
     moved = [("specs/Moved.antt", old, new) for _, old, new in row["edits"]]
     yield refuses("a wrong row of no file", lambda own: edits.pair_faults(own, crates / row["crate"]), row["edits"], moved, "no file")
