@@ -422,8 +422,8 @@ def words():
 
 
 def plants():
-    """Texts of bench/plant that don't stand in their files any more or change nothing, a law that is gone, a wrong row of guilty.txt, a test that the page
-    doesn't name, and a record that lacks something."""
+    """Texts of bench/plant that don't stand in their files any more or change nothing, a law that is gone, a wrong row of guilty.txt, a test
+    that the page doesn't name, and a record that lacks something."""
     crates = checks.TOP / "crates"
     assert not edits.texts_of_plants()[1]
     pairs = wrong_definitions.WRONG["normal end after MPS"]
