@@ -103,21 +103,21 @@ try_damaged_first_row() {
 
 # try_turned_bit ORDER WORD BIT: this bit of the page in this order of bits is turned.
 try_turned_bit() {
-    rm -rf "$work/turned" "$work/damaged"
-    mkdir "$work/turned" "$work/damaged"
-    python3 -B - "$data/wide.mh.$1" "$work/turned/page" "$1" "$3" <<'TURNED'
+    rm -rf "$work/turned_bit" "$work/mended_bit"
+    mkdir "$work/turned_bit" "$work/mended_bit"
+    python3 -B - "$data/wide.mh.$1" "$work/turned_bit/page" "$1" "$3" <<'TURNED'
 import sys
 octets, order, bit = bytearray(open(sys.argv[1], "rb").read()), sys.argv[3], int(sys.argv[4])
 octets[bit // 8] ^= 1 << (7 - bit % 8 if order == "msb" else bit % 8)
 open(sys.argv[2], "wb").write(octets)
 TURNED
-    gives 1 decode --code mh --order "$1" --width 1728 "$work/turned/page" "$work/none.pbm"
-    is_none "T.4, $2 significant bit first, width 1728: $(cat "$work/error") after 0 rows\n" "$work/turned/page"
-    (cd "$work/turned" && gives 0 decode --each "$work/damaged" --repair page) || exit 1
+    gives 1 decode --code mh --order "$1" --width 1728 "$work/turned_bit/page" "$work/none.pbm"
+    is_none "T.4, $2 significant bit first, width 1728: $(cat "$work/error") after 0 rows\n" "$work/turned_bit/page"
+    (cd "$work/turned_bit" && gives 0 decode --each "$work/mended_bit" --repair page) || exit 1
     head -n 1 "$work/output" > "$work/said"
     printf 'page: repaired 1 rows of page 1\n' > "$work/wanted"
     is_same "$work/said" "$work/wanted" "decode --each of a damaged first row"
-    cp "$work/damaged/page-0001.pbm" "$work/image"
+    cp "$work/mended_bit/page-0001.pbm" "$work/image"
     tail -c $((27 * 216)) "$work/image" > "$work/rows"
     tail -c $((27 * 216)) "$work/right.pbm" > "$work/wanted"
     is_same "$work/rows" "$work/wanted" "the rows after a damaged first one"
