@@ -16,8 +16,8 @@ use Rattle.commands.specs.declared.damaged.Unread.TheVariants as unread
 abbrev pub chance_rows : ℕ
 chance_rows = 15
 
--- Octets that begin with so many rows in this code are a damaged page. Those of T.4 are known by the width on which lines agree (`IsAgreed`), or
--- by these rows (`HasBegun`); rows of T.6 must be more than come by chance.
+-- Whether octets that begin with this number of rows in a code are a damaged page. Those of T.4 always are: the width on which lines agree tells
+-- them (`IsAgreed`), or their rows do (`HasBegun`). Rows of T.6 must be more than come by chance.
 abbrev pub is_page_in : Coding → ℕ → Bool
 is_page_in OneDim rows = true
 is_page_in T6 rows = nat_lt chance_rows rows

@@ -75,7 +75,7 @@ IsSaid name said = ((octets : List ℕ) × SaysOctets octets said)
 abbrev pub first_line : List ℕ → List ℕ
 first_line text = cond (is_utf8 text) (before_first (λ octet. octet == 10) text) []
 
--- the record of a file of this name, without the way in which it is read; its fault's number and words stand there together
+-- the record of a file of this name, without the way in which it is read; it has both the number and the words of a fault, or neither
 abbrev pub known_record : List ℕ → List ℕ → Bool → Option ToolFault → Option (List ℕ) → Data
 known_record name is known (Some fault) (Some text) = object (member (codes "fault") (count (number_of (kind_of fault)))
     (member (codes "file") (words name) (member (codes "is") (words is) (member (codes "known") (boolean known)

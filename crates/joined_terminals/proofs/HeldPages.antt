@@ -45,7 +45,7 @@ use Rattle.joined_terminals.proofs.DrivenAnswers.{none_given, turns_of}
 use Rattle.joined_terminals.proofs.DrivenCallers.{given_next}
 use Rattle.joined_terminals.proofs.HeldAnswers.{watched}
 use Rattle.joined_terminals.proofs.Hearing.{stopped_pages}
-use Rattle.joined_terminals.proofs.HoldsOne.{HoldersKnown, given_holds, one_at_most, takes_hold}
+use Rattle.joined_terminals.proofs.HoldsOne.{HoldersKnown, either, given_holds, one_at_most, takes_hold}
 use Rattle.joined_terminals.proofs.OnePage.{stays_well}
 
 -- ---- a step of the table
@@ -68,10 +68,6 @@ one_filled s true true answer h = h
 one_filled s true false answer h = h
 one_filled s false false answer h = h
 one_filled s false true answer h = h
-
-either : (P : AnswererAnswer → Type 0) (b : Bool) (x y : AnswererAnswer) → P x → P y → P (cond b x y)
-either P true x y f g = f
-either P false x y f g = g
 
 one_limited : StepsStoreOpen → (limits : Limits) (s : Answerer) (got : AnswererInput) → IsOneMore s (limited_step limits s got)
 one_limited law limits s got = at (is_full limits s.pages)

@@ -85,7 +85,8 @@ loud_filled s false false answer h = h
 loud_filled s false true answer (inl same) = inl same
 loud_filled s false true answer (inr loud) = inr (loud_rnr answer.turn loud)
 
-either : (P : AnswererAnswer → Type 0) (b : Bool) (x y : AnswererAnswer) → P x → P y → P (cond b x y)
+-- what holds of two answers holds of either
+pub either : (P : AnswererAnswer → Type 0) (b : Bool) (x y : AnswererAnswer) → P x → P y → P (cond b x y)
 either P true x y f g = f
 either P false x y f g = g
 

@@ -38,6 +38,7 @@ use Rattle.line_sim.proofs.Lists.{drop_nil}
 use Rattle.joined_terminals.specs.Joining.{AnswererMakes, CallerMakes}
 use Rattle.joined_terminals.specs.Octets.{TakesSo}
 use Rattle.joined_terminals.specs.WholeCall.{AnswererHasNone, CallerHasNone}
+use Rattle.joined_terminals.proofs.HoldsOne.{either}
 use Rattle.joined_terminals.proofs.Silent.{LeavesTurn, same_leaves, silent_leaves}
 
 -- ---- an answerer's step is silent, or its turn has a burst
@@ -79,10 +80,6 @@ ppr_replies map s e = cc
 
 abbrev Answers : AnswererAnswer → Type 0
 Answers answer = IsSilentOrReply answer.turn
-
-either : (P : AnswererAnswer → Type 0) (b : Bool) (x y : AnswererAnswer) → P x → P y → P (cond b x y)
-either P true x y f g = f
-either P false x y f g = g
 
 confirms_so : (busy : Bool) → IsSilentOrReply (cond busy SendRnr SendMcf)
 confirms_so true = inr rnr_replies

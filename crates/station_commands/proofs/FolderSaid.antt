@@ -400,7 +400,8 @@ freed_none : (ending : Option End) (told : Bool) (s : Answerer) → (freed endin
 freed_none None told s = refl
 freed_none (Some why) told s = refl
 
-taken_none : (c : ConversationFields LimitedFields) → pages_of (with_pages_taken c) ≡ []
+-- no page is left in an answerer whose pages were taken
+pub taken_none : (c : ConversationFields LimitedFields) → pages_of (with_pages_taken c) ≡ []
 taken_none c =
     let v : LimitedFields = c.terminal.speaking.station in freed_none v.station.ending v.told v.station
 

@@ -1,27 +1,26 @@
 -- What an answer does to the files of pages that are handed over.
 use Rattle.std.proofs.Common.{◌≡◌, ◌⊎◌, inl, inr, ◌++◌, ◌∷◌, ◌∙◌, [], ℕ, List, Bool, true, false, Option, Some, None, ap, refl, sym, subst}
 use Rattle.std.proofs.Common.{append-nil}
-use Rattle.std.specs.Prelude.{option_map, string_bytes}
+use Rattle.std.specs.Prelude.{string_bytes}
 use Rattle.command_files.specs.Bounds.{image_octets}
 use Rattle.conversations.specs.Answering.{StoreStep, limited_behaviour, pages_of}
-use Rattle.conversations.specs.Conversations.{ConversationFields, with_pages_taken}
+use Rattle.conversations.specs.Conversations.{ConversationFields}
 use Rattle.conversations.specs.Holding.{CountsFirst, HandsNext, HoldsPages, can_come, names_held}
 use Rattle.conversations.specs.declared.line.Fate.TheVariants.{Kept, Lost}
 use Rattle.conversations.specs.declared.line.Said.{Said}
-use Rattle.conversations.specs.declared.line.Said.TheVariants.{Quiet, Busy, Received, NotReady, Ready, Missed, Told, Stop, End as Ended}
+use Rattle.conversations.specs.declared.line.Said.TheVariants.{Quiet, Busy, Received, NotReady, Ready, Missed, Told, Stop, End}
 use Rattle.joined_terminals.proofs.Hearing.{stopped_pages}
 use Rattle.joined_terminals.specs.Answered.{leaves}
 use Rattle.joined_terminals.specs.Steps.{appends}
 use Rattle.raster.specs.Pages.{PagePixels}
+use Rattle.station_commands.proofs.FolderSaid.{taken_none}
 use Rattle.station_commands.specs.Folders.{CountsHeld, FolderCounts, FolderHands, FolderRefuses, HandsPage, IsHeld, held_name}
 use Rattle.station_commands.specs.HeldBooks.{KeptBetween, KeptPage}
 use Rattle.station_commands.specs.declared.station.folder.CallLimits.{CallLimits}
 use Rattle.station_commands.specs.declared.station.folder.Folder.{Folder}
 use Rattle.station_commands.specs.declared.station.folder.HeldPage.{HeldPage}
 use Rattle.station_commands.specs.declared.station.folder.Tally.{Tally}
-use Rattle.stations.specs.AnswererStep.{Answerer}
-use Rattle.stations.specs.Limiting.{LimitedFields, freed}
-use Rattle.stations.specs.declared.turn.End.{End}
+use Rattle.stations.specs.Limiting.{LimitedFields}
 
 -- a page that is held counts, and nothing else of the folder changes
 abbrev pub counts_so : StoreStep Folder
@@ -50,14 +49,6 @@ nothing_moves : (since : Tally) (first last : Folder) (after before stored : Lis
     StandsIn last.held last.limits since last.tally after → Moves since first last after before stored
 nothing_moves since first last after before stored same stands =
     record { pages = []; then = since; kept = refl; added = same ∙ sym (append-nil before); stands = stands }
-
-freed_none : (ending : Option End) (told : Bool) (s : Answerer) → (freed ending told s).pages ≡ []
-freed_none None told s = refl
-freed_none (Some why) told s = refl
-
--- no page is left in an answerer whose pages were taken
-none_left : (c : ConversationFields LimitedFields) → pages_of (with_pages_taken c) ≡ []
-none_left c = freed_none c.terminal.speaking.station.station.ending c.terminal.speaking.station.told c.terminal.speaking.station.station
 
 module _ (since : Tally) (before stored : List PagePixels) where
   -- the folder stays, and the answerer's pages do
@@ -154,7 +145,7 @@ module _ (since : Tally) (before stored : List PagePixels) where
       HoldsPages leaves leaves appends (held_name first.held) said c ready before stored all →
       StandsIn first.held first.limits since first.tally (pages_of c) → Moves since first last (pages_of ready) before stored
   moves (Told Kept file) first last c ready all can one h g stands =
-      subst (λ l. Moves since first last l before stored) (sym (ap pages_of h.1 ∙ none_left c))
+      subst (λ l. Moves since first last l before stored) (sym (ap pages_of h.1 ∙ taken_none c))
       (counts first.held file.items can first last refl (pages_of c) h.0 g.0 stands)
   moves (Told Lost file) first last c ready all can one h g stands =
       stays first last (pages_of c) (pages_of ready) h.0 (ap pages_of h.1 ∙ stopped_pages c.terminal.speaking) g.0 stands
@@ -166,7 +157,7 @@ module _ (since : Tally) (before stored : List PagePixels) where
   moves Ready first last c ready all can one h g stands = next first.held first last refl (pages_of c) c ready all refl one h g stands
   moves Missed first last c ready all can one h g stands = next first.held first last refl (pages_of c) c ready all refl one h g stands
   moves Stop first last c ready all can one h g stands = next first.held first last refl (pages_of c) c ready all refl one h g stands
-  moves Ended first last c ready all can one h g stands = next first.held first last refl (pages_of c) c ready all refl one h g stands
+  moves End first last c ready all can one h g stands = next first.held first last refl (pages_of c) c ready all refl one h g stands
 
 -- ---- pages that were kept, and then more
 
